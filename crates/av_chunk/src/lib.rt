@@ -1,0 +1,2 @@
+//! Chunks: what their tags denote, and how they are written.
+#![tactic(auto)]

@@ -1,0 +1,2 @@
+//! How far it is to a drop.
+#![tactic(auto)]

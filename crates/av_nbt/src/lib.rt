@@ -1,0 +1,2 @@
+//! NBT: tags, their bytes read and written.
+#![tactic(auto)]

@@ -1,0 +1,2 @@
+//! Packed longs and light arrays.
+#![tactic(auto)]

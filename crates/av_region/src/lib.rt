@@ -1,0 +1,2 @@
+//! Region files: chunks' places and payloads.
+#![tactic(auto)]

@@ -1,0 +1,2 @@
+//! Block tables.
+#![tactic(auto)]

@@ -1,0 +1,2 @@
+//! Sections of a chunk.
+#![tactic(auto)]

@@ -1,0 +1,2 @@
+//! Block states and their numbers.
+#![tactic(auto)]

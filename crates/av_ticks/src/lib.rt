@@ -1,0 +1,2 @@
+//! Lists of scheduled ticks.
+#![tactic(auto)]

@@ -1,0 +1,4 @@
+pub mod Division
+pub mod Places
+pub mod Water
+pub mod Faults

@@ -1,0 +1,12 @@
+//! The types that all crates share: places of the world, scheduled ticks, water and faults.
+#![tactic(auto)]
+
+pub mod fault;
+pub mod place;
+pub mod tick;
+pub mod water;
+
+pub use fault::Fault;
+pub use place::{ChunkPos, Height, Place, Pos, RegionPos, SectionPos};
+pub use tick::{Entry, Made};
+pub use water::{Direction, Wet};

@@ -1,0 +1,22 @@
+//! Scheduled ticks (<https://minecraft.wiki/w/Tick#Scheduled_tick>).
+use crate::place::Pos;
+
+/// A scheduled tick of water: a block that is to be turned.
+#[derive(Clone, Copy, Debug, Default, PartialEq, Eq)]
+pub struct Entry {
+    pub pos: Pos,
+    /// The tick in which it is due. One that is already past is overdue.
+    pub due: i64,
+    /// Among entries that are due at the same time, a lower priority goes first.
+    pub priority: i32,
+}
+
+/// An entry that a turn has made.
+#[derive(Clone, Copy, Debug, Default, PartialEq, Eq)]
+pub struct Made {
+    /// The place of the turned entry in the tick.
+    pub maker: u64,
+    /// Which of the entries that this turn made it is, counted from 0.
+    pub number: u8,
+    pub entry: Entry,
+}

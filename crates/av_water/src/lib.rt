@@ -1,0 +1,2 @@
+//! The turn of an entry.
+#![tactic(auto)]
