@@ -10,3 +10,6 @@ pub use fault::Fault;
 pub use place::{ChunkPos, Height, Place, Pos, RegionPos, SectionPos};
 pub use tick::{Entry, Made};
 pub use water::{Direction, Wet};
+
+#[cfg(test)]
+mod tests;

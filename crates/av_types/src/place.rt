@@ -89,10 +89,7 @@ impl Pos {
     pub fn chunk(self) -> ChunkPos
         ensures { result ≡ chunk_of self }
     {
-        ChunkPos {
-            x: self.x.div_euclid(16),
-            z: self.z.div_euclid(16),
-        }
+        self.section().chunk()
     }
 
     /// The section that the block lies in.

@@ -1,0 +1,72 @@
+//! Places, heights and fault lines by hand.
+use crate::{ChunkPos, Fault, Height, Pos, RegionPos, SectionPos, Wet};
+use std::test::Fail;
+
+#[test]
+fn conversions_round_down(rt: HostRuntime) {
+    let pos = Pos {
+        x: -1,
+        y: -64,
+        z: 31,
+    };
+    assert_eq!(rt; pos.chunk(), ChunkPos { x: -1, z: 1 });
+    assert_eq!(rt; pos.section(), SectionPos { x: -1, y: -4, z: 1 });
+    assert_eq!(rt; pos.section().chunk(), ChunkPos { x: -1, z: 1 });
+    // x 15, y 0, z 15 in the section
+    assert_eq!(rt; pos.place().index, 255);
+    let chunk = ChunkPos { x: -1, z: -33 };
+    assert_eq!(rt; chunk.region(), RegionPos { x: -1, z: -2 });
+    assert_eq!(rt; chunk.index(), 31 + 32 * 31);
+}
+
+#[test]
+fn an_index_names_its_chunk(rt: HostRuntime) {
+    let region = RegionPos { x: -1, z: 2 };
+    assert!(rt; region.is_in_limits());
+    assert_eq!(rt; region.chunk_at(0), ChunkPos { x: -32, z: 64 });
+    assert_eq!(rt; region.chunk_at(1023), ChunkPos { x: -1, z: 95 });
+    assert!(rt; !RegionPos { x: 60001, z: 0 }.is_in_limits());
+    assert!(rt; RegionPos { x: 0, z: -60000 }.is_in_limits());
+    assert!(rt; !RegionPos { x: 0, z: -60001 }.is_in_limits());
+}
+
+#[test]
+fn the_game_is_384_blocks_high(rt: HostRuntime) {
+    let game = Height::game();
+    for (y, inside) in [(-65, false), (-64, true), (319, true), (320, false)] {
+        assert_eq!(rt; game.has_block(y), inside, "at {y}");
+    }
+    assert!(rt; game.has_section(19));
+    assert!(rt; !game.has_section(20));
+}
+
+#[test]
+fn places_and_water(rt: HostRuntime) {
+    assert_eq!(rt; crate::Place::new(4095).index, 4095);
+    let cases = [
+        (Wet::Dry, 0, false),
+        (Wet::Source, 8, true),
+        (Wet::Flow(3), 3, true),
+        (Wet::Falling, 8, true),
+    ];
+    for (wet, amount, is_wet) in cases {
+        assert_eq!(rt; wet.amount(), amount);
+        assert_eq!(rt; wet.is_wet(), is_wet);
+    }
+    assert!(rt; Wet::Source.is_source());
+    assert!(rt; !Wet::Falling.is_source());
+}
+
+#[test]
+fn faults_print_their_lines(rt: HostRuntime) -> Result<(), Fail> {
+    let line = Fault::Compression(2).to_string(rt.alloc())?;
+    assert_eq!(rt; line.as_str(), "fault 09: Compression 2");
+    let line = Fault::ChunkTooLarge(ChunkPos { x: -3, z: 40 }).to_string(rt.alloc())?;
+    assert_eq!(rt; line.as_str(), "fault 24: ChunkTooLarge -3 40");
+    let name = String::from_str(rt.alloc(), "r.0.0.mca")?;
+    let line = Fault::Device(name).to_string(rt.alloc())?;
+    assert_eq!(rt; line.as_str(), "fault 25: Device r.0.0.mca");
+    let line = Fault::EditOutside(17).to_string(rt.alloc())?;
+    assert_eq!(rt; line.as_str(), "fault 22: EditOutside 17");
+    Ok(())
+}
