@@ -1,2 +1,7 @@
-//! The rule of water over any cells: definitions, and the trait through which a turn reads and changes cells.
+//! Blocks as the rule of water sees them: its definitions (in `specs/`), and the trait through which a turn
+//! reads and changes a world, or a part of one.
 #![tactic(auto)]
+
+pub mod cells;
+
+pub use cells::Cells;
