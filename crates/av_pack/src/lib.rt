@@ -1,2 +1,8 @@
-//! Packed longs and light arrays.
+//! Block indices packed into longs, and light arrays of half bytes.
 #![tactic(auto)]
+
+pub mod nibbles;
+pub mod packing;
+
+pub use nibbles::{nibble, set_nibble};
+pub use packing::{bits_for, get_at, longs_for, pack, set_at, unpack};

@@ -1,0 +1,142 @@
+//! The 4,096 block indices of a section, packed into longs
+//! (<https://minecraft.wiki/w/Chunk_format#Block_format>): entries stand in each long from the low
+//! bits up, and none spans two longs. An entry has 4 to 16 bits.
+ghost use Rattle.std.specs.Prelude.{◌≡◌, ◌≢◌, ◌<◌, ◌≤◌, ◌+◌, ◌*◌, ◌/◌, ◌%◌, ◌-◌, ◌^◌, ◌↔◌, ◌⊎◌, Err, IfOk, IfErr, length, All};
+ghost use Rattle.av_types.specs.declared.fault.Fault.TheVariants.{OutOfMemory, BadPacked};
+ghost use Rattle.av_pack.specs.Packing.{bits_for, longs_for, packed_at, packed, unpacked, IsPacked, SetsEntry};
+ghost use Rattle.av_pack.specs.Fields.{with_field};
+
+use av_types::{Fault, Place};
+use std::alloc::Global;
+
+/// How many entries a section has.
+const ENTRIES: usize = 4096;
+
+/// The bits of an entry for a palette of `len` entries, at most 65,536: the least that will do,
+/// and at least 4.
+pub fn bits_for(len: usize) -> u32
+    requires { len ≤ 65536 }
+    ensures value { result ≡ bits_for len }
+    ensures low { 4 ≤ result }
+    ensures high { result ≤ 16 }
+    ensures enough { len ≤ 2 ^ result }
+{
+    let mut bits = 4;
+    while len > 1 << bits {
+        bits += 1;
+    }
+    bits
+}
+
+/// How many longs hold the 4,096 entries of a section, of 4 to 16 bits each.
+#[tactic(auto, unfolding(crate::specs::Packing::longs_for))]
+pub fn longs_for(bits: u32) -> usize
+    requires low { 4 ≤ bits }
+    requires high { bits ≤ 16 }
+    ensures { result ≡ longs_for bits }
+{
+    ENTRIES.div_ceil(64 / bits as usize)
+}
+
+/// Where an entry stands: in which long, and from which of its bits on.
+#[derive(Clone, Copy)]
+struct Slot {
+    long: usize,
+    shift: u32,
+}
+
+/// Where the entry of a place stands.
+#[tactic(auto, using(crate::proofs::Slots::slot_in_range))]
+fn slot_of(bits: u32, place: Place) -> Slot
+    requires low { 4 ≤ bits }
+    requires high { bits ≤ 16 }
+    ensures long { result.long ≡ place.index / (64 / bits) }
+    ensures shift { result.shift ≡ bits * (place.index % (64 / bits)) }
+    ensures in_range { result.long < longs_for bits }
+    ensures within { result.shift + bits ≤ 64 }
+{
+    let per_long = 64 / bits;
+    let index = u32::from(place.index);
+    Slot {
+        long: (index / per_long) as usize,
+        shift: bits * (index % per_long),
+    }
+}
+
+/// So many bits of a long, from bit `shift` on.
+#[tactic(auto, using(crate::proofs::Fields::field_is))]
+fn field(long: u64, shift: u32, bits: u32) -> u16
+    requires low { 4 ≤ bits }
+    requires high { bits ≤ 16 }
+    requires within { shift + bits ≤ 64 }
+    ensures value { result ≡ long / 2 ^ shift % 2 ^ bits }
+{
+    (long >> shift & ((1 << bits) - 1)) as u16
+}
+
+/// The long with these bits replaced.
+#[tactic(auto, using(crate::proofs::Fields::with_field_is))]
+fn with_field(long: u64, shift: u32, bits: u32, value: u16) -> u64
+    requires low { 4 ≤ bits }
+    requires high { bits ≤ 16 }
+    requires within { shift + bits ≤ 64 }
+    requires fits { value < 2 ^ bits }
+    ensures { result ≡ with_field long shift bits value }
+{
+    let mask = (1 << bits) - 1;
+    long & !(mask << shift) | u64::from(value) << shift
+}
+
+/// The entry of a place. The longs are as many as `longs_for` says.
+pub fn get_at(longs: &[i64], bits: u32, place: Place) -> u16
+    requires low { 4 ≤ bits }
+    requires high { bits ≤ 16 }
+    requires count { length longs.now ≡ longs_for bits }
+    ensures value { result ≡ packed_at bits longs.now place.index }
+    ensures bound { result < 2 ^ bits }
+{
+    let slot = slot_of(bits, place);
+    field(longs[slot.long].cast_unsigned(), slot.shift, bits)
+}
+
+/// Sets the entry of a place, and leaves every other bit. `value` is below 2^`bits`, and the longs
+/// are as many as `longs_for` says.
+pub fn set_at(longs: &mut [i64], bits: u32, place: Place, value: u16)
+    requires low { 4 ≤ bits }
+    requires high { bits ≤ 16 }
+    requires count { length longs.old ≡ longs_for bits }
+    requires fits { value < 2 ^ bits }
+    ensures { SetsEntry bits longs.old longs.new place.index value }
+{
+    let slot = slot_of(bits, place);
+    let long = longs[slot.long].cast_unsigned();
+    longs[slot.long] = with_field(long, slot.shift, bits, value).cast_signed();
+}
+
+/// The 4,096 entries of the longs, or `BadPacked` where the longs are not as many as `longs_for`
+/// says. The bits that hold no entry are not looked at.
+pub fn unpack(alloc: Global, longs: &[i64], bits: u32) -> Result<Vec<u16>, Fault>
+    requires low { 4 ≤ bits }
+    requires high { bits ≤ 16 }
+    ensures ok { IfOk result (λ values. values.items ≡ unpacked bits longs.now) }
+    ensures bad_packed { (result ≡ Err BadPacked) ↔ (length longs.now ≢ longs_for bits) }
+    ensures others { IfErr result (λ e. (e ≡ BadPacked) ⊎ (e ≡ OutOfMemory)) }
+{
+    if longs.len() != longs_for(bits) {
+        return Err(Fault::BadPacked);
+    }
+    Err(Fault::OutOfMemory)
+}
+
+/// The longs that hold 4,096 values, each below 2^`bits`. The bits that hold no value are 0.
+pub fn pack(alloc: Global, values: &[u16], bits: u32) -> Result<Vec<i64>, Fault>
+    requires low { 4 ≤ bits }
+    requires high { bits ≤ 16 }
+    requires count { length values.now ≡ 4096 }
+    requires fit { All (λ value. value < 2 ^ bits) values.now }
+    ensures layout { IfOk result (λ longs. longs.items ≡ packed bits values.now) }
+    ensures meaning { IfOk result (λ longs. IsPacked bits values.now longs.items) }
+    ensures err { IfErr result (λ e. e ≡ OutOfMemory) }
+{
+    Err(Fault::OutOfMemory)
+}
