@@ -1,0 +1,4 @@
+pub mod EntryOrder
+pub mod Kept
+pub mod Lookup
+pub mod OrderLemmas

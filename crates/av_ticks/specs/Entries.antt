@@ -1,0 +1,32 @@
+-- Entries of scheduled ticks, and the orders in which they are gone through (minecraft.wiki, "Tick", "Scheduled tick").
+use Rattle.std.specs.Prelude.{ℕ, pos, int_le, Bool, true, false, ◌&&◌, if◌then◌else◌, List, [], ◌∷◌}
+use Rattle.std.specs.Ordering.{int_eq, int_cmp, nat_cmp, ordering_then}
+use Rattle.std.specs.declared.cmp.Ordering.{Ordering}
+use Rattle.av_types.specs.declared.place.Pos.{Pos}
+use Rattle.av_types.specs.declared.tick.Entry.{Entry}
+use Rattle.av_types.specs.declared.tick.Made.{Made}
+
+abbrev pub same_pos : Pos → Pos → Bool
+same_pos p q = int_eq p.x q.x && int_eq p.y q.y && int_eq p.z q.z
+
+-- an entry of the position is there
+abbrev pub is_pending : Pos → List Entry → Bool
+is_pending p [] = false
+is_pending p (e ∷ es) = if same_pos p e.pos then true else is_pending p es
+
+-- no position is there twice
+abbrev pub are_apart : List Entry → Bool
+are_apart [] = true
+are_apart (e ∷ es) = if is_pending e.pos es then false else are_apart es
+
+-- due in this tick or in an earlier one
+abbrev pub is_due : ℕ → Entry → Bool
+is_due now e = int_le e.due (pos now)
+
+-- an earlier entry is below a later one, and among those of one tick a lower priority
+abbrev pub due_order : Entry → Entry → Ordering
+due_order a b = ordering_then (int_cmp a.due b.due) (int_cmp a.priority b.priority)
+
+-- entries that turns made, by the place of the turn in the tick and then by their number in that turn
+abbrev pub made_order : Made → Made → Ordering
+made_order a b = ordering_then (nat_cmp a.maker b.maker) (nat_cmp a.number b.number)

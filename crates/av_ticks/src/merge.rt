@@ -1,0 +1,31 @@
+//! The entries that several workers made, brought together.
+ghost use Rattle.std.specs.Prelude.{◌≡◌, IfOk, IfErr, OnOk, ◌++◌, if◌then◌else◌, is_ok};
+ghost use Rattle.std.specs.List.{flat_map};
+ghost use Rattle.av_types.specs.declared.fault.Fault.TheVariants.{OutOfMemory};
+ghost use Rattle.av_ticks.specs.Entries.{made_order};
+ghost use Rattle.av_ticks.specs.Order.{ordered};
+
+use av_types::{Fault, Made};
+use std::alloc::{AllocError, Global};
+
+/// The lists one after the other.
+fn concatenated(alloc: Global, parts: &[Vec<Made>]) -> Result<Vec<Made>, AllocError>
+    ensures { IfOk result (λ all. all.items ≡ flat_map (λ part. part.items) parts.now) }
+{
+    let mut all = Vec::new(alloc);
+    for part in parts {
+        all.extend_from_slice(part)?;
+    }
+    Ok(all)
+}
+
+/// All entries of the lists, each as often as it is there, by the place of their maker and then by their number.
+/// Refuses with OutOfMemory alone.
+pub fn merge_made(alloc: Global, parts: &[Vec<Made>]) -> Result<Vec<Made>, Fault>
+    ensures ok { IfOk result (λ all. all.items ≡ ordered made_order (flat_map (λ part. part.items) parts.now)) }
+    ensures err { IfErr result (λ e. e ≡ OutOfMemory) }
+{
+    let mut all = concatenated(alloc, parts)?;
+    all.sort_by_key(|made| (made.maker, made.number))?;
+    Ok(all)
+}

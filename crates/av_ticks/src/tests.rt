@@ -1,0 +1,59 @@
+use crate::{TickList, merge_made};
+use av_types::{Entry, Made, Pos};
+use std::test::Fail;
+
+/// An entry at (8, 64, z).
+fn entry(z: i32, due: i64, priority: i32) -> Entry {
+    Entry {
+        pos: Pos { x: 8, y: 64, z },
+        due,
+        priority,
+    }
+}
+
+fn made(maker: u64, number: u8) -> Made {
+    Made {
+        maker,
+        number,
+        entry: entry(0, 7, 0),
+    }
+}
+
+/// Entries A to D, of which C, D and B are due in tick 5, in this order.
+#[test]
+fn entries_leave_by_time_priority_and_place(rt: HostRuntime) -> Result<(), Fail> {
+    let a = entry(1, 9, 0);
+    let b = entry(2, 5, 1);
+    let c = entry(3, 5, 0);
+    let d = entry(4, 5, 0);
+    let mut list = TickList::new(rt.alloc());
+    assert!(rt; list.is_empty());
+    list.reserve(4)?;
+    for entry in [a, b, c, d] {
+        assert!(rt; list.add(entry)?);
+    }
+    assert_eq!(rt; list.as_slice(), [a, b, c, d].as_slice());
+    assert_eq!(rt; list.take_due(5)?.as_slice(), [c, d, b].as_slice());
+    assert_eq!(rt; list.len(), 4);
+    assert!(rt; !list.add(entry(1, 5, 0))?);
+    list.drop_due(5);
+    assert_eq!(rt; list.as_slice(), [a].as_slice());
+    assert!(rt; list.has(a.pos));
+    assert!(rt; !list.has(b.pos));
+    assert!(rt; !list.add(entry(1, 9, 0))?);
+    assert!(rt; list.add(b)?);
+    assert_eq!(rt; list.iter().count(), 2);
+    Ok(())
+}
+
+#[test]
+fn made_entries_go_by_maker_and_number(rt: HostRuntime) -> Result<(), Fail> {
+    let first = [made(2, 0), made(2, 1)].to_vec(rt.alloc())?;
+    let second = [made(0, 0), made(5, 0)].to_vec(rt.alloc())?;
+    let all = merge_made(rt.alloc(), [first, second].as_slice())?;
+    assert_eq!(rt;
+        all.as_slice(),
+        [made(0, 0), made(2, 0), made(2, 1), made(5, 0)].as_slice()
+    );
+    Ok(())
+}
