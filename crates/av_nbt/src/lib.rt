@@ -1,2 +1,12 @@
-//! NBT: tags, their bytes read and written.
+//! NBT, the tags of Minecraft's files (<https://minecraft.wiki/w/NBT_format>): a tag tree, its bytes read and written.
 #![tactic(auto)]
+
+pub mod members;
+pub mod reader;
+pub mod tag;
+pub mod writer;
+
+pub use members::{exchange, find, place};
+pub use reader::decode;
+pub use tag::{Kind, Named, Root, Tag};
+pub use writer::encode;

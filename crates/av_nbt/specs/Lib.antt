@@ -1,0 +1,10 @@
+pub mod Kinds
+pub mod Nbt
+pub mod View
+pub mod Spelling
+pub mod Writing
+pub mod Laws
+pub mod Place
+pub mod Shape
+pub mod Outcome
+pub mod Reading

@@ -1,0 +1,16 @@
+-- When a decoder may refuse bytes.
+use Rattle.std.specs.Prelude.{List, ℕ}
+use Rattle.av_types.specs.declared.fault.Fault.{Fault}
+use Rattle.av_types.specs.declared.fault.Fault.TheVariants.{OutOfMemory, BadNbt}
+use Rattle.av_nbt.specs.Nbt.{Document}
+use Rattle.av_nbt.specs.Spelling.{SpellsDocument}
+
+-- no document is spelled by the bytes
+abbrev pub SpellsNone : List ℕ → Type 0
+SpellsNone bytes = (d : Document) → ¬ SpellsDocument d bytes
+
+-- memory, or bytes that spell no document, and no other fault
+abbrev pub IsRefusal : Fault → List ℕ → Type 0
+IsRefusal OutOfMemory bytes = Unit {0}
+IsRefusal BadNbt bytes = SpellsNone bytes
+IsRefusal _ bytes = ⊥

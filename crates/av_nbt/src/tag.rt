@@ -1,0 +1,303 @@
+//! A tag tree in memory.
+
+/// The kinds of tags, by their numbers in a file.
+#[derive(Clone, Copy, Debug, PartialEq, Eq)]
+pub enum Kind {
+    /// No tag: the end of a Compound, or the kind of the tags of an empty List.
+    End = 0,
+    Byte = 1,
+    Short = 2,
+    Int = 3,
+    Long = 4,
+    Float = 5,
+    Double = 6,
+    ByteArray = 7,
+    Text = 8,
+    List = 9,
+    Compound = 10,
+    IntArray = 11,
+    LongArray = 12,
+}
+
+/// A tag's value.
+#[cycle(tags)]
+#[derive(Debug, PartialEq, Eq, Drop)]
+pub enum Tag {
+    Byte(i8),
+    Short(i16),
+    Int(i32),
+    Long(i64),
+    /// The 4 bytes of a float, as a number.
+    Float(u32),
+    /// The 8 bytes of a double, as a number.
+    Double(u64),
+    ByteArray(Vec<u8>),
+    /// The bytes of a text, which need not be UTF-8.
+    Text(Vec<u8>),
+    /// Tags of one kind. An empty one keeps its kind.
+    List(Kind, Vec<Tag>),
+    /// Tags under names, in the order of the file.
+    Compound(Vec<Named>),
+    IntArray(Vec<i32>),
+    LongArray(Vec<i64>),
+}
+
+/// A tag under a name.
+#[cycle(tags)]
+#[derive(Debug, PartialEq, Eq, Drop)]
+pub struct Named {
+    pub name: Vec<u8>,
+    pub tag: Tag,
+}
+
+/// A whole document: a Compound under a name.
+#[derive(Debug, PartialEq, Eq, Drop)]
+pub struct Root {
+    pub name: Vec<u8>,
+    pub tags: Vec<Named>,
+}
+
+impl Kind {
+    ghost use Rattle.std.specs.Prelude.{◌≡◌};
+    ghost use Rattle.av_nbt.specs.Kinds.{kind_number, kind_from};
+
+    /// The kind's number in a file.
+    pub fn number(self) -> u8
+        ensures { result ≡ kind_number self }
+    {
+        self as u8
+    }
+
+    /// The kind of a number, if there is one.
+    pub fn from_number(number: u8) -> Option<Self>
+        ensures { result ≡ kind_from number }
+    {
+        match number {
+            0 => Some(Kind::End),
+            1 => Some(Kind::Byte),
+            2 => Some(Kind::Short),
+            3 => Some(Kind::Int),
+            4 => Some(Kind::Long),
+            5 => Some(Kind::Float),
+            6 => Some(Kind::Double),
+            7 => Some(Kind::ByteArray),
+            8 => Some(Kind::Text),
+            9 => Some(Kind::List),
+            10 => Some(Kind::Compound),
+            11 => Some(Kind::IntArray),
+            12 => Some(Kind::LongArray),
+            _ => None,
+        }
+    }
+}
+
+impl Tag {
+    ghost use Rattle.std.specs.Prelude.{◌≡◌, option_map};
+    ghost use Rattle.std.specs.Option.{option_copied};
+    ghost use Rattle.av_nbt.specs.Nbt.{byte, int, text, list, compound, byte_array, long_array, items_of, members_of, kind_of};
+    ghost use Rattle.av_nbt.specs.View.{view, views, named_views};
+    ghost use Rattle.av_nbt.specs.Shape.{byte_of, int_of, text_of, longs_of, compound_of, items_of_list};
+
+    /// A Byte.
+    pub fn byte(value: i8) -> Self
+        ensures { view result ≡ byte value }
+    {
+        Tag::Byte(value)
+    }
+
+    /// An Int.
+    pub fn int(value: i32) -> Self
+        ensures { view result ≡ int value }
+    {
+        Tag::Int(value)
+    }
+
+    /// A Text of these bytes.
+    pub fn text(bytes: Vec<u8>) -> Self
+        ensures { view result ≡ text bytes.items }
+    {
+        Tag::Text(bytes)
+    }
+
+    /// A List of tags of that kind.
+    pub fn list(kind: Kind, items: Vec<Tag>) -> Self
+        ensures { view result ≡ list kind (items_of (views items.items)) }
+    {
+        Tag::List(kind, items)
+    }
+
+    /// A Compound.
+    pub fn compound(members: Vec<Named>) -> Self
+        ensures { view result ≡ compound (members_of (named_views members.items)) }
+    {
+        Tag::Compound(members)
+    }
+
+    /// A Byte Array.
+    pub fn byte_array(bytes: Vec<u8>) -> Self
+        ensures { view result ≡ byte_array bytes.items }
+    {
+        Tag::ByteArray(bytes)
+    }
+
+    /// A Long Array.
+    pub fn long_array(longs: Vec<i64>) -> Self
+        ensures { view result ≡ long_array longs.items }
+    {
+        Tag::LongArray(longs)
+    }
+
+    /// The tag's kind, which is never `End`.
+    pub fn kind(&self) -> Kind
+        ensures { result ≡ kind_of (view self.now) }
+    {
+        match self {
+            Tag::Byte(_) => Kind::Byte,
+            Tag::Short(_) => Kind::Short,
+            Tag::Int(_) => Kind::Int,
+            Tag::Long(_) => Kind::Long,
+            Tag::Float(_) => Kind::Float,
+            Tag::Double(_) => Kind::Double,
+            Tag::ByteArray(_) => Kind::ByteArray,
+            Tag::Text(_) => Kind::Text,
+            Tag::List(_, _) => Kind::List,
+            Tag::Compound(_) => Kind::Compound,
+            Tag::IntArray(_) => Kind::IntArray,
+            Tag::LongArray(_) => Kind::LongArray,
+        }
+    }
+
+    /// The number of a Byte.
+    pub fn as_byte(&self) -> Option<i8>
+        ensures { result ≡ byte_of (view self.now) }
+    {
+        match self {
+            Tag::Byte(value) => Some(*value),
+            _ => None,
+        }
+    }
+
+    /// The number of an Int.
+    pub fn as_int(&self) -> Option<i32>
+        ensures { result ≡ int_of (view self.now) }
+    {
+        match self {
+            Tag::Int(value) => Some(*value),
+            _ => None,
+        }
+    }
+
+    /// The bytes of a Text.
+    pub fn as_text(&self) -> Option<&[u8]>
+        ensures { option_copied result ≡ text_of (view self.now) }
+    {
+        match self {
+            Tag::Text(bytes) => Some(bytes.as_slice()),
+            _ => None,
+        }
+    }
+
+    /// The longs of a Long Array.
+    pub fn as_longs(&self) -> Option<&[i64]>
+        ensures { option_copied result ≡ longs_of (view self.now) }
+    {
+        match self {
+            Tag::LongArray(longs) => Some(longs.as_slice()),
+            _ => None,
+        }
+    }
+
+    /// The tags of a Compound.
+    pub fn as_members(&self) -> Option<&[Named]>
+        ensures { option_map named_views (option_copied result) ≡ compound_of (view self.now) }
+    {
+        match self {
+            Tag::Compound(members) => Some(members.as_slice()),
+            _ => None,
+        }
+    }
+
+    /// The tags of a List.
+    pub fn as_items(&self) -> Option<&[Tag]>
+        ensures { option_map views (option_copied result) ≡ items_of_list (view self.now) }
+    {
+        match self {
+            Tag::List(_, items) => Some(items.as_slice()),
+            _ => None,
+        }
+    }
+
+    /// The bytes of a Text, taken out of it.
+    pub fn into_text(self) -> Option<Vec<u8>>
+        ensures { option_map (λ s. s.items) result ≡ text_of (view self) }
+    {
+        match self {
+            Tag::Text(bytes) => Some(bytes),
+            _ => None,
+        }
+    }
+
+    /// The longs of a Long Array, taken out of it.
+    pub fn into_longs(self) -> Option<Vec<i64>>
+        ensures { option_map (λ zs. zs.items) result ≡ longs_of (view self) }
+    {
+        match self {
+            Tag::LongArray(longs) => Some(longs),
+            _ => None,
+        }
+    }
+
+    /// The tags of a Compound, taken out of it.
+    pub fn into_members(self) -> Option<Vec<Named>>
+        ensures { option_map (λ ms. named_views ms.items) result ≡ compound_of (view self) }
+    {
+        match self {
+            Tag::Compound(members) => Some(members),
+            _ => None,
+        }
+    }
+
+    /// The tags of a List, taken out of it.
+    pub fn into_items(self) -> Option<Vec<Tag>>
+        ensures { option_map (λ ts. views ts.items) result ≡ items_of_list (view self) }
+    {
+        match self {
+            Tag::List(_, items) => Some(items),
+            _ => None,
+        }
+    }
+}
+
+impl Named {
+    ghost use Rattle.std.specs.Prelude.{◌≡◌};
+    ghost use Rattle.av_nbt.specs.View.{view, named_view};
+
+    /// A tag under a name.
+    pub fn new(name: Vec<u8>, tag: Tag) -> Self
+        ensures { named_view result ≡ record { name = name.items; tag = view tag } }
+    {
+        Named { name, tag }
+    }
+
+    /// The bytes of the name.
+    pub fn name(&self) -> &[u8]
+        ensures { result.now ≡ (named_view self.now).name }
+    {
+        self.name.as_slice()
+    }
+
+    /// The tag.
+    pub fn tag(&self) -> &Tag
+        ensures { view result.now ≡ (named_view self.now).tag }
+    {
+        &self.tag
+    }
+
+    /// The tag, taken from its name.
+    pub fn into_tag(self) -> Tag
+        ensures { view result ≡ (named_view self).tag }
+    {
+        let Named { name: _, tag } = self;
+        tag
+    }
+}
