@@ -1,11 +1,12 @@
 -- A vector's named tags, changed where a name stands.
-use Rattle.std.proofs.Common.{◌≡◌, ℕ, List, [], ◌∷◌, ◌++◌, Some, None, ap, sym, ◌∙◌, get_or, set}
+use Rattle.std.proofs.Common.{◌≡◌, ℕ, List, [], ◌∷◌, ◌++◌, Some, None, ap, sym, refl, ◌∙◌, get_or, set, take, drop, suc}
+use Rattle.std.specs.Prelude.{remove}
 use Rattle.std.proofs.Math.ListN.{get_or-map}
-use Rattle.std.proofs.lemmas.List.{map-set, map-append}
-use Rattle.av_nbt.specs.Place.{tag_of, IsPlaced, index_of_name}
+use Rattle.std.proofs.lemmas.List.{map-set, map-append, take-map, drop-map}
+use Rattle.av_nbt.specs.Place.{tag_of, IsPlaced, without, index_of_name}
 use Rattle.av_nbt.specs.View.{named_view, named_views}
 use Rattle.av_nbt.specs.declared.tag.Named.{Named}
-use Rattle.av_nbt.proofs.Names.{set_is_placed, tag_is_found, placed_last}
+use Rattle.av_nbt.proofs.Names.{set_is_placed, tag_is_found, placed_last, without_found}
 
 pub placed_at : (old : List Named) (i : ℕ) (new : Named) → Some i ≡ index_of_name (named_view new).name (named_views old) → IsPlaced (named_view new) (named_views old) (named_views (set old i new))
 placed_at old i new e = map-set named_view old i new ∙ set_is_placed (named_view new).name (named_view new).tag (named_views old) i (sym e)
@@ -15,3 +16,7 @@ placed_after old new e = map-append named_view old (new ∷ []) ∙ placed_last 
 
 pub taken_at : (old : List Named) (i : ℕ) (x : Named) (n : List ℕ) → Some i ≡ index_of_name n (named_views old) → x ≡ get_or old i x → tag_of n (named_views old) ≡ Some (named_view x).tag
 taken_at old i x n e h = tag_is_found n (named_views old) i (sym e) (named_view x) ∙ ap (λ m. Some m.tag) (get_or-map named_view old i x ∙ ap named_view (sym h))
+
+-- a tag of the name taken out changes nothing of the tags without the name
+pub removed_at : (old : List Named) (i : ℕ) (n : List ℕ) → Some i ≡ index_of_name n (named_views old) → without n (named_views (remove old i)) ≡ without n (named_views old)
+removed_at old i n e = ap (λ ms. without n ms) (map-append named_view (take i old) (drop (suc i) old) ∙ rw (take-map, drop-map) refl) ∙ sym (without_found n (named_views old) i (sym e))

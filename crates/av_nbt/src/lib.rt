@@ -6,7 +6,7 @@ pub mod reader;
 pub mod tag;
 pub mod writer;
 
-pub use members::{exchange, find, place};
+pub use members::{exchange, find, place, remove};
 pub use reader::decode;
 pub use tag::{Kind, Named, Root, Tag};
 pub use writer::encode;

@@ -1,10 +1,10 @@
 //! Tags by their names, as they stand in a Compound.
-ghost use Rattle.std.specs.Prelude.{◌≡◌, ◌<◌, ◌≤◌, None, length, option_map, OnErr, OnOk, IfErr, IfOk, IfSome, vec_len};
+ghost use Rattle.std.specs.Prelude.{◌≡◌, ◌<◌, ◌≤◌, None, length, option_map, remove, OnErr, OnOk, IfErr, IfOk, IfSome, vec_len};
 ghost use Rattle.std.specs.Option.{option_copied};
 ghost use Rattle.std.specs.Vec.{vec_capacity};
 ghost use Rattle.av_types.specs.declared.fault.Fault.TheVariants.{OutOfMemory};
 ghost use Rattle.av_nbt.specs.View.{view, named_view, named_views};
-ghost use Rattle.av_nbt.specs.Place.{tag_of, IsPlaced, index_of_name};
+ghost use Rattle.av_nbt.specs.Place.{tag_of, IsPlaced, without, index_of_name};
 
 use crate::tag::{Named, Tag};
 use av_types::Fault;
@@ -68,4 +68,25 @@ pub fn place(tags: &mut Vec<Named>, named: Named) -> Result<(), Fault>
 {
     exchange(tags, named)?;
     Ok(())
+}
+
+/// Takes the tag at an index out and drops it.
+fn drop_at(tags: &mut Vec<Named>, index: usize)
+    requires { index < vec_len tags.old }
+    ensures { tags.new.items ≡ remove tags.old.items index }
+{
+    tags.remove(index);
+}
+
+/// Takes out all tags of a name, and hands out the first of them. The others keep their order.
+pub fn remove(tags: &mut Vec<Named>, name: &[u8]) -> Option<Tag>
+    ensures first { option_map view result ≡ tag_of name.now (named_views tags.old.items) }
+    ensures others { named_views tags.new.items ≡ without name.now (named_views tags.old.items) }
+{
+    let index = index_of(tags, name)?;
+    let named = tags.remove(index);
+    while let Some(other) = index_of(tags, name) {
+        drop_at(tags, other);
+    }
+    Some(named.into_tag())
 }
