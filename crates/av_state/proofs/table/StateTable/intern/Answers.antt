@@ -1,0 +1,11 @@
+use Rattle.std.proofs.Common.{sym}
+use Rattle.av_state.specs.Table.{states}
+use Rattle.av_state.specs.States.{state_of}
+use Rattle.av_state.proofs.Numbering.{Numbers-first, Numbers-old}
+use Rattle.av_state.proofs.table.StateTable.intern.Goals as goal
+
+pub returns-in-Fixed-clause-ok : goal.returns-in-Fixed-clause-ok
+returns-in-Fixed-clause-ok c = Numbers-first (states c.args.self.now) (state_of c.args.state.now) c.in-Fixed.number c.args.self.now.numbered c.in-Fixed.ensures.0 c.in-Fixed.ensures.1
+
+pub returns-in-Some-clause-ok : goal.returns-in-Some-clause-ok
+returns-in-Some-clause-ok c = Numbers-old (states c.args.self.now) (state_of c.args.state.now) (state_of c.args.state.now) c.in-Some.number c.in-Same.ensures (sym c.in-Some.ensures)

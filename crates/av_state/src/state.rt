@@ -1,0 +1,230 @@
+//! Block states: a name and properties (<https://minecraft.wiki/w/Block_states>).
+//!
+//! Texts are kept as bytes, since those of a file need not be UTF-8.
+ghost use Rattle.std.specs.Prelude.{◌≡◌, ◌≢◌, ◌↔◌, ◌<◌, ◌≤◌, IsTrue, IfOk, IfErr, IfSome, option_map, map, Some, None};
+ghost use Rattle.av_types.specs.declared.fault.Fault.TheVariants.{OutOfMemory, BadWaterLevel};
+ghost use Rattle.av_state.specs.BlockState.{is_in_order, in_order, value_of, air_name, water_name, index_in, capped_level, air, water};
+ghost use Rattle.av_state.specs.Views.{property_of, properties_of};
+
+use av_types::{Fault, Wet};
+use std::alloc::{AllocError, Global};
+
+/// One property of a state, as `lit` = `true`.
+#[derive(Debug, Drop, PartialEq, Eq, Hash)]
+pub struct Property {
+    pub key: Vec<u8>,
+    pub value: Vec<u8>,
+}
+
+impl Clone for Property {
+    ghost is_clone = { λ p q. property_of q ≡ property_of p };
+
+    fn clone(&self) -> Result<Self, AllocError> {
+        Ok(Property {
+            key: self.key.clone()?,
+            value: self.value.clone()?,
+        })
+    }
+}
+
+/// A block state: a name, and properties in the byte order of their keys.
+#[derive(Debug, Drop, PartialEq, Eq, Hash)]
+pub struct State {
+    pub name: Vec<u8>,
+    pub properties: Vec<Property>,
+    pub ghost ordered: { IsTrue (is_in_order (properties_of properties.items)) },
+}
+
+const AIR: &[u8] = b"minecraft:air";
+
+const WATER: &[u8] = b"minecraft:water";
+
+const LEVEL: &[u8] = b"level";
+
+/// The texts of water's levels.
+const LEVEL_TEXTS: [&[u8]; 16] = [
+    b"0", b"1", b"2", b"3", b"4", b"5", b"6", b"7", b"8", b"9", b"10", b"11", b"12", b"13", b"14",
+    b"15",
+];
+
+/// What the form that a state takes when it is read is.
+#[derive(Clone, Copy)]
+pub(crate) enum Form {
+    /// Air, or water of a level: one of the first ten states, with its number.
+    Fixed(u16),
+    /// Water with a level that is not 0 to 15.
+    NoLevel,
+    /// The state as it is.
+    Same,
+}
+
+impl State {
+    ghost use Rattle.av_state.specs.States.{state_of};
+    ghost use Rattle.av_state.specs.BlockState.{level_of, meant, wet_of};
+    ghost use Rattle.av_state.specs.Words.{state_text};
+    ghost use Rattle.av_state.specs.Form.{IsForm};
+    ghost use Rattle.std.specs.Str.{bytes_eq};
+
+    /// The state of a name and properties in any order, no key twice.
+    pub fn new(name: Vec<u8>, properties: Vec<Property>) -> Result<State, Fault>
+        ensures ok { IfOk result (λ s. state_of s ≡ record {
+          name = name.items;
+          properties = in_order (properties_of properties.items);
+        }) }
+        ensures memory { IfErr result (λ e. e ≡ OutOfMemory) }
+    {
+        Err(Fault::OutOfMemory)
+    }
+
+    /// The value of a property.
+    pub fn value(&self, key: &[u8]) -> Option<&[u8]>
+        ensures { option_map (λ v. v.now) result ≡ value_of key.now (state_of self.now).properties }
+    {
+        for property in &self.properties {
+            if key == property.key.as_slice() {
+                return Some(property.value.as_slice());
+            }
+        }
+        None
+    }
+
+    /// Whether it is air by its name.
+    pub fn is_air(&self) -> bool
+        ensures { result ≡ bytes_eq (state_of self.now).name air_name }
+    {
+        self.name.as_slice() == AIR
+    }
+
+    /// Whether it is water by its name.
+    pub fn is_water(&self) -> bool
+        ensures { result ≡ bytes_eq (state_of self.now).name water_name }
+    {
+        self.name.as_slice() == WATER
+    }
+
+    /// The form that the state takes when it is read: air has no properties, and water the one property `level` with 0 to 8,
+    /// where a missing one is 0 and 9 to 15 are 8. Any other level is refused with `BadWaterLevel`.
+    pub fn meant(&self, alloc: Global) -> Result<State, Fault>
+        ensures ok { IfOk result (λ s. meant (state_of self.now) ≡ Some (state_of s)) }
+        ensures no_level { (result ≡ Err BadWaterLevel) ↔ (meant (state_of self.now) ≡ None) }
+        ensures memory { IfErr result (λ e. e ≢ BadWaterLevel → e ≡ OutOfMemory) }
+    {
+        match self.form() {
+            Form::Fixed(0) => State::air(alloc),
+            Form::Fixed(number) => State::water(alloc, number as usize - 1),
+            Form::NoLevel => Err(Fault::BadWaterLevel),
+            Form::Same => Ok(self.clone()?),
+        }
+    }
+
+    /// Which of the three forms the state takes.
+    pub(crate) fn form(&self) -> Form
+        ensures { IsForm (state_of self.now) result }
+    {
+        if self.is_air() {
+            return Form::Fixed(0);
+        }
+        if !self.is_water() {
+            return Form::Same;
+        }
+        match self.level() {
+            Some(level) => Form::Fixed(level + 1),
+            None => Form::NoLevel,
+        }
+    }
+
+    /// The level of water, from 0 to 8.
+    fn level(&self) -> Option<u16>
+        ensures value { result ≡ level_of (state_of self.now) }
+        ensures bound { IfSome result (λ n. n ≤ 8) }
+    {
+        match self.value(LEVEL) {
+            None => Some(0),
+            Some(text) => capped_level(index_in(text, LEVEL_TEXTS.as_slice())),
+        }
+    }
+
+    /// How wet the state is by its name: water by its level, and all else is dry.
+    pub fn wet(&self) -> Wet
+        ensures { result ≡ wet_of (state_of self.now) }
+    {
+        if !self.is_water() {
+            return Wet::Dry;
+        }
+        match self.level() {
+            None => Wet::Dry,
+            Some(0) => Wet::Source,
+            Some(level) if level < 8 => Wet::Flow(8 - level as u8),
+            Some(_) => Wet::Falling,
+        }
+    }
+
+    /// Air.
+    pub(crate) fn air(alloc: Global) -> Result<State, Fault>
+        ensures ok { IfOk result (λ s. state_of s ≡ air) }
+        ensures memory { IfErr result (λ e. e ≡ OutOfMemory) }
+    {
+        Ok(State {
+            name: Vec::from_slice(alloc, AIR)?,
+            properties: Vec::new(alloc),
+        })
+    }
+
+    /// Water of a level from 0 to 8.
+    pub(crate) fn water(alloc: Global, level: usize) -> Result<State, Fault>
+        requires { level < 9 }
+        ensures ok { IfOk result (λ s. state_of s ≡ water level) }
+        ensures memory { IfErr result (λ e. e ≡ OutOfMemory) }
+    {
+        let property = Property {
+            key: Vec::from_slice(alloc, LEVEL)?,
+            value: Vec::from_slice(alloc, LEVEL_TEXTS[level])?,
+        };
+        let mut properties = Vec::new(alloc);
+        properties.push(property)?;
+        Ok(State {
+            name: Vec::from_slice(alloc, WATER)?,
+            properties,
+        })
+    }
+
+    /// The state as text, as `minecraft:furnace[facing=north,lit=true]`, its bytes as they are.
+    pub fn text(&self, alloc: Global) -> Result<Vec<u8>, Fault>
+        ensures ok { IfOk result (λ v. v.items ≡ state_text (state_of self.now)) }
+        ensures memory { IfErr result (λ e. e ≡ OutOfMemory) }
+    {
+        Err(Fault::OutOfMemory)
+    }
+}
+
+impl Clone for State {
+    ghost use Rattle.av_state.specs.States.{state_of};
+
+    ghost is_clone = { λ s t. state_of t ≡ state_of s };
+
+    fn clone(&self) -> Result<Self, AllocError> {
+        Ok(State {
+            name: self.name.clone()?,
+            properties: self.properties.clone()?,
+        })
+    }
+}
+
+/// The place of a text among texts.
+fn index_in(text: &[u8], texts: &[&[u8]]) -> Option<usize>
+    ensures { result ≡ index_in text.now (map (λ t. t.now) texts.now) }
+{
+    texts.iter().position(|known| text == *known)
+}
+
+/// The level of an index of `LEVEL_TEXTS`: 8 and above is falling water.
+fn capped_level(index: Option<usize>) -> Option<u16>
+    ensures value { result ≡ option_map capped_level index }
+    ensures bound { IfSome result (λ n. n ≤ 8) }
+{
+    match index {
+        None => None,
+        Some(i) if i < 8 => Some(i as u16),
+        Some(_) => Some(8),
+    }
+}

@@ -1,0 +1,128 @@
+//! Numbers for block states.
+ghost use Rattle.std.specs.Prelude.{◌≡◌, map};
+ghost use Rattle.av_state.specs.StateList.{IsStateList};
+ghost use Rattle.av_state.specs.States.{state_of};
+ghost use Rattle.std.proofs.Props.{props};
+
+use crate::state::{Form, State};
+use av_types::{Fault, Wet};
+use indexmap::IndexSet;
+use std::alloc::{AllocError, Global};
+
+/// The most states that a table has.
+const MOST_STATES: usize = 65535;
+
+/// Block states with their numbers, in the order in which they were first seen.
+///
+/// Number 0 is air and 1 to 9 are the water levels 0 to 8. A table has no state twice, at most 65,535 states, and
+/// water and air in the form that they take when they are read.
+#[derive(Drop)]
+pub struct StateTable {
+    numbers: IndexSet<State>,
+    pub ghost numbered: { IsStateList (map state_of numbers.keys) } by { Prim.hlevel props },
+}
+
+impl StateTable {
+    ghost use Rattle.std.specs.Prelude.{◌<◌, ◌≤◌, ◌↔◌, ◌≢◌, ◌⊎◌, ◌+◌, length, IfOk, IfErr, IfSome, OnErr, slice_get, option_and_then, Some, None, false};
+    ghost use Rattle.av_types.specs.declared.fault.Fault.TheVariants.{OutOfMemory, BadWaterLevel, TooManyStates};
+    ghost use Rattle.av_state.specs.BlockState.{meant, wet_of};
+    ghost use Rattle.av_state.specs.StateList.{first_states, most_states, number_in, with_state, Numbers, IsOneTooMany};
+    ghost use Rattle.av_state.specs.Table.{states};
+
+    /// The table of the ten first states.
+    pub fn new(alloc: Global) -> Result<Self, Fault>
+        ensures ok { IfOk result (λ t. states t ≡ first_states) }
+        ensures memory { IfErr result (λ e. e ≡ OutOfMemory) }
+    {
+        Err(Fault::OutOfMemory)
+    }
+
+    /// How many states there are, from 10 to 65,535.
+    pub fn len(&self) -> usize
+        ensures { result ≡ length (states self.now) }
+    {
+        self.numbers.len()
+    }
+
+    /// Whether there is no state, which is never so.
+    pub fn is_empty(&self) -> bool
+        ensures { result ≡ false }
+    {
+        false
+    }
+
+    /// The state of a number.
+    pub fn state(&self, number: u16) -> &State
+        requires { number < length (states self.now) }
+        ensures { slice_get (states self.now) number ≡ Some (state_of result.now) }
+    {
+        &self.numbers[number as usize]
+    }
+
+    /// The number of a state in the form that it takes when it is read, where it has such a form and that is there.
+    pub fn number_of(&self, state: &State) -> Option<u16>
+        ensures { result ≡ option_and_then (number_in (states self.now)) (meant (state_of state.now)) }
+    {
+        match state.form() {
+            Form::Fixed(number) => Some(number),
+            Form::NoLevel => None,
+            Form::Same => self.place(state),
+        }
+    }
+
+    /// The number of a state as it is.
+    fn place(&self, state: &State) -> Option<u16>
+        ensures { result ≡ number_in (states self.now) (state_of state.now) }
+    {
+        match self.numbers.get_index_of(state) {
+            Some(index) => Some(index as u16),
+            None => None,
+        }
+    }
+
+    /// How wet the state of a number is by its name: water by its level, and all else is dry.
+    pub fn wet(&self, number: u16) -> Wet
+        requires { number < length (states self.now) }
+        ensures { slice_get (map wet_of (states self.now)) number ≡ Some result }
+    {
+        self.state(number).wet()
+    }
+
+    /// Gives a state its number: that of the form that it takes when it is read. A new one comes last.
+    ///
+    /// Refuses water whose level is not 0 to 15 with `BadWaterLevel`, and a new state beside 65,535 others with
+    /// `TooManyStates`. After a refusal the table is as it was.
+    pub fn intern(&mut self, state: &State) -> Result<u16, Fault>
+        ensures ok { IfOk result (Numbers (states self.old) (state_of state.now) (states self.new)) }
+        ensures no_level { (result ≡ Err BadWaterLevel) ↔ (meant (state_of state.now) ≡ None) }
+        ensures too_many { (result ≡ Err TooManyStates) ↔ IsOneTooMany (states self.old) (state_of state.now) }
+        ensures memory { IfErr result (λ e. e ≢ BadWaterLevel → e ≢ TooManyStates → e ≡ OutOfMemory) }
+        ensures unchanged { OnErr result (states self.new ≡ states self.old) }
+    {
+        match state.form() {
+            Form::Fixed(number) => Ok(number),
+            Form::NoLevel => Err(Fault::BadWaterLevel),
+            Form::Same => match self.place(state) {
+                Some(number) => Ok(number),
+                None => self.add(state),
+            },
+        }
+    }
+
+    /// Gives a new state the next number.
+    fn add(&mut self, state: &State) -> Result<u16, Fault>
+        requires same { meant (state_of state.now) ≡ Some (state_of state.now) }
+        requires new { number_in (states self.old) (state_of state.now) ≡ None }
+        ensures ok { IfOk result (Numbers (states self.old) (state_of state.now) (states self.new)) }
+        ensures too_many { (result ≡ Err TooManyStates) ↔ (length (states self.old) ≡ most_states) }
+        ensures memory { IfErr result (λ e. e ≢ TooManyStates → e ≡ OutOfMemory) }
+        ensures unchanged { OnErr result (states self.new ≡ states self.old) }
+    {
+        let number = self.numbers.len();
+        if number >= MOST_STATES {
+            return Err(Fault::TooManyStates);
+        }
+        self.numbers.insert(state.clone()?)?;
+        Ok(number as u16)
+    }
+}
