@@ -1,2 +1,7 @@
-//! Region files: chunks' places and payloads.
+//! Region files (<https://minecraft.wiki/w/Region_file_format>): where chunks stand, their payloads
+//! and timestamps, read and written.
 #![tactic(auto)]
+
+pub mod read;
+
+pub use read::Region;
