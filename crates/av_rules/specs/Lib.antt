@@ -1,0 +1,6 @@
+pub mod Rows
+pub mod Document
+pub mod Views
+pub mod Tables
+pub mod KindLists
+pub mod Kinds

@@ -1,0 +1,62 @@
+//! The row and the wetness of each number of a table of states.
+ghost use Rattle.std.specs.Prelude.{◌≡◌, length, map};
+ghost use Rattle.av_state.specs.States.{state_of};
+ghost use Rattle.av_state.specs.Table.{states};
+ghost use Rattle.av_rules.specs.KindLists.{IsKindList};
+ghost use Rattle.std.proofs.Props.{props};
+
+use crate::row::Row;
+use crate::rules::Rules;
+use av_state::StateTable;
+use av_types::{Fault, Wet};
+use std::alloc::Global;
+
+/// A table of states with the row and the wetness of each number, looked up by index.
+#[derive(Drop)]
+pub struct Kinds {
+    table: StateTable,
+    rows: Vec<Row>,
+    wets: Vec<Wet>,
+    pub ghost listed: { IsKindList (length (states table)) rows.items wets.items } by { Prim.hlevel props },
+}
+
+impl Kinds {
+    ghost use Rattle.std.specs.Prelude.{◌<◌, IfOk, IfErr, slice_get, Some};
+    ghost use Rattle.av_types.specs.declared.fault.Fault.TheVariants.{OutOfMemory};
+    ghost use Rattle.av_rules.specs.Rows.{row_of, wet_in};
+    ghost use Rattle.av_rules.specs.Tables.{table_of};
+    ghost use Rattle.av_rules.specs.Kinds.{kind_count, row_at, wet_at, table_in, rows_in, wets_in};
+
+    /// Fixes a row and a wetness for each state of a table.
+    pub fn new(alloc: Global, table: StateTable, rules: &Rules) -> Result<Kinds, Fault>
+        ensures table { IfOk result (λ k. states (table_in k) ≡ states table) }
+        ensures rows { IfOk result (λ k. rows_in k ≡ map (row_of (table_of rules.now)) (states table)) }
+        ensures wets { IfOk result (λ k. wets_in k ≡ map (wet_in (table_of rules.now)) (states table)) }
+        ensures memory { IfErr result (λ e. e ≡ OutOfMemory) }
+    {
+        Err(Fault::OutOfMemory)
+    }
+
+    /// The row of a number.
+    pub fn row(&self, number: u16) -> Row
+        requires { number < kind_count self.now }
+        ensures { result ≡ row_at self.now number }
+    {
+        self.rows[number as usize]
+    }
+
+    /// How wet the state of a number is: a soaked one is a source, water is so by its level, and all else is dry.
+    pub fn wet(&self, number: u16) -> Wet
+        requires { number < kind_count self.now }
+        ensures { result ≡ wet_at self.now number }
+    {
+        self.wets[number as usize]
+    }
+
+    /// The table of states.
+    pub fn table(&self) -> &StateTable
+        ensures { result.now ≡ table_in self.now }
+    {
+        &self.table
+    }
+}
