@@ -1,6 +1,15 @@
--- Fields of bits within a number.
-use Rattle.std.specs.Prelude.{ℕ, ◌+◌, ◌*◌, ◌/◌, ◌%◌, ◌^◌}
+-- Working definitions: fields of bits within a number.
+use Rattle.std.specs.Prelude.{ℕ, ◌+◌, ◌*◌, ◌/◌, ◌%◌, ◌^◌, List, map}
+use Rattle.std.specs.List.{range_with_len}
 
 -- n with its b bits from bit s on replaced by v
 abbrev pub with_field : ℕ → ℕ → ℕ → ℕ → ℕ
 with_field n s b v = n / 2 ^ (s + b) * 2 ^ (s + b) + (v * 2 ^ s + n % 2 ^ s)
+
+-- the b bits of n from bit b * k on
+unfoldable pub entry_of : ℕ → ℕ → ℕ → ℕ
+entry_of b n k = n / 2 ^ (b * k) % 2 ^ b
+
+-- the first m such fields
+abbrev pub entries_of : ℕ → ℕ → ℕ → List ℕ
+entries_of b n m = map (entry_of b n) (range_with_len 0 m)

@@ -39,11 +39,15 @@ abbrev pub low_first : ℕ → List ℕ → ℕ
 low_first b [] = 0
 low_first b (n ∷ ns) = n + 2 ^ b * low_first b ns
 
--- the longs that numbers are packed into: each long has the next ones, and 0 in the bits that are left
-unfoldable pub packed : ℕ → List ℕ → List ℤ
-packed b ns =
+-- long j has the j-th of the groups of numbers that a long holds, and 0 in the bits that are left
+abbrev pub packed_long : ℕ → List ℕ → ℕ → ℤ
+packed_long b ns j =
     let m = entries_in_long b in
-    map (λ j. cast_signed w64 (low_first b (take m (drop (m * j) ns)))) (range_with_len 0 (longs_for b))
+    cast_signed w64 (low_first b (take m (drop (m * j) ns)))
+
+-- the longs that 4,096 numbers are packed into
+unfoldable pub packed : ℕ → List ℕ → List ℤ
+packed b ns = map (packed_long b ns) (range_with_len 0 (longs_for b))
 
 -- these longs hold these 4,096 numbers, and 0 in all other bits
 pub record IsPacked (b : ℕ) (ns : List ℕ) (longs : List ℤ) : Type 0 where

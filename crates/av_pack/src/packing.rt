@@ -1,13 +1,14 @@
 //! The 4,096 block indices of a section, packed into longs
 //! (<https://minecraft.wiki/w/Chunk_format#Block_format>): entries stand in each long from the low
 //! bits up, and none spans two longs. An entry has 4 to 16 bits.
-ghost use Rattle.std.specs.Prelude.{◌≡◌, ◌≢◌, ◌<◌, ◌≤◌, ◌+◌, ◌*◌, ◌/◌, ◌%◌, ◌-◌, ◌^◌, ◌↔◌, ◌⊎◌, Err, IfOk, IfErr, length, All};
+ghost use Rattle.std.specs.Prelude.{◌≡◌, ◌≢◌, ◌<◌, ◌≤◌, ◌+◌, ◌*◌, ◌/◌, ◌%◌, ◌-◌, ◌^◌, ◌↔◌, ◌⊎◌, ◌++◌, Err, IfOk, IfErr, OnOk, length, All};
+ghost use Rattle.std.specs.Int.{cast_signed, w64};
 ghost use Rattle.av_types.specs.declared.fault.Fault.TheVariants.{OutOfMemory, BadPacked};
-ghost use Rattle.av_pack.specs.Packing.{bits_for, longs_for, packed_at, packed, unpacked, IsPacked, SetsEntry};
-ghost use Rattle.av_pack.specs.Fields.{with_field};
+ghost use Rattle.av_pack.specs.Packing.{bits_for, longs_for, packed_at, low_first, packed, unpacked, IsPacked, SetsEntry};
+ghost use Rattle.av_pack.specs.Fields.{with_field, entries_of};
 
 use av_types::{Fault, Place};
-use std::alloc::Global;
+use std::alloc::{AllocError, Global};
 
 /// How many entries a section has.
 const ENTRIES: usize = 4096;
@@ -113,6 +114,18 @@ pub fn set_at(longs: &mut [i64], bits: u32, place: Place, value: u16)
     longs[slot.long] = with_field(long, slot.shift, bits, value).cast_signed();
 }
 
+/// Appends all entries of a long.
+fn push_entries(values: &mut Vec<u16>, long: u64, bits: u32) -> Result<(), AllocError>
+    requires low { 4 ≤ bits }
+    requires high { bits ≤ 16 }
+    ensures { OnOk result (values.new.items ≡ values.old.items ++ entries_of bits long (64 / bits)) }
+{
+    for i in 0..64 / bits {
+        values.push(field(long, bits * i, bits))?;
+    }
+    Ok(())
+}
+
 /// The 4,096 entries of the longs, or `BadPacked` where the longs are not as many as `longs_for`
 /// says. The bits that hold no entry are not looked at.
 pub fn unpack(alloc: Global, longs: &[i64], bits: u32) -> Result<Vec<u16>, Fault>
@@ -125,7 +138,27 @@ pub fn unpack(alloc: Global, longs: &[i64], bits: u32) -> Result<Vec<u16>, Fault
     if longs.len() != longs_for(bits) {
         return Err(Fault::BadPacked);
     }
-    Err(Fault::OutOfMemory)
+    // The last long can have up to 15 entries too many.
+    let mut values = Vec::with_capacity(alloc, ENTRIES + 15)?;
+    for long in longs {
+        push_entries(&mut values, long.cast_unsigned(), bits)?;
+    }
+    values.truncate(ENTRIES);
+    Ok(values)
+}
+
+/// The long that holds values, the first one in its lowest bits.
+fn long_of(values: &[u16], bits: u32) -> i64
+    requires low { 4 ≤ bits }
+    requires room { bits * length values.now ≤ 64 }
+    requires fit { All (λ value. value < 2 ^ bits) values.now }
+    ensures { result ≡ cast_signed w64 (low_first bits values.now) }
+{
+    let mut long = 0;
+    for (i, value) in values.iter().enumerate() {
+        long |= u64::from(*value) << (bits * i as u32);
+    }
+    long.cast_signed()
 }
 
 /// The longs that hold 4,096 values, each below 2^`bits`. The bits that hold no value are 0.
@@ -138,5 +171,14 @@ pub fn pack(alloc: Global, values: &[u16], bits: u32) -> Result<Vec<i64>, Fault>
     ensures meaning { IfOk result (λ longs. IsPacked bits values.now longs.items) }
     ensures err { IfErr result (λ e. e ≡ OutOfMemory) }
 {
-    Err(Fault::OutOfMemory)
+    let per_long = (64 / bits) as usize;
+    let count = longs_for(bits);
+    let mut longs = Vec::with_capacity(alloc, count)?;
+    let mut rest = values;
+    for _ in 0..count {
+        let (first, others) = rest.split_at(per_long.min(rest.len()));
+        longs.push(long_of(first, bits))?;
+        rest = others;
+    }
+    Ok(longs)
 }
