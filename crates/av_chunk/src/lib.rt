@@ -1,2 +1,6 @@
-//! Chunks: what their tags denote, and how they are written.
+//! Chunks: what their tags denote, and how they are written (<https://minecraft.wiki/w/Chunk_format>).
 #![tactic(auto)]
+
+mod shape;
+mod tags;
+mod water;

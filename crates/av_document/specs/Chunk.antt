@@ -1,26 +1,27 @@
 -- What the tags of one chunk say (minecraft.wiki, "Chunk format").
-use Rattle.std.specs.Prelude.{◌≡◌, ℕ, ℤ, pos, List, [], ◌∷◌, ◌++◌, Option, Some, None, Bool, true, false, not, codes, ◌&&◌, ◌||◌, is_some, if◌then◌else◌, nat_lt, length, min}
+use Rattle.std.specs.Prelude.{◌≡◌, ℕ, ℤ, pos, List, [], ◌∷◌, ◌++◌, Option, Some, None, Bool, true, false, not, codes, ◌&&◌, ◌||◌, is_some, if◌then◌else◌, nat_lt, length}
 use Rattle.std.specs.List.{flat_map, list_any}
 use Rattle.std.specs.Ordering.{int_eq}
 use Rattle.std.specs.Str.{bytes_eq}
 use Rattle.av_types.specs.Division.{divided}
 use Rattle.av_types.specs.Places.{is_section_of, place_of}
+use Rattle.av_types.specs.Faults.{least}
 use Rattle.av_types.specs.declared.place.Pos.{Pos}
 use Rattle.av_types.specs.declared.place.ChunkPos.{ChunkPos}
 use Rattle.av_types.specs.declared.place.Height.{Height}
 use Rattle.av_types.specs.declared.tick.Entry.{Entry}
 use Rattle.av_nbt.specs.Nbt.{Nbt, byte, NamedTag, Document}
 use Rattle.av_nbt.specs.Place.{tag_of, without, emptied}
-use Rattle.av_nbt.specs.Shape.{◌>>=◌, named_in, text_of, byte_of, compound_of, compounds_of, lacks, or_else}
+use Rattle.av_nbt.specs.Shape.{◌>>=◌, members_in, text_of, byte_of, compound_of, compounds_of, lacks, or_else, when}
 use Rattle.av_state.specs.BlockState.{BlockState, air}
 use Rattle.av_state.specs.StateList.{with_states, most_states}
-use Rattle.av_section.specs.Palette.{states_faults, states_of, state_at}
-use Rattle.av_chunk.specs.Ticks.{lies_in, is_bad_tick, int_at, with_water, foreign}
+use Rattle.av_section.specs.BlockStates.{states_faults, read_states, state_at}
+use Rattle.av_document.specs.Ticks.{lies_in, is_bad_tick, int_at, with_water, foreign}
 
 -- ---- the parts of a root
 
 abbrev pub root_tags : Document → List NamedTag
-root_tags d = named_in d.members
+root_tags d = members_in d.members
 
 -- a layout from before 1.18
 abbrev pub has_level : List NamedTag → Bool
@@ -118,7 +119,7 @@ section_faults h ms = if is_in_height h (section_number ms) then block_faults (b
 
 abbrev pub block_palette : Option (List NamedTag) → List BlockState
 block_palette None = []
-block_palette (Some states) = states_of (palette_of states)
+block_palette (Some states) = read_states (palette_of states)
 
 abbrev pub section_states : Height → List NamedTag → List BlockState
 section_states h ms = if is_in_height h (section_number ms) then block_palette (block_states_of ms) else []
@@ -126,11 +127,6 @@ section_states h ms = if is_in_height h (section_number ms) then block_palette (
 -- the states of all palettes, in the order of the file
 abbrev pub all_states : Height → List NamedTag → List BlockState
 all_states h root = flat_map (section_states h) (sections root)
-
--- the number, where the test holds
-abbrev pub when : Bool → ℕ → List ℕ
-when true n = n ∷ []
-when false n = []
 
 -- the numbers of the faults that hold of a chunk that is to be loaded
 abbrev pub loaded_faults : Height → ChunkPos → List NamedTag → List ℕ
@@ -144,14 +140,6 @@ faults h c root = when (has_level root) 11 ++ when (lacks (status_of root)) 12 +
 -- a loaded chunk whose states are too many for a table
 abbrev pub has_too_many : Height → List BlockState → List NamedTag → Bool
 has_too_many h table root = is_full root && nat_lt most_states (length (with_states table (all_states h root)))
-
-abbrev pub lesser : ℕ → Option ℕ → ℕ
-lesser n None = n
-lesser n (Some m) = min n m
-
-abbrev pub least : List ℕ → Option ℕ
-least [] = None
-least (n ∷ ns) = Some (lesser n (least ns))
 
 -- the number of the first fault of a chunk that is read into a table
 abbrev pub first_fault : Height → ChunkPos → List BlockState → List NamedTag → Option ℕ
