@@ -33,7 +33,7 @@ flag_bound (negsuc n) p = omega (arith, ints, p)
 
 -- a number that is noted
 noted_at : (before : List ℤ) (flags : List Bool) (y z : ℤ) → length flags ≡ 256 → FitsSigned w8 y → FitsSigned w8 z → Noted before flags
-  → (b : Bool) → Decides b (z ≡ y) → get_or (slice_set flags (flag_of y) true) (flag_of z) false ≡ b || list_any (int_eq z) before
+    → (b : Bool) → Decides b (z ≡ y) → get_or (slice_set flags (flag_of y) true) (flag_of z) false ≡ b || list_any (int_eq z) before
 noted_at before flags y z l p q n true e =
     let fits : flag_of y < length flags = subst (λ (m : ℕ). flag_of y < m) (sym l) (flag_bound y p) in
     let same : z ≡ y = e.0 refl in
@@ -45,9 +45,9 @@ noted_at before flags y z l p q n false e =
 pub Noted-set : (before : List ℤ) (flags : List Bool) (y : ℤ) → FitsSigned w8 y → Noted before flags → Noted (y ∷ before) (slice_set flags (flag_of y) true)
 Noted-set before flags y p n = record {
   count = length-set flags (flag_of y) true ∙ n.count;
-  each_flag = λ z q. noted_at before flags y z n.count p q n (int_eq z y) (Decides-int_eq z y)
+  each_flag = λ z q. noted_at before flags y z n.count p q n (int_eq z y) (Decides-int_eq z y);
 }
 
 pub good_step : (h : Height) (before : List ℤ) (t : Nbt) (ts : List Nbt) (y : ℤ) (r : Bool) → Some y ≡ checked_number h (compound_of t) → list_any (int_eq y) before ≡ false
-  → are_bad_items h before (t ∷ ts) ≡ r → are_bad_items h (y ∷ before) ts ≡ r
+    → are_bad_items h before (t ∷ ts) ≡ r → are_bad_items h (y ∷ before) ts ≡ r
 good_step h before t ts y r e f g = rw (← e, f) at g

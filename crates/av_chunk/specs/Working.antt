@@ -57,12 +57,12 @@ has_other (t ∷ ts) = lacks (compound_of t) || has_other ts
 -- what is judged before a chunk is taken apart
 abbrev pub admitted : Height → ChunkPos → List NamedTag → Result Bool Fault
 admitted h c root =
-  if has_level root then Err OldLayout
-  else if lacks (status_of root) then Err BadChunk
-  else if not (is_full root) then Ok false
-  else if is_bad_chunk h root then Err BadChunk
-  else if is_elsewhere c root then Err WrongPlace
-  else Ok true
+    if has_level root then Err OldLayout
+    else if lacks (status_of root) then Err BadChunk
+    else if not (is_full root) then Ok false
+    else if is_bad_chunk h root then Err BadChunk
+    else if is_elsewhere c root then Err WrongPlace
+    else Ok true
 
 -- the flags say which numbers came before
 pub record Noted (before : List ℤ) (flags : List Bool) : Type 0 where

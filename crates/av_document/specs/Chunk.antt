@@ -12,10 +12,10 @@ use Rattle.av_types.specs.declared.place.Height.{Height}
 use Rattle.av_types.specs.declared.tick.Entry.{Entry}
 use Rattle.av_nbt.specs.Nbt.{Nbt, byte, NamedTag, Document}
 use Rattle.av_nbt.specs.Place.{tag_of, without, emptied}
-use Rattle.av_nbt.specs.Shape.{◌>>=◌, members_in, text_of, byte_of, compound_of, compounds_of, lacks, or_else, when}
+use Rattle.av_nbt.specs.Shape.{◌>>=◌, members_in, text_of, byte_of, compound_of, compounds_of, lacks, or_else}
 use Rattle.av_state.specs.BlockState.{BlockState, air}
 use Rattle.av_state.specs.StateList.{with_states, most_states}
-use Rattle.av_section.specs.BlockStates.{states_faults, read_states, state_at}
+use Rattle.av_section.specs.BlockStates.{when, states_faults, read_states, state_at}
 use Rattle.av_document.specs.Ticks.{lies_in, is_bad_tick, int_at, with_water, foreign}
 
 -- ---- the parts of a root
@@ -131,7 +131,7 @@ all_states h root = flat_map (section_states h) (sections root)
 -- the numbers of the faults that hold of a chunk that is to be loaded
 abbrev pub loaded_faults : Height → ChunkPos → List NamedTag → List ℕ
 loaded_faults h c root =
-  when (is_bad_chunk h root) 12 ++ when (is_elsewhere c root) 13 ++ flat_map (section_faults h) (sections root) ++ when (list_any (is_bad_tick c h) (ticks root)) 16
+    when (is_bad_chunk h root) 12 ++ when (is_elsewhere c root) 13 ++ flat_map (section_faults h) (sections root) ++ when (list_any (is_bad_tick c h) (ticks root)) 16
 
 -- the numbers of the faults that hold of a chunk, in no order
 abbrev pub faults : Height → ChunkPos → List NamedTag → List ℕ
@@ -165,7 +165,7 @@ pub record SectionRest : Type 0 where
 abbrev pub section_rest : List NamedTag → SectionRest
 section_rest ms = record {
   tags = emptied (codes "BlockLight") (emptied (codes "block_states") ms);
-  states = without (codes "data") (without (codes "palette") (or_else [] (block_states_of ms)))
+  states = without (codes "data") (without (codes "palette") (or_else [] (block_states_of ms)));
 }
 
 -- all but cells, entries and light of a chunk

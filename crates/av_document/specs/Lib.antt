@@ -1,2 +1,4 @@
 pub mod Ticks
 pub mod Chunk
+pub mod Layout
+pub mod Law

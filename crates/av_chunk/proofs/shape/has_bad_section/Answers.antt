@@ -18,6 +18,8 @@ loop-item-preserved c =
     let noted : Noted inv.0 c.loop-item.seen = inv.1 in
     let new : list_any (int_eq c.in-Some.y) inv.0 ≡ false = sym (noted.each_flag c.in-Some.y fits) ∙ rw (← flag) c.if-seen-flag.false in
     let within : c.loop-item.item-index < length c.args.items.now = omega arith in
-    let rest = rw (drop-cons c.args.items.now c.loop-item.item-index c.item-item.result, ← c.item-item.is) at inv.2 in
-    (c.in-Some.y ∷ inv.0, rw flag (Noted-set inv.0 c.loop-item.seen c.in-Some.y fits noted),
-      rw add-one (good_step c.args.height _ (view c.item-item.result) (views (drop (suc c.loop-item.item-index) c.args.items.now)) _ _ (sym c.in-Some.is ∙ c.checked_number.ensures) new rest))
+    let rest = rw (drop-cons c.args.items.now c.loop-item.item-index c.item-item.result, ← c.item-item.is) at inv.2 in (
+      c.in-Some.y ∷ inv.0,
+      rw flag (Noted-set inv.0 c.loop-item.seen c.in-Some.y fits noted),
+      rw add-one (good_step c.args.height _ (view c.item-item.result) (views (drop (suc c.loop-item.item-index) c.args.items.now)) _ _ (sym c.in-Some.is ∙ c.checked_number.ensures) new rest),
+    )
