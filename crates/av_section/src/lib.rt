@@ -1,2 +1,8 @@
-//! Sections of a chunk.
+//! Sections of a chunk: the block states of 16 blocks a side
+//! (<https://minecraft.wiki/w/Chunk_format>).
 #![tactic(auto)]
+
+pub mod places;
+pub mod section;
+
+pub use section::Section;

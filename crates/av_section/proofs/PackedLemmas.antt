@@ -1,0 +1,26 @@
+-- Edits of a palette and of the indices into it.
+use Rattle.std.proofs.Common.{◌≡◌, ◌≢◌, ℕ, ◌<◌, ◌≤◌, ◌^◌, ◌==◌, nat_lt, Bool, true, false, if◌then◌else◌, List, ℤ, ◌++◌, length, take, slice_index, refl, sym, ap, subst, ◌∙◌, arith, eq-eqb, inl, inr}
+use Rattle.std.proofs.Math.Seq.{take-append_seam}
+use Rattle.std.proofs.lemmas.Bool.{cases_eq, ne_eqb, lt-ltb}
+use Rattle.av_pack.specs.Packing.{packed_at, SetsEntry}
+use Rattle.av_section.specs.Packed.{IsPacked, number_in}
+
+-- a whole list written over another
+pub written_back : {A : Type 0} (n : ℕ) (new rest : List A) → length new ≡ n → take n (new ++ rest) ≡ new
+written_back n new rest e = subst (λ k. take k (new ++ rest) ≡ new) e (take-append_seam new rest)
+
+-- one index set to one of the palette
+pub packed_set : (palette : List ℕ) (old new : List ℤ) (bits place index : ℕ) → IsPacked palette old bits → index < length palette → SetsEntry bits old new place index → IsPacked palette new bits
+packed_set palette old new bits place index packed low sets = record {
+  distinct = packed.distinct;
+  few = packed.few;
+  bits_are = packed.bits_are;
+  low = packed.low;
+  high = packed.high;
+  enough = packed.enough;
+  count = sets.count ∙ packed.count;
+  below = λ i h. elim (cases_eq i place) [
+    | inl e ↦ subst (λ k. k < length palette) (sym (ap (packed_at bits new) e ∙ sets.entry)) low
+    | inr ne ↦ subst (λ k. k < length palette) (sym (sets.others i ne)) (packed.below i h)
+  ];
+}

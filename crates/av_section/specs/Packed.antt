@@ -1,0 +1,19 @@
+-- A palette of numbers, and the indices of 4,096 places into it, packed into longs.
+use Rattle.std.specs.Prelude.{◌≡◌, ℕ, ◌<◌, ◌≤◌, ◌^◌, List, ℤ, length, nat_eq, slice_index}
+use Rattle.std.specs.List.{IsDistinct}
+use Rattle.av_pack.specs.Packing.{bits_for, longs_for, packed_at}
+
+-- No number is in the palette twice, the indices have the bits that its length asks for, and each is below its length.
+pub record IsPacked (palette : List ℕ) (longs : List ℤ) (bits : ℕ) : Type 0 where
+  pub distinct : IsDistinct nat_eq palette
+  pub few : length palette ≤ 65536
+  pub bits_are : bits ≡ bits_for (length palette)
+  pub low : 4 ≤ bits
+  pub high : bits ≤ 16
+  pub enough : length palette ≤ 2 ^ bits
+  pub count : length longs ≡ longs_for bits
+  pub below : (i : ℕ) → i < 4096 → packed_at bits longs i < length palette
+
+-- the number at a place
+abbrev pub number_in : List ℕ → List ℤ → ℕ → ℕ → ℕ
+number_in palette longs bits place = slice_index palette (packed_at bits longs place)

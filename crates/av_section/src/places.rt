@@ -1,0 +1,50 @@
+//! Sets of places of a section.
+ghost use Rattle.std.specs.Prelude.{◌≡◌, ◌<◌, ◌/◌, ℕ, true, false};
+
+use av_types::Place;
+
+/// A set of places, which takes no memory of its own.
+#[derive(Clone, Copy, Debug, PartialEq, Eq)]
+pub struct PlaceSet {
+    words: [u64; 64],
+}
+
+/// The word that has the bit of a place.
+fn word_of(place: Place) -> usize
+    ensures value { result ≡ place.index / 64 }
+    ensures bound { result < 64 }
+{
+    usize::from(place.index / 64)
+}
+
+impl PlaceSet {
+    ghost use Rattle.av_section.specs.Places.{has_place, SetsPlace};
+
+    /// The empty set.
+    pub fn new() -> Self
+        ensures { (i : ℕ) → has_place result i ≡ false }
+    {
+        PlaceSet { words: [0; 64] }
+    }
+
+    /// Whether a place is in the set.
+    pub fn contains(&self, place: Place) -> bool
+        ensures { result ≡ has_place self.now place.index }
+    {
+        self.words[word_of(place)] >> (place.index % 64) & 1 == 1
+    }
+
+    /// Puts a place into the set, if it is not there.
+    pub fn insert(&mut self, place: Place)
+        ensures { SetsPlace self.old self.new place.index true }
+    {
+        self.words[word_of(place)] |= 1 << (place.index % 64);
+    }
+
+    /// Takes a place out of the set, if it is there.
+    pub fn remove(&mut self, place: Place)
+        ensures { SetsPlace self.old self.new place.index false }
+    {
+        self.words[word_of(place)] &= !(1 << (place.index % 64));
+    }
+}
