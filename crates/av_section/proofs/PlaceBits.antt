@@ -1,5 +1,5 @@
 -- One bit of a set of places.
-use Rattle.std.proofs.Common.{◌≡◌, ◌≢◌, ℕ, ◌<◌, ◌/◌, ◌%◌, ◌*◌, ◌+◌, ◌^◌, ◌==◌, Bool, true, false, if◌then◌else◌, List, length, get_or, set, refl, sym, ap, subst, ◌∙◌, arith, get_or-set_same, get_or-set_other, eq-eqb, inl, inr, ◌⊎◌, replicate, zero, suc}
+use Rattle.std.proofs.Common.{◌≡◌, ◌≢◌, ℕ, ◌<◌, ◌/◌, ◌%◌, ◌==◌, Bool, if◌then◌else◌, List, length, get_or, set, refl, arith, get_or-set_same, get_or-set_other, eq-eqb, inl, inr, replicate, zero, suc}
 use Rattle.std.proofs.lemmas.Bool.{cases_eq, ne_eqb}
 use Rattle.std.specs.Int.{bit_at}
 

@@ -1,5 +1,5 @@
 -- The palette of a section: a List of Compounds, each a `Name` and perhaps `Properties` (minecraft.wiki, "Chunk format").
-use Rattle.std.specs.Prelude.{ℕ, ◌<◌, nat_lt, length, List, [], ◌∷◌, Option, Some, None, Bool, ◌&&◌, ◌||◌, if◌then◌else◌, option_map, codes, map}
+use Rattle.std.specs.Prelude.{ℕ, nat_lt, length, List, [], ◌∷◌, Option, Some, None, Bool, ◌&&◌, ◌||◌, if◌then◌else◌, option_map, codes, map}
 use Rattle.std.specs.List.{list_all}
 use Rattle.std.specs.Str.{bytes_eq}
 use Rattle.av_nbt.specs.declared.tag.Kind.TheVariants as kind

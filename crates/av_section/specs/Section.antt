@@ -1,5 +1,5 @@
 -- A section as its 4,096 places: a number at each, and whether it is pending.
-use Rattle.std.specs.Prelude.{◌≡◌, ◌≢◌, ℕ, ◌<◌, nat_lt, ◌==◌, List, ℤ, length, map, slice_index, slice_index_or, Bool, false, Contains, if◌then◌else◌}
+use Rattle.std.specs.Prelude.{◌≡◌, ℕ, ◌<◌, nat_lt, ◌==◌, List, ℤ, map, slice_index_or, Bool, false, Contains, if◌then◌else◌}
 use Rattle.std.specs.List.{range_with_len}
 use Rattle.av_state.specs.BlockState.{BlockState, air}
 use Rattle.av_section.specs.Packed.{IsPacked, number_in}

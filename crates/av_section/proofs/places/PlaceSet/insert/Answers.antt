@@ -1,5 +1,5 @@
 -- The bit of the place is 1 now, and every other one is as it was.
-use Rattle.std.proofs.Common.{ℕ, ◌<◌, ◌/◌, ◌%◌, eq-eqb, w64, length, true, arith, rules, sym}
+use Rattle.std.proofs.Common.{◌<◌, ◌/◌, ◌%◌, eq-eqb, w64, length, true, arith, rules}
 use Rattle.std.proofs.lemmas.Nat.Bits.{bit_at_set_same, bit_at_set_other}
 use Rattle.av_section.specs.Places.{has_place}
 use Rattle.av_section.proofs.PlaceBits.{bit_written}

@@ -1,5 +1,5 @@
 -- Every bit of 0 is 0.
-use Rattle.std.proofs.Common.{◌≡◌, ℕ, ◌/◌, ◌%◌, ◌==◌, get_or, replicate, ap}
+use Rattle.std.proofs.Common.{◌/◌, ◌%◌, ◌==◌, ap}
 use Rattle.std.proofs.lemmas.Nat.Bits.{bit_at-zero}
 use Rattle.av_section.specs.Places.{has_place}
 use Rattle.av_section.proofs.PlaceBits.{get_or-replicate_zero}

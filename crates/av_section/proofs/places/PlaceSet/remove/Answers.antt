@@ -1,5 +1,5 @@
 -- The bit of the place is 0 now, and every other one is as it was.
-use Rattle.std.proofs.Common.{ℕ, ◌<◌, ◌/◌, ◌%◌, ◌==◌, ap, w64, length, false, arith, rules}
+use Rattle.std.proofs.Common.{◌<◌, ◌/◌, ◌%◌, ◌==◌, ap, w64, length, false, arith, rules}
 use Rattle.std.proofs.lemmas.Nat.Bits.{bit_at_clear_same, bit_at_clear_other}
 use Rattle.av_section.specs.Places.{has_place}
 use Rattle.av_section.proofs.PlaceBits.{bit_written}

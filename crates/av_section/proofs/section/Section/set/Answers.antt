@@ -1,6 +1,6 @@
 -- The index of the place is that of the number now.
-use Rattle.std.proofs.Common.{◌≡◌, ℤ, length, take, drop, ◌++◌, ◌∙◌, ap}
-use Rattle.av_section.proofs.PackedLemmas.{written_back, packed_set, number_set}
+use Rattle.std.proofs.Common.{length, drop, ◌∙◌}
+use Rattle.av_section.proofs.PackedLemmas.{written_back, packed_set}
 use Rattle.av_section.proofs.section.Section.set.Goals as goal
 
 pub invariant_of-self : goal.invariant_of-self
