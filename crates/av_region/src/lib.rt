@@ -2,6 +2,8 @@
 //! and timestamps, read and written.
 #![tactic(auto)]
 
-pub mod read;
+pub mod reading;
+pub mod writing;
 
-pub use read::Region;
+pub use reading::Region;
+pub use writing::write;
