@@ -23,6 +23,7 @@ pub struct Kinds {
 impl Kinds {
     ghost use Rattle.std.specs.Prelude.{◌<◌, IfOk, IfErr, slice_get, Some};
     ghost use Rattle.av_types.specs.declared.fault.Fault.TheVariants.{OutOfMemory};
+    ghost use Rattle.av_types.specs.Water.{IsProper};
     ghost use Rattle.av_rules.specs.Rows.{row_of, wet_in};
     ghost use Rattle.av_rules.specs.Tables.{table_of};
     ghost use Rattle.av_rules.specs.Kinds.{kind_count, row_at, wet_at, table_in, rows_in, wets_in};
@@ -48,7 +49,8 @@ impl Kinds {
     /// How wet the state of a number is: a soaked one is a source, water is so by its level, and all else is dry.
     pub fn wet(&self, number: u16) -> Wet
         requires { number < kind_count self.now }
-        ensures { result ≡ wet_at self.now number }
+        ensures value { result ≡ wet_at self.now number }
+        ensures proper { IsProper result }
     {
         self.wets[number as usize]
     }

@@ -1,5 +1,5 @@
 -- The keys of a table's set, and the states that they stand for.
-use Rattle.std.proofs.Common.{◌≡◌, ℕ, ◌<◌, List, [], ◌∷◌, ◌++◌, length, map, Bool, false, ◌&&◌, Some, None, Result, Ok, Err, IfOk, OnErr, cond, refl, ap, ◌∙◌, sym, subst, eqb}
+use Rattle.std.proofs.Common.{◌≡◌, ℕ, ◌<◌, List, [], ◌∷◌, ◌++◌, length, map, Bool, true, false, ◌&&◌, Some, None, Result, Ok, Err, IfOk, OnErr, cond, refl, ap, ◌∙◌, sym, subst, eqb}
 use Rattle.std.proofs.lemmas.List.{map-append}
 use Rattle.std.specs.List.{list_any, AllZip}
 use Rattle.std.specs.Cmp.Lexicographic.{pointwise}
@@ -8,7 +8,7 @@ use Rattle.av_state.specs.declared.state.State.{State}
 use Rattle.av_state.specs.BlockState.{BlockState, meant}
 use Rattle.av_state.specs.Views.{property_of}
 use Rattle.av_state.specs.States.{state_of}
-use Rattle.av_state.specs.StateList.{same_property, same_state, most_states, number_in, IsStateList, Numbers}
+use Rattle.av_state.specs.StateList.{same_property, same_state, most_states, number_in, with_state, IsStateList, Numbers}
 use Rattle.av_state.proofs.Lists.{pointwise-map, list_any-views}
 use Rattle.av_state.proofs.Numbering.{number_in-none, Numbers-new, IsStateList-more}
 
@@ -42,3 +42,11 @@ module _ (E : State → State → Bool) (same : (a b : State) → E a b ≡ same
   Numbers-insert old new k s e h m none =
       let P : List BlockState → Type 0 = λ zs. Numbers (map state_of old) s zs (length (map state_of old)) in
       subst P (sym (states-insert old new k s e none h)) (Numbers-new (map state_of old) s m none)
+
+  -- a state goes to the end where it is not there yet
+  pub with_state-insert : (old new : List State) (k : State) → new ≡ insert_key E old k → map state_of new ≡ with_state (map state_of old) (state_of k)
+  with_state-insert old new k h = ap (map state_of) h ∙ insert_cases (list_any (E k) old) ∙ ap (λ b. cond b (map state_of old) (map state_of old ++ state_of k ∷ [])) (list_any-views (E k) state_of (same_state (state_of k)) (same k) old)
+    where
+      insert_cases : (b : Bool) → map state_of (cond b old (old ++ k ∷ [])) ≡ cond b (map state_of old) (map state_of old ++ state_of k ∷ [])
+      insert_cases true = refl
+      insert_cases false = map-append state_of old (k ∷ [])

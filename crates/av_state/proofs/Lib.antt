@@ -1,3 +1,4 @@
 pub mod Lists
 pub mod Numbering
 pub mod Keys
+pub mod Ordered

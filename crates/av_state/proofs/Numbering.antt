@@ -1,5 +1,5 @@
 -- Numbering states one after the other.
-use Rattle.std.proofs.Common.{◌≡◌, ℕ, zero, suc, ◌-◌, ◌<◌, ◌≤◌, List, [], ◌∷◌, ◌++◌, length, take, drop, map, Bool, true, false, ◌&&◌, ◌||◌, Option, Some, None, option_map, option_and_then, cond, refl, ap, ◌∙◌, sym, arith, subst, length-append}
+use Rattle.std.proofs.Common.{◌≡◌, ℕ, zero, suc, ◌+◌, ◌-◌, ◌<◌, ◌≤◌, List, [], ◌∷◌, ◌++◌, length, take, drop, map, Bool, true, false, ◌&&◌, ◌||◌, Option, Some, None, option_map, option_and_then, cond, refl, ap, ◌∙◌, sym, arith, subst, length-append}
 use Rattle.std.specs.List.{list_any, slice_get}
 use Rattle.std.specs.Str.{bytes_eq}
 use Rattle.std.specs.Cmp.Lexicographic.{pointwise}
@@ -234,3 +234,29 @@ with_state-number xs s t n h = elim (list_any (same_state s) xs) as (λ b. numbe
 pub with_states-number : (xs ss : List BlockState) (t : BlockState) (n : ℕ) → number_in xs t ≡ Some n → number_in (with_states xs ss) t ≡ Some n
 with_states-number xs [] t n h = h
 with_states-number xs (s ∷ ss) t n h = with_states-number (with_state xs s) ss t n (with_state-number xs s t n h)
+
+same_first : (i j : ℕ) → IsFirst i → IsFirst j → slice_get first_states i ≡ slice_get first_states j → i ≡ j
+same_first i j f g h =
+    let e : f.state ≡ g.state = same_Some f.state g.state (sym f.is_there ∙ h ∙ g.is_there) in
+    same_Some i j (sym f.has_number ∙ ap (number_in first_states) e ∙ g.has_number)
+
+-- the first ten are a table
+pub IsStateList-first : IsStateList first_states
+IsStateList-first = record {
+  distinct = λ i j h k e. same_first i j (first_state i h) (first_state j k) e;
+  begins = refl;
+  bounded = omega arith;
+  each_meant = refl;
+}
+
+pub with_state-water : (n : ℕ) → n < 9 → with_state (take (n + 1) first_states) (water n) ≡ take (n + 1 + 1) first_states
+with_state-water zero h = refl
+with_state-water (suc zero) h = refl
+with_state-water (suc (suc zero)) h = refl
+with_state-water (suc (suc (suc zero))) h = refl
+with_state-water (suc (suc (suc (suc zero)))) h = refl
+with_state-water (suc (suc (suc (suc (suc zero))))) h = refl
+with_state-water (suc (suc (suc (suc (suc (suc zero)))))) h = refl
+with_state-water (suc (suc (suc (suc (suc (suc (suc zero))))))) h = refl
+with_state-water (suc (suc (suc (suc (suc (suc (suc (suc zero)))))))) h = refl
+with_state-water (suc (suc (suc (suc (suc (suc (suc (suc (suc n))))))))) h = absurd (omega arith)

@@ -1,10 +1,11 @@
 //! Block states: a name and properties (<https://minecraft.wiki/w/Block_states>).
 //!
 //! Texts are kept as bytes, since those of a file need not be UTF-8.
-ghost use Rattle.std.specs.Prelude.{◌≡◌, ◌≢◌, ◌↔◌, ◌<◌, ◌≤◌, IsTrue, IfOk, IfErr, IfSome, option_map, map, Some, None};
+ghost use Rattle.std.specs.Prelude.{◌≡◌, ◌≢◌, ◌↔◌, ◌<◌, ◌≤◌, IsTrue, IfOk, IfErr, IfSome, OnOk, ◌++◌, option_map, is_some, map, Some, None};
 ghost use Rattle.av_types.specs.declared.fault.Fault.TheVariants.{OutOfMemory, BadWaterLevel};
 ghost use Rattle.av_state.specs.BlockState.{is_in_order, in_order, value_of, air_name, water_name, index_in, capped_level, air, water};
 ghost use Rattle.av_state.specs.Views.{property_of, properties_of};
+ghost use Rattle.av_state.specs.Words.{property_text, more_text};
 
 use av_types::{Fault, Wet};
 use std::alloc::{AllocError, Global};
@@ -66,14 +67,15 @@ impl State {
     ghost use Rattle.std.specs.Str.{bytes_eq};
 
     /// The state of a name and properties in any order, no key twice.
-    pub fn new(name: Vec<u8>, properties: Vec<Property>) -> Result<State, Fault>
+    pub fn new(name: Vec<u8>, mut properties: Vec<Property>) -> Result<State, Fault>
         ensures ok { IfOk result (λ s. state_of s ≡ record {
           name = name.items;
           properties = in_order (properties_of properties.items);
         }) }
         ensures memory { IfErr result (λ e. e ≡ OutOfMemory) }
     {
-        Err(Fault::OutOfMemory)
+        properties.sort_by(|p, q| p.key.cmp(&q.key))?;
+        Ok(State { name, properties })
     }
 
     /// The value of a property.
@@ -144,6 +146,16 @@ impl State {
         }
     }
 
+    /// Whether there is a form that the state takes when it is read: there is none for water whose level is not 0 to 15.
+    pub fn has_form(&self) -> bool
+        ensures { result ≡ is_some (meant (state_of self.now)) }
+    {
+        match self.form() {
+            Form::NoLevel => false,
+            Form::Fixed(_) | Form::Same => true,
+        }
+    }
+
     /// How wet the state is by its name: water by its level, and all else is dry.
     pub fn wet(&self) -> Wet
         ensures { result ≡ wet_of (state_of self.now) }
@@ -193,7 +205,13 @@ impl State {
         ensures ok { IfOk result (λ v. v.items ≡ state_text (state_of self.now)) }
         ensures memory { IfErr result (λ e. e ≡ OutOfMemory) }
     {
-        Err(Fault::OutOfMemory)
+        let mut text = Vec::from_slice(alloc, self.name.as_slice())?;
+        if let Some((first, more)) = self.properties.as_slice().split_first() {
+            write_property(&mut text, b"[", first)?;
+            write_more(&mut text, more)?;
+            text.push(b']')?;
+        }
+        Ok(text)
     }
 }
 
@@ -227,4 +245,24 @@ fn capped_level(index: Option<usize>) -> Option<u16>
         Some(i) if i < 8 => Some(i as u16),
         Some(_) => Some(8),
     }
+}
+
+/// Appends a property as text, after the bytes that stand before it.
+fn write_property(text: &mut Vec<u8>, before: &[u8], property: &Property) -> Result<(), AllocError>
+    ensures { OnOk result (text.new.items ≡ text.old.items ++ (before.now ++ property_text (property_of property.now))) }
+{
+    text.extend_from_slice(before)?;
+    text.extend_from_slice(property.key.as_slice())?;
+    text.extend_from_slice(b"=")?;
+    text.extend_from_slice(property.value.as_slice())
+}
+
+/// Appends further properties, each after a comma.
+fn write_more(text: &mut Vec<u8>, properties: &[Property]) -> Result<(), AllocError>
+    ensures { OnOk result (text.new.items ≡ text.old.items ++ more_text (properties_of properties.now)) }
+{
+    for property in properties {
+        write_property(text, b",", property)?;
+    }
+    Ok(())
 }

@@ -1,6 +1,6 @@
 //! Numbers for block states.
-ghost use Rattle.std.specs.Prelude.{◌≡◌, map};
-ghost use Rattle.av_state.specs.StateList.{IsStateList};
+ghost use Rattle.std.specs.Prelude.{◌≡◌, map, OnOk};
+ghost use Rattle.av_state.specs.StateList.{IsStateList, with_state};
 ghost use Rattle.av_state.specs.States.{state_of};
 ghost use Rattle.std.proofs.Props.{props};
 
@@ -26,7 +26,7 @@ impl StateTable {
     ghost use Rattle.std.specs.Prelude.{◌<◌, ◌≤◌, ◌↔◌, ◌≢◌, ◌⊎◌, ◌+◌, length, IfOk, IfErr, IfSome, OnErr, slice_get, option_and_then, Some, None, false};
     ghost use Rattle.av_types.specs.declared.fault.Fault.TheVariants.{OutOfMemory, BadWaterLevel, TooManyStates};
     ghost use Rattle.av_state.specs.BlockState.{meant, wet_of};
-    ghost use Rattle.av_state.specs.StateList.{first_states, most_states, number_in, with_state, Numbers, IsOneTooMany};
+    ghost use Rattle.av_state.specs.StateList.{first_states, most_states, number_in, Numbers, IsOneTooMany};
     ghost use Rattle.av_state.specs.Table.{states};
 
     /// The table of the ten first states.
@@ -34,7 +34,12 @@ impl StateTable {
         ensures ok { IfOk result (λ t. states t ≡ first_states) }
         ensures memory { IfErr result (λ e. e ≡ OutOfMemory) }
     {
-        Err(Fault::OutOfMemory)
+        let mut numbers = IndexSet::new(alloc);
+        add_state(&mut numbers, State::air(alloc)?)?;
+        for level in 0..9 {
+            add_state(&mut numbers, State::water(alloc, level)?)?;
+        }
+        Ok(StateTable { numbers })
     }
 
     /// How many states there are, from 10 to 65,535.
@@ -125,4 +130,12 @@ impl StateTable {
         self.numbers.insert(state.clone()?)?;
         Ok(number as u16)
     }
+}
+
+/// Puts a state at the end where it is not there yet.
+fn add_state(numbers: &mut IndexSet<State>, state: State) -> Result<(), AllocError>
+    ensures { OnOk result (map state_of numbers.new.keys ≡ with_state (map state_of numbers.old.keys) (state_of state)) }
+{
+    numbers.insert(state)?;
+    Ok(())
 }
