@@ -5,3 +5,4 @@ pub mod Entries
 pub mod LowFirst
 pub mod Unpacked
 pub mod Packed
+pub mod Laws

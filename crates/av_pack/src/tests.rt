@@ -1,0 +1,91 @@
+//! Entries and half bytes by hand, with the counts of the format's description.
+ghost use Rattle.std.specs.Prelude.{◌≡◌, ◌<◌, ◌^◌, IfOk, length, All};
+
+use crate::{bits_for, get_at, longs_for, nibble, pack, set_at, set_nibble, unpack};
+use av_types::{Fault, Place};
+use std::alloc::{AllocError, Global};
+use std::test::Fail;
+
+/// The remainder by 17 at each place of a section.
+fn remainders(alloc: Global) -> Result<Vec<u16>, AllocError>
+    ensures count { IfOk result (λ values. length values.items ≡ 4096) }
+    ensures fit { IfOk result (λ values. All (λ value. value < 2 ^ 5) values.items) }
+{
+    let mut values = Vec::new(alloc);
+    for i in 0u16..4096 {
+        values.push(i % 17)?;
+    }
+    Ok(values)
+}
+
+#[test]
+fn bits_and_longs_of_palettes(rt: HostRuntime) {
+    let palettes = [
+        (1, 4),
+        (16, 4),
+        (17, 5),
+        (32, 5),
+        (33, 6),
+        (4096, 12),
+        (4097, 13),
+        (65536, 16),
+    ];
+    for (len, bits) in palettes {
+        assert_eq!(rt; bits_for(len), bits, "for {len}");
+    }
+    let counts = [
+        256, 342, 410, 456, 512, 586, 683, 820, 820, 1024, 1024, 1024, 1024,
+    ];
+    for bits in 4..17 {
+        assert_eq!(rt; longs_for(bits), counts[bits as usize - 4], "for {bits}");
+    }
+}
+
+#[test]
+fn seventeen_values_take_342_longs(rt: HostRuntime) -> Result<(), Fail> {
+    let values = remainders(rt.alloc())?;
+    let mut longs = pack(rt.alloc(), &values, 5)?;
+    assert_eq!(rt; longs.len(), 342);
+    // place 12 is the first entry of the second long
+    assert_eq!(rt; longs[1].cast_unsigned() % 32, 12);
+    // the places 4092 to 4095 have the values 12 to 15: 12 + 13 * 32 + 14 * 1,024 + 15 * 32,768
+    assert_eq!(rt; longs[341], 506284);
+    assert_eq!(rt;
+        unpack(rt.alloc(), &longs, 5)?.as_slice(),
+        values.as_slice()
+    );
+
+    let place = Place::new(12);
+    assert_eq!(rt; get_at(&longs, 5, place), 12);
+    set_at(&mut longs, 5, place, 31);
+    assert_eq!(rt; get_at(&longs, 5, place), 31);
+    assert_eq!(rt; get_at(&longs, 5, Place::new(13)), 13);
+    Ok(())
+}
+
+#[test]
+fn the_highest_bits_of_a_long(rt: HostRuntime) -> Result<(), Fail> {
+    let mut longs = vec![in rt.alloc(); 0; 256]?;
+    longs[15] = 0x1000_0000_0000_0000;
+    // x 15, y 0, z 15
+    assert_eq!(rt; unpack(rt.alloc(), &longs, 4)?.get(255).copied(), Some(1));
+    assert_eq!(rt; unpack(rt.alloc(), &longs, 4)?.get(254).copied(), Some(0));
+    longs[15] = -1;
+    assert_eq!(rt; unpack(rt.alloc(), &longs, 4)?.get(255).copied(), Some(15));
+    let short = unpack(rt.alloc(), &longs[1..], 4);
+    assert!(rt; matches!(short, Err(Fault::BadPacked)));
+    Ok(())
+}
+
+#[test]
+fn half_bytes(rt: HostRuntime) -> Result<(), Fail> {
+    let mut bytes = vec![in rt.alloc(); 0; 2048]?;
+    bytes[64] = 0xDE;
+    assert_eq!(rt; nibble(&bytes, Place::new(128)), 0xE);
+    assert_eq!(rt; nibble(&bytes, Place::new(129)), 0xD);
+    set_nibble(&mut bytes, Place::new(128), 1);
+    set_nibble(&mut bytes, Place::new(141), 2);
+    assert_eq!(rt; bytes.get(64).copied(), Some(0xD1));
+    assert_eq!(rt; bytes.get(70).copied(), Some(0x20));
+    Ok(())
+}
