@@ -1,5 +1,5 @@
 -- A world as its sections.
-use Rattle.std.specs.Prelude.{ℕ, ℤ, pos, ◌≤ℤ◌, ◌<ℤ◌, ◌+ℤ◌, ◌*ℤ◌, Bool, true, false, nat_eq, if◌then◌else◌, Option, Some, None, List, [], ◌∷◌}
+use Rattle.std.specs.Prelude.{◌≡◌, IsTrue, ℕ, ℤ, pos, ◌≤ℤ◌, ◌<ℤ◌, ◌+ℤ◌, ◌*ℤ◌, Bool, true, false, nat_eq, if◌then◌else◌, Option, Some, None, List, [], ◌∷◌}
 use Rattle.av_types.specs.declared.place.Pos.{Pos}
 use Rattle.av_types.specs.declared.place.SectionPos.{SectionPos}
 use Rattle.av_types.specs.Places.{section_of, place_of}
@@ -81,3 +81,10 @@ pub record LiesIn (s : SectionPos) (p : Pos) : Type 0 where
   pub along_x : IsInSixteen s.x p.x
   pub along_y : IsInSixteen s.y p.y
   pub along_z : IsInSixteen s.z p.z
+
+-- the block lies in a section that is there, and in no other section
+pub record HasOneSection (g : Grid) (p : Pos) : Type 0 where
+  pub section : SectionPos
+  pub here : IsTrue (is_here (g section))
+  pub lies : LiesIn section p
+  pub alone : (t : SectionPos) → LiesIn t p → t ≡ section

@@ -1,6 +1,8 @@
 pub mod Positions
 pub mod World
+pub mod Kinds
 pub mod Rule
 pub mod Turn
+pub mod Wakes
 pub mod Frame
 pub mod Grid

@@ -1,5 +1,5 @@
 -- Neighbours of a block, and the blocks that a turn can see.
-use Rattle.std.specs.Prelude.{ℕ, ℤ, pos, negsuc, ◌+ℤ◌, ◌-ℤ◌, ◌≤ℤ◌, Bool, ◌&&◌, List, [], ◌∷◌}
+use Rattle.std.specs.Prelude.{pos, negsuc, ◌+ℤ◌, ◌-ℤ◌, ◌≤ℤ◌, Bool, ◌&&◌, List, [], ◌∷◌}
 use Rattle.std.specs.Ordering.{int_eq}
 use Rattle.av_types.specs.declared.place.Pos.{Pos}
 use Rattle.av_types.specs.declared.place.ChunkPos.{ChunkPos}
@@ -64,3 +64,12 @@ pub record IsNearOrigin (p : Pos) : Type 0 where
   pub y_high : p.y ≤ℤ pos 1023
   pub z_low : negsuc 30719999 ≤ℤ p.z
   pub z_high : p.z ≤ℤ pos 30720511
+
+-- so far from the ends of the coordinates' range that each neighbour has coordinates
+pub record IsInner (p : Pos) : Type 0 where
+  pub x_low : negsuc 2147483646 ≤ℤ p.x
+  pub x_high : p.x ≤ℤ pos 2147483646
+  pub y_low : negsuc 2147483646 ≤ℤ p.y
+  pub y_high : p.y ≤ℤ pos 2147483646
+  pub z_low : negsuc 2147483646 ≤ℤ p.z
+  pub z_high : p.z ≤ℤ pos 2147483646

@@ -6,14 +6,9 @@ use Rattle.av_types.specs.declared.water.Direction.TheVariants.{North, South, We
 use Rattle.av_types.specs.declared.water.Wet.{Wet}
 use Rattle.av_types.specs.declared.water.Wet.TheVariants.{Dry, Source, Flow, Falling}
 use Rattle.av_types.specs.Water.{amount_of, is_wet, is_source}
+use Rattle.av_cells.specs.declared.kind.Kind.{Kind}
 use Rattle.av_cells.specs.Positions.{step, below, above}
 use Rattle.av_cells.specs.World.{World}
-
--- what the rule knows of a state: whether water may replace it, whether water stands on it, and how wet it is
-pub record Kind : Type 0 where
-  pub opens : Bool
-  pub floor : Bool
-  pub wet : Wet
 
 -- a block that is not loaded is dry, not open, and floor
 abbrev pub unloaded : Kind
@@ -101,6 +96,16 @@ unfoldable pub can_drop : (ℕ → Kind) → World → ℕ → Pos → Bool
 can_drop k w zero p = can_pass k w p && has_hole k w p
 can_drop k w (suc n) p =
     can_pass k w p && (can_drop k w n (step p North) || can_drop k w n (step p South) || can_drop k w n (step p West) || can_drop k w n (step p East))
+
+-- what was found before, else this length if there is a walk of it
+abbrev pub found_or : Option ℕ → Bool → ℕ → Option ℕ
+found_or (Some m) b n = Some m
+found_or None b n = if b then Some n else None
+
+-- the least length of a walk, of those below n
+abbrev pub found_below : (ℕ → Kind) → World → Pos → ℕ → Option ℕ
+found_below k w p zero = None
+found_below k w p (suc n) = found_or (found_below k w p n) (can_drop k w n p) n
 
 -- each loaded block's number has a kind
 abbrev pub HasKinds : ℕ → World → Type 0

@@ -1,5 +1,5 @@
 -- A turn, as a function from a world to a world and the entries made.
-use Rattle.std.specs.Prelude.{ℕ, zero, suc, ◌+◌, ◌-◌, pos, nat_le, nat_lt, nat_eq, min, List, [], ◌∷◌, ◌++◌, Bool, true, false, not, ◌&&◌, ◌||◌, if◌then◌else◌, Option, Some, None}
+use Rattle.std.specs.Prelude.{ℕ, ◌+◌, ◌-◌, pos, nat_le, nat_lt, nat_eq, min, List, [], ◌∷◌, ◌++◌, Bool, true, false, not, ◌&&◌, ◌||◌, if◌then◌else◌, Option, Some, None}
 use Rattle.av_types.specs.declared.place.Pos.{Pos}
 use Rattle.av_types.specs.declared.water.Direction.{Direction}
 use Rattle.av_types.specs.declared.water.Direction.TheVariants.{North, South, West, East}
@@ -9,7 +9,8 @@ use Rattle.av_types.specs.declared.water.Wet.TheVariants.{Dry, Source, Flow, Fal
 use Rattle.av_cells.specs.Positions.{step, below, around}
 use Rattle.av_types.specs.Water.{amount_of, is_wet, is_source}
 use Rattle.av_cells.specs.World.{World, with_number, with_entry_if}
-use Rattle.av_cells.specs.Rule.{Kind, wet_at, can_enter, has_hole, sources_beside, incoming_at, can_drop}
+use Rattle.av_cells.specs.declared.kind.Kind.{Kind}
+use Rattle.av_cells.specs.Rule.{wet_at, can_enter, has_hole, sources_beside, incoming_at, found_below}
 
 -- a world, and the entries made so far
 pub record Change : Type 0 where
@@ -49,15 +50,8 @@ unfoldable pub set_awake : (ℕ → Kind) → ℕ → Pos → ℕ → Change →
 set_awake k now p n c = woken_all k now (around p) (change (with_number c.world p n) c.made)
 
 -- the drop of a block: the least n of 0 to 4 for which there is a walk
-abbrev pub least_drop : (ℕ → Kind) → World → Pos → ℕ → ℕ → Option ℕ
-least_drop k w p zero n = None
-least_drop k w p (suc fuel) n = if can_drop k w n p then Some n else least_drop k w p fuel (n + 1)
-
 unfoldable pub drop_of : (ℕ → Kind) → World → Pos → Option ℕ
-drop_of k w p = least_drop k w p 5 0
-
-abbrev pub directions : List Direction
-directions = North ∷ South ∷ West ∷ East ∷ []
+drop_of k w p = found_below k w p 5
 
 -- as a number: 5 for none
 abbrev pub rank_of : Option ℕ → ℕ
