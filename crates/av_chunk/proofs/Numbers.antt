@@ -1,5 +1,5 @@
 -- Sections' numbers, and the flags in which they are noted.
-use Rattle.std.proofs.Common.{◌≡◌, ◌≢◌, ℕ, ◌<◌, ◌≤◌, ℤ, pos, negsuc, Bool, true, false, true≢false, ◌||◌, Option, Some, None, List, [], ◌∷◌, length, get_or, slice_set, refl, sym, ap, ◌∙◌, arith, w8, FitsSigned, get_or-set_same, get_or-set_other, length-set}
+use Rattle.std.proofs.Common.{◌≡◌, ◌≢◌, ℕ, ◌<◌, ℤ, pos, negsuc, Bool, true, false, true≢false, ◌||◌, Option, Some, None, List, [], ◌∷◌, length, get_or, slice_set, refl, sym, ap, ◌∙◌, arith, w8, FitsSigned, get_or-set_same, get_or-set_other, length-set}
 use Rattle.std.proofs.lemmas.Int.{ints}
 use Rattle.std.specs.Ordering.{int_eq}
 use Rattle.std.specs.List.{list_any}

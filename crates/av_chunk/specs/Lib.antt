@@ -1,1 +1,4 @@
 pub mod Working
+pub mod Views
+pub mod Reading
+pub mod Block

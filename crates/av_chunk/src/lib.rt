@@ -1,6 +1,13 @@
 //! Chunks: what their tags denote, and how they are written (<https://minecraft.wiki/w/Chunk_format>).
 #![tactic(auto)]
 
+pub mod block;
+pub mod chunk;
+pub mod rest;
 mod shape;
 mod tags;
 mod water;
+
+pub use block::block_at;
+pub use chunk::{Chunk, Reading};
+pub use rest::{ChunkRest, OutsideSection, SectionTags};

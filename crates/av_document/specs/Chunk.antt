@@ -1,5 +1,5 @@
 -- What the tags of one chunk say (minecraft.wiki, "Chunk format").
-use Rattle.std.specs.Prelude.{◌≡◌, ℕ, ℤ, pos, List, [], ◌∷◌, ◌++◌, Option, Some, None, Bool, true, false, not, codes, ◌&&◌, ◌||◌, is_some, if◌then◌else◌, nat_lt, length}
+use Rattle.std.specs.Prelude.{◌≡◌, ℕ, ℤ, List, [], ◌∷◌, ◌++◌, Option, Some, None, Bool, true, false, not, codes, ◌&&◌, ◌||◌, is_some, if◌then◌else◌, nat_lt, length}
 use Rattle.std.specs.List.{flat_map, list_any}
 use Rattle.std.specs.Ordering.{int_eq}
 use Rattle.std.specs.Str.{bytes_eq}

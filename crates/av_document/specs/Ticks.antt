@@ -1,5 +1,5 @@
 -- The scheduled fluid ticks of a chunk, its `fluid_ticks` (minecraft.wiki, "Chunk format" and "Tick").
-use Rattle.std.specs.Prelude.{ℕ, ℤ, pos, ◌-ℤ◌, List, [], ◌∷◌, ◌++◌, Option, Some, None, Bool, true, false, not, if◌then◌else◌, codes, length, ◌==◌, ◌&&◌, ◌||◌, map}
+use Rattle.std.specs.Prelude.{ℕ, ℤ, List, [], ◌∷◌, ◌++◌, Option, Some, None, Bool, false, not, if◌then◌else◌, codes, length, ◌==◌, ◌&&◌, ◌||◌}
 use Rattle.std.specs.Ordering.{int_eq}
 use Rattle.std.specs.Str.{bytes_eq}
 use Rattle.av_types.specs.Division.{divided}
@@ -8,7 +8,7 @@ use Rattle.av_types.specs.declared.place.Pos.{Pos}
 use Rattle.av_types.specs.declared.place.ChunkPos.{ChunkPos}
 use Rattle.av_types.specs.declared.place.Height.{Height}
 use Rattle.av_types.specs.declared.tick.Entry.{Entry}
-use Rattle.av_nbt.specs.Nbt.{Nbt, NamedTag}
+use Rattle.av_nbt.specs.Nbt.{NamedTag}
 use Rattle.av_nbt.specs.Place.{tag_of}
 use Rattle.av_nbt.specs.Shape.{◌>>=◌, text_of, int_of, lacks, or_else}
 use Rattle.av_ticks.specs.Entries.{is_pending}

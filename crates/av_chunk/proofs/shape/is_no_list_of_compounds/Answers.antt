@@ -1,4 +1,4 @@
-use Rattle.std.proofs.Common.{◌≡◌, arith}
+use Rattle.std.proofs.Common.{arith}
 use Rattle.av_chunk.proofs.Numbers.{lacks-each}
 use Rattle.av_chunk.proofs.shape.is_no_list_of_compounds.Goals as goal
 

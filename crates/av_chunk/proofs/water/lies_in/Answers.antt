@@ -1,4 +1,4 @@
-use Rattle.std.proofs.Common.{◌≡◌, arith, rules, to_z-of_z, w32, FitsSigned}
+use Rattle.std.proofs.Common.{arith, rules, to_z-of_z, w32, FitsSigned}
 use Rattle.av_chunk.proofs.Heights.{section_test}
 use Rattle.av_chunk.proofs.water.lies_in.Goals as goal
 
