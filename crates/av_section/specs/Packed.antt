@@ -1,11 +1,11 @@
 -- A palette of numbers, and the indices of 4,096 places into it, packed into longs.
-use Rattle.std.specs.Prelude.{◌≡◌, ℕ, ◌<◌, ◌≤◌, ◌^◌, List, ℤ, length, nat_eq, slice_index}
-use Rattle.std.specs.List.{IsDistinct}
+use Rattle.std.specs.Prelude.{◌≡◌, ◌≢◌, ℕ, ◌<◌, ◌≤◌, ◌^◌, List, ℤ, length, All, AllPairs, slice_index}
 use Rattle.av_pack.specs.Packing.{bits_for, longs_for, packed_at}
 
 -- No number is in the palette twice, the indices have the bits that its length asks for, and each is below its length.
 pub record IsPacked (palette : List ℕ) (longs : List ℤ) (bits : ℕ) : Type 0 where
-  pub distinct : IsDistinct nat_eq palette
+  pub distinct : AllPairs (λ x y. x ≢ y) palette
+  pub small : All (λ number. number < 65536) palette
   pub few : length palette ≤ 65536
   pub bits_are : bits ≡ bits_for (length palette)
   pub low : 4 ≤ bits
@@ -17,3 +17,8 @@ pub record IsPacked (palette : List ℕ) (longs : List ℤ) (bits : ℕ) : Type 
 -- the number at a place
 abbrev pub number_in : List ℕ → List ℤ → ℕ → ℕ → ℕ
 number_in palette longs bits place = slice_index palette (packed_at bits longs place)
+
+-- the same indices with other bits each
+pub record IsRepacked (bits : ℕ) (old : List ℤ) (wider : ℕ) (new : List ℤ) : Type 0 where
+  pub count : length new ≡ longs_for wider
+  pub entries : (i : ℕ) → i < 4096 → packed_at wider new i ≡ packed_at bits old i

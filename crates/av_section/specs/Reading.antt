@@ -1,5 +1,5 @@
 -- What a reader of a section answers.
-use Rattle.std.specs.Prelude.{◌≡◌, ℕ, ◌<◌, List, [], ◌++◌, length, Option, Some, false, slice_get}
+use Rattle.std.specs.Prelude.{◌≡◌, ℕ, ◌<◌, ◌≤◌, List, [], ◌++◌, length, Option, Some, false, slice_get}
 use Rattle.av_types.specs.declared.fault.Fault.{Fault}
 use Rattle.av_types.specs.declared.fault.Fault.TheVariants.{OutOfMemory, TooManyStates}
 use Rattle.av_types.specs.Faults.{fault_number, least}
@@ -15,6 +15,7 @@ use Rattle.av_section.specs.Section.{number_at, is_pending}
 pub record IsRead (palette longs : Option Nbt) (old new : List BlockState) (s : Section) : Type 0 where
   pub no_fault : states_faults palette longs ≡ []
   pub states : new ≡ with_states old (read_states palette)
+  pub few : length new ≤ most_states
   pub numbers : (i : ℕ) → i < 4096 → slice_get new (number_at s i) ≡ Some (state_at palette longs i)
   pub pending : (i : ℕ) → is_pending s i ≡ false
 

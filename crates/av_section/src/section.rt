@@ -1,11 +1,13 @@
 //! A section in memory: numbers of block states by place.
-ghost use Rattle.std.specs.Prelude.{◌≡◌, ◌<◌, length, slice_index, Contains};
-ghost use Rattle.av_section.specs.Packed.{IsPacked};
+ghost use Rattle.std.specs.Prelude.{◌≡◌, ◌<◌, ◌≤◌, ◌^◌, ◌+◌, ◌↔◌, ◌++◌, [], ◌∷◌, ℕ, IsTrue, IfOk, IfErr, is_ok, if◌then◌else◌, length, slice_index, Contains};
+ghost use Rattle.av_types.specs.declared.fault.Fault.TheVariants.{OutOfMemory};
+ghost use Rattle.av_pack.specs.Packing.{bits_for, longs_for, packed_at};
+ghost use Rattle.av_section.specs.Packed.{IsPacked, IsRepacked};
 ghost use Rattle.std.proofs.Props.{props};
 
 use crate::places::PlaceSet;
 use av_nbt::Tag;
-use av_pack::{bits_for, get_at, longs_for, set_at};
+use av_pack::{bits_for, get_at, pack, set_at, unpack};
 use av_state::StateTable;
 use av_types::{Fault, Place};
 use std::alloc::Global;
@@ -32,10 +34,41 @@ fn index_of(palette: &[u16], number: u16) -> usize
     palette.iter().position(|known| *known == number).unwrap()
 }
 
+/// Whether a number is in the palette.
+fn has_number(palette: &[u16], number: u16) -> bool
+    ensures { IsTrue result ↔ Contains palette.now number }
+{
+    palette.contains(&number)
+}
+
+/// Puts a number at the end of the palette, which stays as it is where memory runs out.
+fn push_number(palette: &mut Vec<u16>, number: u16) -> Result<(), Fault>
+    ensures items { palette.new.items ≡ (if is_ok result then palette.old.items ++ number ∷ [] else palette.old.items) }
+    ensures err { IfErr result (λ e. e ≡ OutOfMemory) }
+{
+    palette.push(number)?;
+    Ok(())
+}
+
+/// The same indices with `wider` bits each.
+fn repacked(alloc: Global, longs: &[i64], bits: u32, wider: u32) -> Result<Vec<i64>, Fault>
+    requires low { 4 ≤ bits }
+    requires high { bits ≤ 16 }
+    requires wider_low { 4 ≤ wider }
+    requires wider_high { wider ≤ 16 }
+    requires count { length longs.now ≡ longs_for bits }
+    requires fit { (i : ℕ) → i < 4096 → packed_at bits longs.now i < 2 ^ wider }
+    ensures ok { IfOk result (λ new. IsRepacked bits longs.now wider new.items) }
+    ensures err { IfErr result (λ e. e ≡ OutOfMemory) }
+{
+    let indices = unpack(alloc, longs, bits)?;
+    let longs = pack(alloc, indices.as_slice(), wider)?;
+    Ok(longs)
+}
+
 impl Section {
-    ghost use Rattle.std.specs.Prelude.{All, true, false, option_map, IfOk, IfErr, OnOk};
+    ghost use Rattle.std.specs.Prelude.{All, true, false, option_map, OnOk};
     ghost use Rattle.std.specs.Option.{option_copied};
-    ghost use Rattle.av_types.specs.declared.fault.Fault.TheVariants.{OutOfMemory};
     ghost use Rattle.av_nbt.specs.View.{view};
     ghost use Rattle.av_state.specs.Table.{states};
     ghost use Rattle.av_section.specs.BlockStates.{palette_tag, data_tag};
@@ -105,9 +138,14 @@ impl Section {
         ensures ok { IfOk result (λ s. IsFilled s number) }
         ensures err { IfErr result (λ e. e ≡ OutOfMemory) }
     {
-        let _ = alloc;
-        let _ = number;
-        Err(Fault::OutOfMemory)
+        let mut palette = Vec::new(alloc);
+        palette.push(number)?;
+        Ok(Section {
+            palette,
+            longs: vec![in alloc; 0; 256]?,
+            bits: 4,
+            pending: PlaceSet::new(),
+        })
     }
 
     /// Sets a place to a number that was prepared, or that was read into the palette. Takes no memory.
@@ -126,8 +164,59 @@ impl Section {
         ensures ok { OnOk result (All (CanSet self.new) numbers.now) }
         ensures err { IfErr result (λ e. e ≡ OutOfMemory) }
     {
-        let _ = numbers;
-        Err(Fault::OutOfMemory)
+        for number in numbers {
+            self.prepare_one(*number)?;
+        }
+        Ok(())
+    }
+
+    /// Makes room for one number.
+    fn prepare_one(&mut self, number: u16) -> Result<(), Fault>
+        ensures same { KeepsPlaces self.old self.new }
+        ensures ok { OnOk result (CanSet self.new number) }
+        ensures err { IfErr result (λ e. e ≡ OutOfMemory) }
+    {
+        if has_number(self.palette.as_slice(), number) {
+            return Ok(());
+        }
+        let bits = bits_for(self.palette.len() + 1);
+        if bits == self.bits {
+            return self.append(number);
+        }
+        self.widen(number, bits)
+    }
+
+    /// Appends a new number to the palette, where the indices stay as wide as they are.
+    fn append(&mut self, number: u16) -> Result<(), Fault>
+        requires new { CanSet self.old number → ⊥ }
+        requires room { length self.old.palette.items < 65536 }
+        requires bits { bits_for (length self.old.palette.items + 1) ≡ self.old.bits }
+        ensures same { KeepsPlaces self.old self.new }
+        ensures ok { OnOk result (CanSet self.new number) }
+        ensures err { IfErr result (λ e. e ≡ OutOfMemory) }
+    {
+        push_number(&mut self.palette, number)?;
+        Ok(())
+    }
+
+    /// Appends a new number to the palette, with which the indices have so many bits.
+    fn widen(&mut self, number: u16, bits: u32) -> Result<(), Fault>
+        requires new { CanSet self.old number → ⊥ }
+        requires room { length self.old.palette.items < 65536 }
+        requires bits { bits ≡ bits_for (length self.old.palette.items + 1) }
+        requires low { 4 ≤ bits }
+        requires high { bits ≤ 16 }
+        requires enough { length self.old.palette.items + 1 ≤ 2 ^ bits }
+        ensures same { KeepsPlaces self.old self.new }
+        ensures ok { OnOk result (CanSet self.new number) }
+        ensures err { IfErr result (λ e. e ≡ OutOfMemory) }
+    {
+        let alloc = *self.longs.allocator();
+        let longs = repacked(alloc, self.longs.as_slice(), self.bits, bits)?;
+        push_number(&mut self.palette, number)?;
+        self.longs = longs;
+        self.bits = bits;
+        Ok(())
     }
 
     /// The palette tag, and the data tag where the palette has more than one entry. The palette has the states of the
