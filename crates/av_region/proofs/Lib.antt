@@ -1,3 +1,5 @@
 pub mod Numbers
 pub mod Positions
 pub mod Steps
+pub mod Written
+pub mod Law

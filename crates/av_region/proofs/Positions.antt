@@ -1,7 +1,7 @@
 -- The first element that passes, of a list that a function makes of another.
 use Rattle.std.proofs.Common.{◌≡◌, ◌∙◌, ℕ, ◌+◌, ◌<◌, ◌≤◌, Bool, true, false, not, cond, List, [], ◌∷◌, length, map, nat_lt, get_or, Some, None, refl, sym, ap, arith, below_more, inl, inr}
 use Rattle.std.specs.List.{prefix_len, position_or_len, position}
-use Rattle.std.proofs.lemmas.Bool.{lt-ltb, le-ltb, cases_order}
+use Rattle.std.proofs.lemmas.Bool.{lt-ltb, le-ltb, cases_lt}
 use Rattle.std.proofs.lemmas.List.{length-map, get_or_default}
 use Rattle.std.proofs.lemmas.List.Sums.{position_or_len_is, fails_before_first}
 
@@ -43,15 +43,14 @@ found_none p f (x ∷ xs) i below le =
     past_length (λ y. p (f y)) (x ∷ xs) (length (x ∷ xs)) (position_or_len_is (λ y. p (f y)) (x ∷ xs) (length (x ∷ xs)) x (omega arith) (λ k lt. below.fails k x (omega arith)) (λ lt. absurd (omega arith))) (omega arith)
     ∙ sym (position-map p f (x ∷ xs))
 
+-- where none passes
+pub none_passes : {X : Type 0} (q : X → Bool) (xs : List X) (i : ℕ) (d : X) → position q xs ≡ None → i < length xs → q (get_or xs i d) ≡ false
+none_passes q xs i d none lt = elim (cases_lt (position_or_len q xs) (length xs)) [
+  | inl below ↦ (
+      let found : Some (position_or_len q xs) ≡ position q xs = at_length q xs (position_or_len q xs) refl below in
+      absurd (cc (found, none)))
+  | inr above ↦ fails_before_first q xs i d (omega arith)
+]
+
 pub fails_everywhere : {X Y : Type 0} (p : Y → Bool) (f : X → Y) (xs : List X) (i : ℕ) (x : X) → position p (map f xs) ≡ None → i < length xs → x ≡ get_or xs i x → p (f x) ≡ false
-fails_everywhere p f xs i x none lt e =
-    elim (cases_order (position_or_len (λ y. p (f y)) xs) (length xs)) [
-      | inl same ↦ ap (λ y. p (f y)) e ∙ fails_before_first (λ y. p (f y)) xs i x (omega arith)
-      | inr o ↦ elim o [
-        | inl below ↦ (
-            let found : Some (position_or_len (λ y. p (f y)) xs) ≡ position (λ y. p (f y)) xs = at_length (λ y. p (f y)) xs (position_or_len (λ y. p (f y)) xs) refl below in
-            let missing : position (λ y. p (f y)) xs ≡ None = sym (position-map p f xs) ∙ none in
-            absurd (cc (found, missing)))
-        | inr above ↦ ap (λ y. p (f y)) e ∙ fails_before_first (λ y. p (f y)) xs i x (omega arith)
-      ]
-    ]
+fails_everywhere p f xs i x none lt e = ap (λ y. p (f y)) e ∙ none_passes (λ y. p (f y)) xs i x (sym (position-map p f xs) ∙ none) lt

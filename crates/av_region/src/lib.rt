@@ -2,8 +2,14 @@
 //! and timestamps, read and written.
 #![tactic(auto)]
 
+pub mod laws;
+mod layout;
 pub mod reading;
 pub mod writing;
 
+pub use laws::written_holds;
 pub use reading::Region;
 pub use writing::write;
+
+#[cfg(test)]
+mod tests;

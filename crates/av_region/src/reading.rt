@@ -6,23 +6,9 @@ ghost use Rattle.av_types.specs.declared.fault.Fault.{Fault};
 ghost use Rattle.av_types.specs.declared.fault.Fault.TheVariants.{ShortHeader};
 ghost use Rattle.av_region.specs.Region.{IsShort, number_at, location_of, stamp_of, IsAbsent, Holds, IsChunkFault};
 
+use crate::layout::{CHUNK_HEADER, EXTERNAL, HEADER, LOCATIONS, SECTOR, UNCOMPRESSED};
 use av_types::Fault;
 use byteorder::{BigEndian, ByteOrder};
-
-/// The bytes of a region's header: 1,024 locations and 1,024 timestamps, of 4 bytes each.
-const HEADER: usize = 8192;
-
-/// The bytes of all locations, after which the timestamps stand.
-const LOCATIONS: usize = 4096;
-
-/// The bytes of a sector.
-const SECTOR: usize = 4096;
-
-/// The type of a chunk that is not compressed.
-const UNCOMPRESSED: u8 = 3;
-
-/// The lowest type of a chunk whose payload is in a file of its own.
-const EXTERNAL: u8 = 128;
 
 /// A region file's bytes, which have a whole header or none at all. An index names a chunk, as
 /// `ChunkPos::index` gives it.
@@ -130,7 +116,7 @@ impl<'a> Region<'a> {
             return Err(Fault::BadLength);
         }
         match self.bytes[start + 4] {
-            UNCOMPRESSED => Ok(Some(&self.bytes[start + 5..start + 4 + length])),
+            UNCOMPRESSED => Ok(Some(&self.bytes[start + CHUNK_HEADER..start + 4 + length])),
             EXTERNAL.. => Err(Fault::ExternalChunk),
             kind => Err(Fault::Compression(kind)),
         }

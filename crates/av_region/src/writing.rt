@@ -3,27 +3,16 @@ ghost use Rattle.std.specs.Prelude.{◌≡◌, ◌+◌, ◌*◌, ◌<◌, ◌≤
 ghost use Rattle.av_types.specs.Places.{IsInLimits, chunk_at};
 ghost use Rattle.av_types.specs.declared.fault.Fault.TheVariants.{OutOfMemory, ChunkTooLarge};
 ghost use Rattle.std.specs.Int.{w32, to_be_bytes};
-ghost use Rattle.std.specs.List.{flat_map};
-ghost use Rattle.av_region.specs.Layout.{sectors_for, location_for, locations_from, chunk_bytes, region_bytes, is_too_large, first_too_large, WrittenHolds};
+ghost use Rattle.std.specs.List.{flat_map, sum_by};
+ghost use Rattle.av_region.specs.Layout.{sectors_for, location_for, locations_from, chunk_bytes, region_bytes, is_too_large, first_too_large};
 
+use crate::layout::{CHUNK_HEADER, HEADER, SECTOR, UNCOMPRESSED};
 use av_types::{Fault, RegionPos};
 use std::alloc::Global;
 use std::convert::AsSlice;
 
-/// The bytes of a sector.
-const SECTOR: usize = 4096;
-
-/// The bytes of a region's header: 1,024 locations and 1,024 timestamps, of 4 bytes each.
-const HEADER: usize = 8192;
-
 /// The sector after the header, where the first chunk stands.
 const FIRST_SECTOR: u32 = 2;
-
-/// The bytes of a chunk before its payload: the length field and the type.
-const CHUNK_HEADER: usize = 5;
-
-/// The type of a chunk that is not compressed.
-const UNCOMPRESSED: u8 = 3;
 
 /// The greatest number that a chunk's length field can have in 255 sectors, which is as many as a
 /// location can count.
@@ -80,7 +69,8 @@ fn location_for<P: AsSlice<u8>>(sector: u32, payload: &Option<P>) -> u32
 fn total_sectors<P: AsSlice<u8>>(payloads: &[Option<P>]) -> u32
     requires small { first_too_large (map (option_map P.items) payloads.now) ≡ None }
     requires count { length payloads.now ≤ 1024 }
-    ensures { result ≤ 255 * length payloads.now }
+    ensures value { result ≡ sum_by sectors_for (map (option_map P.items) payloads.now) }
+    ensures bound { result ≤ 255 * length payloads.now }
 {
     let mut sectors = 0;
     for payload in payloads {

@@ -1,0 +1,145 @@
+//! Regions by hand.
+use crate::{Region, write, written_holds};
+use av_types::{ChunkPos, Fault, RegionPos};
+use std::alloc::Global;
+use std::test::Fail;
+
+const REGION: RegionPos = RegionPos { x: -1, z: 2 };
+
+/// A region of one chunk at index 0, with that location and those bytes in the third sector.
+fn region_with(alloc: Global, location: [u8; 4], chunk: &[u8]) -> Result<Vec<u8>, Fault> {
+    let mut file = Vec::from_slice(alloc, &location)?;
+    file.resize(8192, 0)?;
+    file.extend_from_slice(chunk)?;
+    file.resize(12288, 0)?;
+    Ok(file)
+}
+
+#[test]
+fn empty_and_short_files(rt: HostRuntime) -> Result<(), Fail> {
+    for len in [0, 8192] {
+        let file = vec![in rt.alloc(); 0u8; len]?;
+        let region = Region::read(&file)?;
+        assert_eq!(rt; region.payload(0)?, None);
+        assert_eq!(rt; region.payload(1023)?, None);
+        assert_eq!(rt; region.stamp(1023), 0);
+    }
+    for len in [1, 100, 8191] {
+        let file = vec![in rt.alloc(); 0u8; len]?;
+        assert_eq!(rt; Region::read(&file).err(), Some(Fault::ShortHeader));
+    }
+    Ok(())
+}
+
+#[test]
+fn faults_of_a_chunk(rt: HostRuntime) -> Result<(), Fail> {
+    let cases: [([u8; 4], &[u8], Fault); 12] = [
+        ([0, 0, 1, 1], &[0, 0, 0, 5, 3], Fault::BadLocation),
+        ([0, 0, 2, 0], &[0, 0, 0, 5, 3], Fault::BadLocation),
+        ([0, 0, 3, 1], &[0, 0, 0, 5, 3], Fault::TruncatedChunk),
+        ([0, 0, 2, 1], &[0, 0, 16, 0, 3], Fault::TruncatedChunk),
+        // the length is an unsigned number
+        (
+            [0, 0, 2, 255],
+            &[255, 255, 255, 255, 3],
+            Fault::TruncatedChunk,
+        ),
+        ([0, 0, 2, 1], &[0, 0, 0, 0], Fault::BadLength),
+        ([0, 0, 1, 1], &[0, 0, 0, 0], Fault::BadLocation),
+        // the length comes before the type
+        ([0, 0, 2, 1], &[0, 0, 0, 0, 2], Fault::BadLength),
+        ([0, 0, 2, 1], &[0, 0, 0, 1, 0x83], Fault::ExternalChunk),
+        ([0, 0, 2, 1], &[0, 0, 0, 5, 2], Fault::Compression(2)),
+        ([0, 0, 2, 1], &[0, 0, 0, 5, 0], Fault::Compression(0)),
+        ([0, 0, 2, 1], &[0, 0, 0, 5, 127], Fault::Compression(127)),
+    ];
+    for (location, chunk, fault) in cases {
+        let file = region_with(rt.alloc(), location, chunk)?;
+        assert_eq!(rt; Region::read(&file)?.payload(0), Err(fault));
+    }
+    Ok(())
+}
+
+#[test]
+fn a_file_that_is_cut(rt: HostRuntime) -> Result<(), Fail> {
+    let chunk = [0, 0, 0, 5, 3, 10, 0, 0, 0];
+    let mut file = region_with(rt.alloc(), [0, 0, 2, 1], &chunk)?;
+    for len in [12288, 8201] {
+        file.truncate(len);
+        let region = Region::read(&file)?;
+        assert_eq!(rt; region.payload(0)?, Some([10, 0, 0, 0].as_slice()));
+    }
+    for len in [8200, 8195, 8192] {
+        file.truncate(len);
+        let region = Region::read(&file)?;
+        assert_eq!(rt; region.payload(0), Err(Fault::TruncatedChunk));
+    }
+    Ok(())
+}
+
+/// A written region of one chunk at index 0.
+fn written_alone(alloc: Global, payload: &[u8]) -> Result<Vec<u8>, Fault> {
+    let mut payloads: [Option<&[u8]>; 1024] = [None; 1024];
+    payloads[0] = Some(payload);
+    write(alloc, REGION, &payloads, &[0; 1024])
+}
+
+#[test]
+fn written_sizes(rt: HostRuntime) -> Result<(), Fail> {
+    // the payload's bytes, the file's bytes and the count of sectors
+    for (len, size, count) in [
+        (4091, 12288, 1),
+        (4092, 16384, 2),
+        (1_044_475, 1_052_672, 255),
+    ] {
+        let payload = vec![in rt.alloc(); 7u8; len]?;
+        let file = written_alone(rt.alloc(), &payload)?;
+        assert_eq!(rt; file.len(), size);
+        assert_eq!(rt; file.get(..4), Some([0, 0, 2, count].as_slice()));
+        assert_eq!(rt; Region::read(&file)?.payload(0)?, Some(payload.as_slice()));
+    }
+    Ok(())
+}
+
+#[test]
+fn chunks_without_gaps_and_every_timestamp(rt: HostRuntime) -> Result<(), Fail> {
+    let mut payloads: [Option<&[u8]>; 1024] = [None; 1024];
+    let mut stamps = [0; 1024];
+    stamps[1] = 0x0102_0304;
+    let file = write(rt.alloc(), REGION, &payloads, &stamps)?;
+    assert_eq!(rt; file.len(), 8192);
+    assert_eq!(rt; file.get(4100..4104), Some([1, 2, 3, 4].as_slice()));
+
+    payloads[0] = Some(&[5]);
+    payloads[1023] = Some(&[6]);
+    let file = write(rt.alloc(), REGION, &payloads, &stamps)?;
+    assert_eq!(rt; file.len(), 16384);
+    assert_eq!(rt; file.get(4092..4096), Some([0, 0, 3, 1].as_slice()));
+    assert_eq!(rt;
+        file.get(8192..8199),
+        Some([0, 0, 0, 2, 3, 5, 0].as_slice())
+    );
+    assert_eq!(rt;
+        file.get(12288..12295),
+        Some([0, 0, 0, 2, 3, 6, 0].as_slice())
+    );
+    let region = Region::read(&file)?;
+    assert_eq!(rt; region.payload(1)?, None);
+    assert_eq!(rt; region.stamp(1), 0x0102_0304);
+    written_holds();
+    Ok(())
+}
+
+#[test]
+fn a_chunk_of_256_sectors(rt: HostRuntime) -> Result<(), Fail> {
+    let payload = vec![in rt.alloc(); 0u8; 1_044_476]?;
+    let mut payloads: [Option<&[u8]>; 1024] = [None; 1024];
+    payloads[33] = Some(payload.as_slice());
+    payloads[1000] = Some(payload.as_slice());
+    // the chunk at index 33 is 1 to the east and 1 to the south of the region's first
+    assert_eq!(rt;
+        write(rt.alloc(), REGION, &payloads, &[0; 1024]).err(),
+        Some(Fault::ChunkTooLarge(ChunkPos { x: -31, z: 65 }))
+    );
+    Ok(())
+}
