@@ -1,1 +1,3 @@
 pub mod KindFacts
+pub mod Fronts
+pub mod MapFacts

@@ -48,10 +48,13 @@ abbrev pub properties_or_none : Option Data → Option (List Property)
 properties_or_none None = Some []
 properties_or_none (Some d) = as_table d >>= texts_of
 
+abbrev pub is_among : List ℕ → List (List ℕ) → Bool
+is_among k keys = list_any (λ known. bytes_eq known k) keys
+
 -- each key is one of these
 abbrev pub has_only : List (List ℕ) → Members → Bool
 has_only keys no_members = true
-has_only keys (member k d ms) = list_any (bytes_eq k) keys && has_only keys ms
+has_only keys (member k d ms) = is_among k keys && has_only keys ms
 
 -- ---- versions
 

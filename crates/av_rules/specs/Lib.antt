@@ -4,3 +4,4 @@ pub mod Views
 pub mod Tables
 pub mod KindLists
 pub mod Kinds
+pub mod Reads

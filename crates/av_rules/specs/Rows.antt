@@ -66,5 +66,8 @@ row_of t s =
     else with_soaking t.soaks s (first_row t.rows s)
 
 -- a soaked state is a source; any other is as wet as its name says
+abbrev pub wet_by : Row → BlockState → Wet
+wet_by row s = if row.wet then Source else wet_of s
+
 abbrev pub wet_in : BlockTable → BlockState → Wet
-wet_in t s = if (row_of t s).wet then Source else wet_of s
+wet_in t s = wet_by (row_of t s) s

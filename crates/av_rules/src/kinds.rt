@@ -3,11 +3,12 @@ ghost use Rattle.std.specs.Prelude.{◌≡◌, length, map};
 ghost use Rattle.av_state.specs.States.{state_of};
 ghost use Rattle.av_state.specs.Table.{states};
 ghost use Rattle.av_rules.specs.KindLists.{IsKindList};
+ghost use Rattle.av_rules.specs.Rows.{wet_by};
 ghost use Rattle.std.proofs.Props.{props};
 
 use crate::row::Row;
 use crate::rules::Rules;
-use av_state::StateTable;
+use av_state::{State, StateTable};
 use av_types::{Fault, Wet};
 use std::alloc::Global;
 
@@ -35,7 +36,15 @@ impl Kinds {
         ensures wets { IfOk result (λ k. wets_in k ≡ map (wet_in (table_of rules.now)) (states table)) }
         ensures memory { IfErr result (λ e. e ≡ OutOfMemory) }
     {
-        Err(Fault::OutOfMemory)
+        let mut rows = Vec::with_capacity(alloc, table.len())?;
+        let mut wets = Vec::with_capacity(alloc, table.len())?;
+        for number in 0..table.len() {
+            let state = table.state(number as u16);
+            let row = rules.row(state);
+            rows.push(row)?;
+            wets.push(wet_by(row, state))?;
+        }
+        Ok(Kinds { table, rows, wets })
     }
 
     /// The row of a number.
@@ -61,4 +70,11 @@ impl Kinds {
     {
         &self.table
     }
+}
+
+/// How wet a state is by its row and its name.
+fn wet_by(row: Row, state: &State) -> Wet
+    ensures { result ≡ wet_by row (state_of state.now) }
+{
+    if row.wet { Wet::Source } else { state.wet() }
 }

@@ -2,7 +2,8 @@
 ghost use Rattle.std.specs.Prelude.{◌≡◌, ◌≢◌, Some, None, IfOk, IfErr, IsUtf8};
 ghost use Rattle.av_types.specs.declared.fault.Fault.TheVariants.{OutOfMemory, BadTable};
 
-use crate::row::{Row, TableRow};
+use crate::document::read_table;
+use crate::row::{Row, TableRow, has_property};
 use av_state::State;
 use av_types::{Fault, Height};
 use std::alloc::Global;
@@ -10,14 +11,18 @@ use std::alloc::Global;
 /// A block table: rows in order, of which the first that is for a state counts, and the height of the world.
 #[derive(Drop)]
 pub struct Rules {
-    soaks: bool,
-    rows: Vec<TableRow>,
-    height: Height,
+    pub(crate) soaks: bool,
+    pub(crate) rows: Vec<TableRow>,
+    pub(crate) height: Height,
 }
+
+const WATERLOGGED: &[u8] = b"waterlogged";
+
+const TRUE: &[u8] = b"true";
 
 impl Rules {
     ghost use Rattle.av_state.specs.States.{state_of};
-    ghost use Rattle.av_rules.specs.Rows.{row_of};
+    ghost use Rattle.av_rules.specs.Rows.{row_of, first_row};
     ghost use Rattle.av_rules.specs.Tables.{table_of};
     ghost use Rattle.av_rules.specs.Document.{table_spelled};
 
@@ -28,7 +33,45 @@ impl Rules {
         ensures refused { IfErr result (λ e. e ≡ BadTable → IsUtf8 text.now → table_spelled text.now ≡ None) }
         ensures memory { IfErr result (λ e. e ≢ BadTable → e ≡ OutOfMemory) }
     {
-        Err(Fault::OutOfMemory)
+        match toml::table_from_slice(alloc, text) {
+            Ok(table) => read_table(alloc, &table),
+            Err(e) => {
+                if e.is_memory() {
+                    Err(Fault::OutOfMemory)
+                } else {
+                    Err(Fault::BadTable)
+                }
+            }
+        }
+    }
+
+    /// What the table says of a state. Air and water are built in; of any other the first row that is for it counts, and
+    /// one that no row is for is shut, a floor, and stops all light. Where the table lets states be soaked, one is so by
+    /// its row or by its property `waterlogged`.
+    pub fn row(&self, state: &State) -> Row
+        ensures { result ≡ row_of (table_of self.now) (state_of state.now) }
+    {
+        if state.is_air() {
+            return Row::AIR;
+        }
+        if state.is_water() {
+            return Row::WATER;
+        }
+        let mut row = self.first_row(state);
+        row.wet = self.soaks && (row.wet || has_property(state, WATERLOGGED, TRUE));
+        row
+    }
+
+    /// The first row that is for a state.
+    fn first_row(&self, state: &State) -> Row
+        ensures { result ≡ first_row (table_of self.now).rows (state_of state.now) }
+    {
+        for table_row in &self.rows {
+            if table_row.is_for(state) {
+                return table_row.row;
+            }
+        }
+        Row::SHUT
     }
 
     /// The height of the world.
