@@ -1,6 +1,7 @@
--- Reading from left to right.
-use Rattle.std.specs.Prelude.{◌≡◌, ℕ, zero, suc, ℤ, pos, negsuc, List, [], ◌∷◌, length, take, drop, Option, Some, None, Result, Ok, Err, Bool, true, false, nat_lt, ◌==◌, if◌then◌else◌}
-use Rattle.std.specs.Cmp.Lexicographic.{pointwise}
+-- Tags read from left to right, in the steps of the decoder. Its laws are tied to the spelling in proofs/.
+use Rattle.std.specs.Prelude.{◌≡◌, ℕ, zero, suc, ◌*◌, ◌/◌, ℤ, pos, negsuc, List, [], ◌∷◌, ◌++◌, length, map, take, drop, Option, Some, None, Result, Ok, Err, Bool, true, false, nat_lt, ◌==◌, if◌then◌else◌}
+use Rattle.std.specs.Simd.{first_chunks}
+use Rattle.std.specs.Str.{bytes_eq}
 use Rattle.std.specs.Int.{Width, w8, w16, w32, w64, byte_len, from_be_bytes, cast_signed}
 use Rattle.av_types.specs.declared.fault.Fault.{Fault}
 use Rattle.av_types.specs.declared.fault.Fault.TheVariants.{OutOfMemory, BadNbt}
@@ -8,12 +9,8 @@ use Rattle.av_nbt.specs.declared.tag.Kind.{Kind}
 use Rattle.av_nbt.specs.declared.tag.Kind.TheVariants as kind
 use Rattle.av_nbt.specs.Kinds.{kind_from, is_end, is_compound}
 use Rattle.av_nbt.specs.Nbt.{Nbt, byte, int16, int, int64, bits32, bits64, byte_array, text, list, compound, int_array, long_array, NamedTag, Document, items_of, members_of}
+use Rattle.av_nbt.specs.Shape.{◌>>=◌}
 use Rattle.av_nbt.specs.Spelling.{count_of}
-
-infixl 10 ◌>>=◌
-abbrev pub ◌>>=◌ : {A B : Type 0} → Option A → (A → Option B) → Option B
-None >>= f = None
-(Some x) >>= f = f x
 
 -- What a function returned, seen by view, is what reading gives, unless memory ran out.
 abbrev pub Fails : {Y : Type 0} → Fault → Option Y → Type 0
@@ -29,11 +26,22 @@ Gives view (Err e) read = Fails e read
 abbrev pub Field : Type 0 → Type 0
 Field X = Option (X × List ℕ)
 
-abbrev pub number_at : Width → List ℕ → Field ℕ
-number_at w bytes = if nat_lt (length bytes) (byte_len w) then None else Some (from_be_bytes w (take (byte_len w) bytes), drop (byte_len w) bytes)
+abbrev pub as_field : {X Y : Type 0} → (X → Y) → Field X → Field Y
+as_field f field = field >>= λ x. Some (f x.0, x.1)
 
-abbrev pub signed_at : Width → List ℕ → Field ℤ
-signed_at w bytes = if nat_lt (length bytes) (byte_len w) then None else Some (cast_signed w (from_be_bytes w (take (byte_len w) bytes)), drop (byte_len w) bytes)
+-- so many bytes
+unfoldable pub front_at : ℕ → List ℕ → Field (List ℕ)
+front_at n bytes = if nat_lt (length bytes) n then None else Some (take n bytes, drop n bytes)
+
+unfoldable pub number_at : Width → List ℕ → Field ℕ
+number_at w bytes = do
+  front ← front_at (byte_len w) bytes
+  Some (from_be_bytes w front.0, front.1)
+
+unfoldable pub signed_at : Width → List ℕ → Field ℤ
+signed_at w bytes = do
+  n ← number_at w bytes
+  Some (cast_signed w n.0, n.1)
 
 unfoldable pub kind_at : List ℕ → Field Kind
 kind_at [] = None
@@ -44,15 +52,63 @@ kind_at (b ∷ rest) = do
 unfoldable pub text_at : List ℕ → Field (List ℕ)
 text_at bytes = do
   n ← number_at w16 bytes
-  if nat_lt (length n.1) n.0 then None else Some (take n.0 n.1, drop n.0 n.1)
+  front_at n.0 n.1
+
+-- an array's length, which is not negative
+abbrev pub length_from : ℤ → Option ℕ
+length_from (pos n) = Some n
+length_from (negsuc n) = None
+
+unfoldable pub length_at : List ℕ → Field ℕ
+length_at bytes = do
+  z ← signed_at w32 bytes
+  n ← length_from z.0
+  Some (n, z.1)
+
+unfoldable pub list_length_at : List ℕ → Field ℕ
+list_length_at bytes = as_field count_of (signed_at w32 bytes)
+
+unfoldable pub bytes_at : List ℕ → Field (List ℕ)
+bytes_at bytes = do
+  n ← length_at bytes
+  front_at n.0 n.1
+
+-- the signed numbers that stand one after the other
+abbrev pub signed_in : Width → List ℕ → List ℤ
+signed_in w bytes = map (λ b. cast_signed w (from_be_bytes w b)) (first_chunks (byte_len w) (length bytes / byte_len w) bytes)
+
+unfoldable pub numbers_at : Width → List ℕ → Field (List ℤ)
+numbers_at w bytes = do
+  n ← length_at bytes
+  front ← front_at (n.0 * byte_len w) n.1
+  Some (signed_in w front.0, front.1)
+
+-- a tag that holds no tag
+unfoldable pub leaf_at : Kind → List ℕ → Field Nbt
+leaf_at kind.Byte bytes = as_field byte (signed_at w8 bytes)
+leaf_at kind.Short bytes = as_field int16 (signed_at w16 bytes)
+leaf_at kind.Int bytes = as_field int (signed_at w32 bytes)
+leaf_at kind.Long bytes = as_field int64 (signed_at w64 bytes)
+leaf_at kind.Float bytes = as_field bits32 (number_at w32 bytes)
+leaf_at kind.Double bytes = as_field bits64 (number_at w64 bytes)
+leaf_at kind.ByteArray bytes = as_field byte_array (bytes_at bytes)
+leaf_at kind.Text bytes = as_field text (text_at bytes)
+leaf_at kind.IntArray bytes = as_field int_array (numbers_at w32 bytes)
+leaf_at kind.LongArray bytes = as_field long_array (numbers_at w64 bytes)
+leaf_at _ bytes = None
 
 -- so many fields, one after the other
-unfoldable pub repeat_at : {X : Type 0} → (List ℕ → Field X) → ℕ → List ℕ → Field (List X)
+abbrev pub repeat_at : {X : Type 0} → (List ℕ → Field X) → ℕ → List ℕ → Field (List X)
 repeat_at read zero bytes = Some ([], bytes)
 repeat_at read (suc n) bytes = do
   first ← read bytes
   others ← repeat_at read n first.1
   Some (first.0 ∷ others.0, others.1)
+
+-- fields, after those that were read before them
+abbrev pub with_front : {X : Type 0} → List X → Field (List X) → Field (List X)
+with_front xs None = None
+with_front xs (Some field) = Some (xs ++ field.0, field.1)
 
 abbrev pub Reader : Type 0
 Reader = Kind → List ℕ → Field Nbt
@@ -60,27 +116,27 @@ Reader = Kind → List ℕ → Field Nbt
 unfoldable pub list_at : Reader → List ℕ → Field Nbt
 list_at read bytes = do
   e ← kind_at bytes
-  n ← signed_at w32 e.1
-  ts ← repeat_at (read e.0) (count_of n.0) n.1
+  n ← list_length_at e.1
+  ts ← repeat_at (read e.0) n.0 n.1
   Some (list e.0 (items_of ts.0), ts.1)
 
 -- a named tag of a kind
-unfoldable pub entry_at : Reader → Kind → List ℕ → Field NamedTag
-entry_at read k bytes = do
+unfoldable pub named_at : Reader → Kind → List ℕ → Field NamedTag
+named_at read k bytes = do
   name ← text_at bytes
   tag ← read k name.1
   Some (record { name = name.0; tag = tag.0 }, tag.1)
 
 -- named tags up to the end, of which there are fewer than n
-unfoldable pub entries_at : Reader → ℕ → List ℕ → Field (List NamedTag)
-entries_at read zero bytes = None
-entries_at read (suc n) bytes = do
+abbrev pub until_end : Reader → ℕ → List ℕ → Field (List NamedTag)
+until_end read zero bytes = None
+until_end read (suc n) bytes = do
   k ← kind_at bytes
-  if is_end k.0 then Some ([], k.1) else (entry_at read k.0 k.1 >>= λ first. entries_at read n first.1 >>= λ others. Some (first.0 ∷ others.0, others.1))
+  if is_end k.0 then Some ([], k.1) else (named_at read k.0 k.1 >>= λ first. until_end read n first.1 >>= λ others. Some (first.0 ∷ others.0, others.1))
 
 abbrev pub has_name : List ℕ → List NamedTag → Bool
 has_name n [] = false
-has_name n (m ∷ ms) = if pointwise ◌==◌ n m.name then true else has_name n ms
+has_name n (m ∷ ms) = if bytes_eq n m.name then true else has_name n ms
 
 -- no name is there twice
 abbrev pub are_distinct : List NamedTag → Bool
@@ -90,70 +146,14 @@ are_distinct (m ∷ ms) = if has_name m.name ms then false else are_distinct ms
 -- the tags of a compound
 unfoldable pub members_at : Reader → List ℕ → Field (List NamedTag)
 members_at read bytes = do
-  ms ← entries_at read (length bytes) bytes
+  ms ← until_end read (length bytes) bytes
   if are_distinct ms.0 then Some ms else None
 
 unfoldable pub compound_at : Reader → List ℕ → Field Nbt
-compound_at read bytes = do
-  ms ← members_at read bytes
-  Some (compound (members_of ms.0), ms.1)
-
--- numbers of a width, after their count
-abbrev pub counted_at : Width → ℤ → List ℕ → Field (List ℤ)
-counted_at w (pos count) bytes = repeat_at (signed_at w) count bytes
-counted_at w (negsuc m) bytes = None
-
-unfoldable pub numbers_at : Width → List ℕ → Field (List ℤ)
-numbers_at w bytes = do
-  n ← signed_at w32 bytes
-  counted_at w n.0 n.1
-
--- so many bytes
-abbrev pub front_at : ℤ → List ℕ → Field (List ℕ)
-front_at (pos count) bytes = if nat_lt (length bytes) count then None else Some (take count bytes, drop count bytes)
-front_at (negsuc m) bytes = None
-
-unfoldable pub bytes_at : List ℕ → Field (List ℕ)
-bytes_at bytes = do
-  n ← signed_at w32 bytes
-  front_at n.0 n.1
-
--- a tag that holds no tag
-unfoldable pub leaf_at : Reader
-leaf_at kind.Byte bytes = do
-  y ← signed_at w8 bytes
-  Some (byte y.0, y.1)
-leaf_at kind.Short bytes = do
-  z ← signed_at w16 bytes
-  Some (int16 z.0, z.1)
-leaf_at kind.Int bytes = do
-  z ← signed_at w32 bytes
-  Some (int z.0, z.1)
-leaf_at kind.Long bytes = do
-  z ← signed_at w64 bytes
-  Some (int64 z.0, z.1)
-leaf_at kind.Float bytes = do
-  n ← number_at w32 bytes
-  Some (bits32 n.0, n.1)
-leaf_at kind.Double bytes = do
-  n ← number_at w64 bytes
-  Some (bits64 n.0, n.1)
-leaf_at kind.ByteArray bytes = do
-  s ← bytes_at bytes
-  Some (byte_array s.0, s.1)
-leaf_at kind.Text bytes = do
-  s ← text_at bytes
-  Some (text s.0, s.1)
-leaf_at kind.IntArray bytes = do
-  zs ← numbers_at w32 bytes
-  Some (int_array zs.0, zs.1)
-leaf_at kind.LongArray bytes = do
-  zs ← numbers_at w64 bytes
-  Some (long_array zs.0, zs.1)
-leaf_at _ bytes = None
+compound_at read bytes = as_field (λ ms. compound (members_of ms)) (members_at read bytes)
 
 -- a tag in which lists and compounds nest at most so deep
-unfoldable pub payload_at : ℕ → Reader
+abbrev pub payload_at : ℕ → Reader
 payload_at zero k bytes = leaf_at k bytes
 payload_at (suc depth) kind.List bytes = list_at (payload_at depth) bytes
 payload_at (suc depth) kind.Compound bytes = compound_at (payload_at depth) bytes

@@ -2,6 +2,7 @@
 #![tactic(auto)]
 
 pub mod members;
+mod fields;
 pub mod reader;
 pub mod tag;
 pub mod writer;

@@ -91,6 +91,25 @@ impl Kind {
     }
 }
 
+impl Kind {
+    ghost use Rattle.std.specs.Prelude.{◌≡◌};
+    ghost use Rattle.av_nbt.specs.Kinds.{is_end, is_compound};
+
+    /// Whether it is `End`.
+    pub fn is_end(self) -> bool
+        ensures { result ≡ is_end self }
+    {
+        matches!(self, Kind::End)
+    }
+
+    /// Whether it is `Compound`.
+    pub fn is_compound(self) -> bool
+        ensures { result ≡ is_compound self }
+    {
+        matches!(self, Kind::Compound)
+    }
+}
+
 impl Tag {
     ghost use Rattle.std.specs.Prelude.{◌≡◌, option_map};
     ghost use Rattle.std.specs.Option.{option_copied};

@@ -1,0 +1,80 @@
+-- The loops of reading: one more field after those that were read.
+use Rattle.std.proofs.Common.{◌≡◌, ℕ, suc, ◌+◌, ◌-◌, ◌<◌, List, [], ◌∷◌, ◌++◌, Option, Some, None, Result, Ok, Err, refl, sym, ap, ◌∙◌, append_assoc, append-nil, arith, Bool, true, false}
+use Rattle.std.specs.Prelude.{IsErrAnd}
+use Rattle.av_types.specs.declared.fault.Fault.{Fault}
+use Rattle.av_types.specs.declared.fault.Fault.TheVariants.{OutOfMemory, BadNbt}
+use Rattle.av_nbt.specs.declared.tag.Kind.{Kind}
+use Rattle.av_nbt.specs.Kinds.{is_end}
+use Rattle.av_nbt.specs.Nbt.{NamedTag}
+use Rattle.av_nbt.specs.Shape.{◌>>=◌}
+use Rattle.av_nbt.specs.Reading.{Fails, Gives, Field, Reader, kind_at, named_at, repeat_at, until_end, with_front}
+
+-- a fault of a step is a fault of the whole
+pub fails_whole : {A B : Type 0} (e : Fault) (step : Option A) (whole : Option B) → (step ≡ None → whole ≡ None) → Fails e step → Fails e whole
+fails_whole OutOfMemory step whole passes h = tt
+fails_whole BadNbt step whole passes h = passes h
+fails_whole _ step whole passes h = absurd h
+
+-- a fault that is passed on
+pub gives_err : {X Y : Type 0} (view : X → Y) (r : Result X Fault) (e : Fault) (whole : Option Y) → IsErrAnd r (λ f. f ≡ e) → Fails e whole → Gives view r whole
+gives_err view (Ok x) e whole is h = absurd is
+gives_err view (Err f) e whole is h = rw is h
+
+-- a field moves from those that are left to those that were read
+front_moves : {X : Type 0} (xs : List X) (x : X) (others : Field (List X)) → with_front (xs ++ x ∷ []) others ≡ with_front xs (others >>= λ f. Some (x ∷ f.0, f.1))
+front_moves xs x None = refl
+front_moves xs x (Some f) = ap (λ ys. Some (ys, f.1)) (append_assoc xs (x ∷ []) f.0)
+
+module _ {X : Type 0} (read : List ℕ → Field X) where
+  repeat_next : (n : ℕ) (rest after : List ℕ) (x : X) → read rest ≡ Some (x, after) → repeat_at read (suc n) rest ≡ (repeat_at read n after >>= λ f. Some (x ∷ f.0, f.1))
+  repeat_next n rest after x step = rw step refl
+
+  repeat_none : (n : ℕ) (rest : List ℕ) → read rest ≡ None → repeat_at read (suc n) rest ≡ None
+  repeat_none n rest step = rw step refl
+
+  module _ (xs : List X) (count i : ℕ) (rest : List ℕ) (whole : Field (List X)) where
+    pub repeat_more : (after : List ℕ) (x : X) → i < count → read rest ≡ Some (x, after) → with_front xs (repeat_at read (count - i) rest) ≡ whole
+      → with_front (xs ++ x ∷ []) (repeat_at read (count - (i + 1)) after) ≡ whole
+    repeat_more after x more step so_far =
+        let left : suc (count - (i + 1)) ≡ count - i = omega arith in
+        front_moves xs x (repeat_at read (count - (i + 1)) after) ∙ ap (λ o. with_front xs o) (sym (repeat_next (count - (i + 1)) rest after x step))
+        ∙ ap (λ n. with_front xs (repeat_at read n rest)) left ∙ so_far
+
+    pub repeat_stops : i < count → with_front xs (repeat_at read (count - i) rest) ≡ whole → read rest ≡ None → whole ≡ None
+    repeat_stops more so_far step =
+        let left : count - i ≡ suc (count - (i + 1)) = omega arith in
+        sym so_far ∙ ap (λ n. with_front xs (repeat_at read n rest)) left ∙ ap (λ o. with_front xs o) (repeat_none (count - (i + 1)) rest step)
+
+module _ (read : Reader) where
+  until_next : (n : ℕ) (rest after next : List ℕ) (k : Kind) (m : NamedTag) → kind_at rest ≡ Some (k, after) → is_end k ≡ false → named_at read k after ≡ Some (m, next)
+    → until_end read (suc n) rest ≡ (until_end read n next >>= λ f. Some (m ∷ f.0, f.1))
+  until_next n rest after next k m kind more tag = rw (kind, more, tag) refl
+
+  until_last : (n : ℕ) (rest after : List ℕ) (k : Kind) → kind_at rest ≡ Some (k, after) → is_end k ≡ true → until_end read (suc n) rest ≡ Some ([], after)
+  until_last n rest after k kind ends = rw (kind, ends) refl
+
+  until_no_kind : (n : ℕ) (rest : List ℕ) → kind_at rest ≡ None → until_end read (suc n) rest ≡ None
+  until_no_kind n rest kind = rw kind refl
+
+  until_no_tag : (n : ℕ) (rest after : List ℕ) (k : Kind) → kind_at rest ≡ Some (k, after) → is_end k ≡ false → named_at read k after ≡ None → until_end read (suc n) rest ≡ None
+  until_no_tag n rest after k kind more tag = rw (kind, more, tag) refl
+
+  module _ (xs : List NamedTag) (count i : ℕ) (rest : List ℕ) (whole : Field (List NamedTag)) (more : i < count) (so_far : with_front xs (until_end read (count - i) rest) ≡ whole) where
+    opened : (o : Field (List NamedTag)) → until_end read (suc (count - (i + 1))) rest ≡ o → with_front xs o ≡ whole
+    opened o is =
+        let left : suc (count - (i + 1)) ≡ count - i = omega arith in
+        ap (λ f. with_front xs f) (sym is) ∙ ap (λ n. with_front xs (until_end read n rest)) left ∙ so_far
+
+    pub named_more : (after next : List ℕ) (k : Kind) (m : NamedTag) → kind_at rest ≡ Some (k, after) → is_end k ≡ false → named_at read k after ≡ Some (m, next)
+      → with_front (xs ++ m ∷ []) (until_end read (count - (i + 1)) next) ≡ whole
+    named_more after next k m kind going tag =
+        front_moves xs m (until_end read (count - (i + 1)) next) ∙ opened (until_end read (count - (i + 1)) next >>= λ f. Some (m ∷ f.0, f.1)) (until_next (count - (i + 1)) rest after next k m kind going tag)
+
+    pub named_end : (after : List ℕ) (k : Kind) → kind_at rest ≡ Some (k, after) → is_end k ≡ true → whole ≡ Some (xs, after)
+    named_end after k kind ends = sym (opened (Some ([], after)) (until_last (count - (i + 1)) rest after k kind ends)) ∙ ap (λ ys. Some (ys, after)) (append-nil xs)
+
+    pub named_no_kind : kind_at rest ≡ None → whole ≡ None
+    named_no_kind kind = sym (opened None (until_no_kind (count - (i + 1)) rest kind))
+
+    pub named_no_tag : (after : List ℕ) (k : Kind) → kind_at rest ≡ Some (k, after) → is_end k ≡ false → named_at read k after ≡ None → whole ≡ None
+    named_no_tag after k kind going tag = sym (opened None (until_no_tag (count - (i + 1)) rest after k kind going tag))
