@@ -1,4 +1,7 @@
 pub mod Trees
+mod Taken
+mod TakenTags
+mod Bytes
 mod Loops
 pub mod Views
 pub mod Names
