@@ -1,6 +1,8 @@
 pub mod Trees
 mod Taken
 mod TakenTags
+mod Again
+mod AgainTags
 mod Bytes
 mod Loops
 pub mod Views
