@@ -20,7 +20,7 @@ items_of_in : (ts : Items) → items_of (items_in ts) ≡ ts
 items_of_in no_items = refl
 items_of_in (item t ts) = ap (λ us. item t us) (items_of_in ts)
 
-members_of_in : (ms : Members) → members_of (members_in ms) ≡ ms
+pub members_of_in : (ms : Members) → members_of (members_in ms) ≡ ms
 members_of_in no_members = refl
 members_of_in (member n t ms) = ap (λ ns. member n t ns) (members_of_in ms)
 
@@ -33,7 +33,7 @@ name_is_new n (member m t ms) (other, h) =
     | false ↦ λ _. name_is_new n ms h
     ] refl
 
-names_differ : (ms : Members) → AreDistinct ms → are_distinct (members_in ms) ≡ true
+pub names_differ : (ms : Members) → AreDistinct ms → are_distinct (members_in ms) ≡ true
 names_differ no_members h = refl
 names_differ (member n t ms) (new, h) = rw (name_is_new n ms new) (names_differ ms h)
 
@@ -68,7 +68,7 @@ until_step read fuel k bytes b c rest m ms kind more tag others = rw (kind, more
 until_last : (read : Reader) (fuel : ℕ) (rest : List ℕ) → until_end read (suc fuel) (0 ∷ rest) ≡ Some ([], rest)
 until_last read fuel rest = rw (kind_again kind.End rest) refl
 
-members_step : (read : Reader) (bytes rest : List ℕ) (ms : List NamedTag) → until_end read (length bytes) bytes ≡ Some (ms, rest) → are_distinct ms ≡ true → members_at read bytes ≡ Some (ms, rest)
+pub members_step : (read : Reader) (bytes rest : List ℕ) (ms : List NamedTag) → until_end read (length bytes) bytes ≡ Some (ms, rest) → are_distinct ms ≡ true → members_at read bytes ≡ Some (ms, rest)
 unfolding members_at
 members_step read bytes rest ms tags distinct = rw (tags, distinct) refl
 
@@ -143,7 +143,7 @@ mutual
       let read = ap (λ k. payload_at d k (a ++ (b ++ rest))) (sym kind) ∙ tag_again t d a (b ++ rest) first inner in
       rw (split, read, items_again ts e d b rest h kinds others) refl
 
-  members_again : (ms : Members) (limit fuel : ℕ) (front rest : List ℕ) → SpellsMembers ms front → members_depth ms ≤ limit → length front ≤ fuel → until_end (payload_at limit) fuel (front ++ rest) ≡ Some (members_in ms, rest)
+  pub members_again : (ms : Members) (limit fuel : ℕ) (front rest : List ℕ) → SpellsMembers ms front → members_depth ms ≤ limit → length front ≤ fuel → until_end (payload_at limit) fuel (front ++ rest) ≡ Some (members_in ms, rest)
   members_again no_members d zero front rest h shallow enough = absurd (omega (arith, enough, ap length h))
   members_again no_members d (suc fuel) front rest h shallow enough = ap (λ f. until_end (payload_at d) (suc fuel) (f ++ rest)) h ∙ until_last (payload_at d) fuel rest
   members_again (member n t ms) d zero front rest (name, a, b, parts, named, first, h) shallow enough = absurd (omega (arith, enough, ap length parts))

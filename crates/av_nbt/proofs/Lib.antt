@@ -3,6 +3,7 @@ mod Taken
 mod TakenTags
 mod Again
 mod AgainTags
+mod LawProofs
 mod Bytes
 mod Loops
 pub mod Views

@@ -2,6 +2,7 @@
 ghost use Rattle.std.specs.Prelude.{◌≡◌, IfErr, IfOk, length};
 ghost use Rattle.av_nbt.specs.View.{document, view, views, named_view, named_views};
 ghost use Rattle.av_nbt.specs.Spelling.{SpellsDocument};
+ghost use Rattle.av_nbt.specs.Laws.{OneTag, OneDocument};
 ghost use Rattle.av_nbt.specs.Outcome.{IsRefusal};
 ghost use Rattle.av_nbt.specs.Reading.{Gives, leaf_at, list_at, named_at, compound_at, members_at, until_end, payload_at, repeat_at, are_distinct, document_at};
 
@@ -193,7 +194,13 @@ pub fn decode(alloc: Global, bytes: &[u8]) -> Result<Root, Fault>
     ensures spelled { IfOk result (λ root. SpellsDocument (document root) bytes.now) }
     ensures refused { IfErr result (λ e. IsRefusal e bytes.now) }
 {
-    let _ = alloc;
-    let _ = bytes;
-    Err(Fault::OutOfMemory)
+    root(alloc, bytes)
+}
+
+/// Bytes spell at most one tag of a kind and at most one document, and no spelling begins a longer one.
+/// A law of the format, which takes no value.
+pub fn spelling_is_unique()
+    ensures tag { OneTag }
+    ensures document { OneDocument }
+{
 }
