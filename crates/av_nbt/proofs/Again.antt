@@ -1,5 +1,5 @@
 -- What is spelled at the front of bytes is read from them, whatever follows: fields.
-use Rattle.std.proofs.Common.{◌≡◌, ℕ, ℤ, pos, zero, suc, ◌*◌, ◌/◌, ◌+◌, ◌<◌, ◌≤◌, ◌^◌, List, [], ◌∷◌, ◌++◌, length, map, take, drop, Option, Some, None, refl, sym, ap, ◌∙◌, subst, arith, append_assoc}
+use Rattle.std.proofs.Common.{◌≡◌, ℕ, ℤ, pos, ◌*◌, ◌/◌, ◌<◌, ◌≤◌, ◌^◌, List, [], ◌∷◌, ◌++◌, length, map, take, drop, Some, refl, sym, ap, ◌∙◌, arith, append_assoc}
 use Rattle.std.specs.Simd.{first_chunks}
 use Rattle.std.specs.Int.{Width, w16, w32, byte_len, to_be_bytes, from_be_bytes, cast_signed, cast_unsigned}
 use Rattle.std.proofs.Math.Seq.{take-append_seam, drop-append_seam}
@@ -12,7 +12,7 @@ use Rattle.av_nbt.specs.declared.tag.Kind.{Kind}
 use Rattle.av_nbt.specs.declared.tag.Kind.TheVariants as kind
 use Rattle.av_nbt.specs.Kinds.{kind_number}
 use Rattle.av_nbt.specs.Spelling.{SpellsNumber, SpellsNumbers, SpellsBits, SpellsText, count_of}
-use Rattle.av_nbt.specs.Reading.{Field, front_at, number_at, signed_at, kind_at, text_at, length_at, list_length_at, bytes_at, signed_in, numbers_at}
+use Rattle.av_nbt.specs.Reading.{Field, front_at, number_at, signed_at, kind_at, text_at, length_at, list_length_at, bytes_at, numbers_at}
 use Rattle.av_nbt.proofs.Bytes.{Codes, codes_16, codes_32}
 use Rattle.av_nbt.proofs.Taken.{SpellsByteArray, SpellsArray}
 
@@ -77,7 +77,7 @@ bytes_again s front rest (len, parts, h) =
 
 -- numbers are read again from their bytes, and these are so many
 numbers_read : (w : Width) → Codes w → (zs : List ℤ) (bs : List ℕ) → SpellsNumbers w zs bs
-  → (length bs ≡ length zs * byte_len w) × (map (λ b. cast_signed w (from_be_bytes w b)) (first_chunks (byte_len w) (length zs) bs) ≡ zs)
+    → (length bs ≡ length zs * byte_len w) × (map (λ b. cast_signed w (from_be_bytes w b)) (first_chunks (byte_len w) (length zs) bs) ≡ zs)
 numbers_read w codes [] bs h = (omega (arith, ap length h), refl)
 numbers_read w codes (z ∷ zs) bs (front, rest, parts, first, h) =
     let n = cast_unsigned w z in

@@ -1,17 +1,17 @@
 -- What is spelled at the front of bytes is read from them, whatever follows: tags.
-use Rattle.std.proofs.Common.{◌≡◌, ℕ, ℤ, pos, zero, suc, ◌+◌, ◌<◌, ◌≤◌, List, [], ◌∷◌, ◌++◌, length, Option, Some, None, Bool, true, false, refl, sym, ap, ◌∙◌, subst, arith, append_assoc, append-nil, max}
-use Rattle.std.specs.Prelude.{if◌then◌else◌, ◌==◌}
+use Rattle.std.proofs.Common.{◌≡◌, ℕ, zero, suc, ◌≤◌, List, [], ◌∷◌, ◌++◌, length, Some, true, false, refl, sym, ap, ◌∙◌, arith, append_assoc}
+use Rattle.std.specs.Prelude.{if◌then◌else◌}
 use Rattle.std.specs.Str.{bytes_eq}
 use Rattle.std.specs.Int.{w8, w16, w32, w64}
 use Rattle.std.proofs.lemmas.Slice.Eq.{bytes_eq-Decides}
 use Rattle.std.proofs.lemmas.List.{length-append}
 use Rattle.av_nbt.specs.declared.tag.Kind.{Kind}
 use Rattle.av_nbt.specs.declared.tag.Kind.TheVariants as kind
-use Rattle.av_nbt.specs.Kinds.{kind_number, is_end, is_compound}
-use Rattle.av_nbt.specs.Nbt.{Nbt, byte, int16, int, int64, bits32, bits64, byte_array, text, list, compound, int_array, long_array, Items, no_items, item, Members, no_members, member, NamedTag, Document, kind_of, items_of, members_of, item_count, IsAbsent, AreOf, AreDistinct, depth, items_depth, members_depth}
-use Rattle.av_nbt.specs.Shape.{◌>>=◌, items_in, members_in}
-use Rattle.av_nbt.specs.Spelling.{Spells, SpellsItems, SpellsMembers, SpellsNumber, SpellsBits, SpellsText, SpellsDocument, count_of}
-use Rattle.av_nbt.specs.Reading.{Field, Reader, as_field, number_at, signed_at, kind_at, text_at, list_length_at, bytes_at, numbers_at, leaf_at, repeat_at, list_at, named_at, until_end, has_name, are_distinct, members_at, compound_at, payload_at, document_at}
+use Rattle.av_nbt.specs.Kinds.{kind_number, is_end}
+use Rattle.av_nbt.specs.Nbt.{Nbt, byte, int16, int, int64, bits32, bits64, byte_array, text, list, compound, int_array, long_array, Items, no_items, item, Members, no_members, member, NamedTag, kind_of, items_of, members_of, item_count, IsAbsent, AreOf, AreDistinct, depth, items_depth, members_depth}
+use Rattle.av_nbt.specs.Shape.{items_in, members_in}
+use Rattle.av_nbt.specs.Spelling.{Spells, SpellsItems, SpellsMembers, count_of}
+use Rattle.av_nbt.specs.Reading.{Reader, kind_at, text_at, list_length_at, leaf_at, repeat_at, list_at, named_at, until_end, has_name, are_distinct, members_at, compound_at, payload_at}
 use Rattle.av_nbt.proofs.Bytes.{codes_8, codes_16, codes_32, codes_64}
 use Rattle.av_nbt.proofs.Again.{number_again, signed_again, kind_again, text_again, list_length_again, bytes_again, numbers_again}
 
@@ -29,8 +29,8 @@ name_is_new : (n : List ℕ) (ms : Members) → IsAbsent n ms → has_name n (me
 name_is_new n no_members h = refl
 name_is_new n (member m t ms) (other, h) =
     elim (bytes_eq n m) as (λ b. bytes_eq n m ≡ b → (if b then true else has_name n (members_in ms)) ≡ false) [
-      true ↦ λ same. absurd (other ((bytes_eq-Decides n m).0 same))
-    | false ↦ λ _. name_is_new n ms h
+      | true ↦ λ same. absurd (other ((bytes_eq-Decides n m).0 same))
+      | false ↦ λ _. name_is_new n ms h
     ] refl
 
 pub names_differ : (ms : Members) → AreDistinct ms → are_distinct (members_in ms) ≡ true
@@ -53,7 +53,7 @@ not_end (long_array zs) = refl
 
 -- the steps of a List, of a named tag and of a Compound
 list_step : (read : Reader) (bytes b c rest : List ℕ) (e : Kind) (n : ℕ) (ts : List Nbt) → kind_at bytes ≡ Some (e, b) → list_length_at b ≡ Some (n, c) → repeat_at (read e) n c ≡ Some (ts, rest)
-  → list_at read bytes ≡ Some (list e (items_of ts), rest)
+    → list_at read bytes ≡ Some (list e (items_of ts), rest)
 unfolding list_at
 list_step read bytes b c rest e n ts kind size tags = rw (kind, size, tags) refl
 
@@ -62,7 +62,7 @@ unfolding named_at
 named_step read k bytes b rest n t name tag = rw (name, tag) refl
 
 until_step : (read : Reader) (fuel : ℕ) (k : Kind) (bytes b c rest : List ℕ) (m : NamedTag) (ms : List NamedTag) → kind_at bytes ≡ Some (k, b) → is_end k ≡ false → named_at read k b ≡ Some (m, c)
-  → until_end read fuel c ≡ Some (ms, rest) → until_end read (suc fuel) bytes ≡ Some (m ∷ ms, rest)
+    → until_end read fuel c ≡ Some (ms, rest) → until_end read (suc fuel) bytes ≡ Some (m ∷ ms, rest)
 until_step read fuel k bytes b c rest m ms kind more tag others = rw (kind, more, tag, others) refl
 
 until_last : (read : Reader) (fuel : ℕ) (rest : List ℕ) → until_end read (suc fuel) (0 ∷ rest) ≡ Some ([], rest)
@@ -150,11 +150,11 @@ mutual
   members_again (member n t ms) d (suc fuel) front rest (name, a, b, parts, named, first, h) shallow enough =
       let k = kind_of t in
       let split : front ++ rest ≡ kind_number k ∷ (name ++ (a ++ (b ++ rest))) =
-          ap (λ f. f ++ rest) parts ∙ ap (λ r. kind_number k ∷ r) (append_assoc name (a ++ b) rest ∙ ap (λ r. name ++ r) (append_assoc a b rest)) in
+      ap (λ f. f ++ rest) parts ∙ ap (λ r. kind_number k ∷ r) (append_assoc name (a ++ b) rest ∙ ap (λ r. name ++ r) (append_assoc a b rest)) in
       let inner : depth t ≤ d = omega (arith, shallow) in
       let others : members_depth ms ≤ d = omega (arith, shallow) in
       let left : length b ≤ fuel = omega (arith, enough, ap length parts, length-append name (a ++ b), length-append a b) in
       ap (λ f. until_end (payload_at d) (suc fuel) f) split
       ∙ until_step (payload_at d) fuel k (kind_number k ∷ (name ++ (a ++ (b ++ rest)))) (name ++ (a ++ (b ++ rest))) (b ++ rest) rest (record { name = n; tag = t }) (members_in ms) (kind_again k (name ++ (a ++ (b ++ rest)))) (not_end t)
-          (named_step (payload_at d) k (name ++ (a ++ (b ++ rest))) (a ++ (b ++ rest)) (b ++ rest) n t (text_again n name (a ++ (b ++ rest)) named) (tag_again t d a (b ++ rest) first inner))
-          (members_again ms d fuel b rest h others left)
+      (named_step (payload_at d) k (name ++ (a ++ (b ++ rest))) (a ++ (b ++ rest)) (b ++ rest) n t (text_again n name (a ++ (b ++ rest)) named) (tag_again t d a (b ++ rest) first inner))
+      (members_again ms d fuel b rest h others left)

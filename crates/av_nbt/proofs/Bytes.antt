@@ -1,5 +1,5 @@
 -- Bytes as numbers, the highest byte first.
-use Rattle.std.proofs.Common.{◌≡◌, ℕ, ℤ, zero, suc, ◌+◌, ◌*◌, ◌<◌, ◌≤◌, ◌^◌, ◌%◌, List, [], ◌∷◌, ◌++◌, length, get_or, refl, sym, ap, ◌∙◌, subst, arith, ◌⊎◌, inl, inr}
+use Rattle.std.proofs.Common.{◌≡◌, ℕ, ◌+◌, ◌<◌, ◌^◌, ◌%◌, List, [], ◌∷◌, ◌++◌, length, get_or, refl, ap, arith, inl, inr}
 use Rattle.std.proofs.lemmas.Nat.{be_bytes_2, be_bytes_4, be_bytes_8, from_be_bytes-to_be_bytes_2, from_be_bytes-to_be_bytes_4, from_be_bytes-to_be_bytes_8}
 use Rattle.std.proofs.lemmas.List.{get_or_append_left, get_or-append-add, get_or_past}
 use Rattle.std.proofs.lemmas.Bool.{cases_lt}
@@ -38,8 +38,8 @@ codes_64 = record { reads_back = from_be_bytes-to_be_bytes_8; writes_back = λ b
 pub bytes_left : (xs ys : List ℕ) → AreBytes (xs ++ ys) → AreBytes xs
 bytes_left xs ys h i =
     elim (cases_lt i (length xs)) [
-      inl inside ↦ (let same = get_or_append_left xs ys 0 i inside in let small : get_or (xs ++ ys) i 0 < 256 = h i in omega arith)
-    | inr past ↦ (let none = get_or_past xs i 0 past in omega arith)
+      | inl inside ↦ (let same = get_or_append_left xs ys 0 i inside in let small : get_or (xs ++ ys) i 0 < 256 = h i in omega arith)
+      | inr past ↦ (let none = get_or_past xs i 0 past in omega arith)
     ]
 
 pub bytes_right : (xs ys : List ℕ) → AreBytes (xs ++ ys) → AreBytes ys

@@ -1,5 +1,5 @@
 -- The laws of spelling, and what a decoder's answer says of its bytes.
-use Rattle.std.proofs.Common.{◌≡◌, ℕ, zero, suc, ◌+◌, ◌<◌, ◌≤◌, List, [], ◌∷◌, ◌++◌, length, Option, Some, None, Bool, true, false, refl, sym, ap, ◌∙◌, subst, arith, append_assoc, append-nil, max, drop, Result, Ok, Err}
+use Rattle.std.proofs.Common.{◌≡◌, ℕ, ◌≤◌, List, [], ◌∷◌, ◌++◌, length, Some, None, refl, sym, ap, ◌∙◌, arith, append_assoc, append-nil, max, drop, Result, Ok, Err}
 use Rattle.std.specs.Prelude.{IfOk, IfErr}
 use Rattle.av_types.specs.declared.fault.Fault.{Fault}
 use Rattle.av_types.specs.declared.fault.Fault.TheVariants.{OutOfMemory, BadNbt}
@@ -9,12 +9,11 @@ use Rattle.av_nbt.proofs.Bytes.{AreBytes}
 use Rattle.av_nbt.proofs.TakenTags.{document_taken}
 use Rattle.std.proofs.lemmas.List.{append_cancel_right}
 use Rattle.std.specs.Int.{w16, to_be_bytes}
-use Rattle.std.specs.Prelude.{if◌then◌else◌, ◌==◌}
 use Rattle.av_nbt.specs.declared.tag.Kind.TheVariants as kind
-use Rattle.av_nbt.specs.Kinds.{kind_number, is_compound}
-use Rattle.av_nbt.specs.Nbt.{Nbt, compound, Members, NamedTag, Document, kind_of, members_of, depth, members_depth}
-use Rattle.av_nbt.specs.Shape.{◌>>=◌, members_in}
-use Rattle.av_nbt.specs.Spelling.{Spells, SpellsMembers, SpellsText, SpellsDocument}
+use Rattle.av_nbt.specs.Kinds.{kind_number}
+use Rattle.av_nbt.specs.Nbt.{Nbt, compound, NamedTag, Document, kind_of, members_of, depth, members_depth}
+use Rattle.av_nbt.specs.Shape.{members_in}
+use Rattle.av_nbt.specs.Spelling.{SpellsDocument}
 use Rattle.av_nbt.specs.Outcome.{SpellsNone, IsRefusal}
 use Rattle.av_nbt.specs.Laws.{OneTag, OneDocument}
 use Rattle.av_nbt.specs.Reading.{Field, Fails, Gives, kind_at, text_at, until_end, members_at, payload_at, document_at}
@@ -57,9 +56,10 @@ one_document d e a b x y spells_d spells_e same =
     let bodies : spells_d.body ++ x ≡ spells_e.body ++ y = same_rest (d.name, spells_d.body ++ x) e.name (spells_e.body ++ y) both in
     let tags = one_tag (compound d.members) (compound e.members) spells_d.body spells_e.body x y refl spells_d.tags spells_e.tags bodies in
     let members : d.members ≡ e.members = let inside = tags.0 in cc in
-    let heads : spells_d.name ≡ spells_e.name = spells_d.named.is ∙ ap (λ n. to_be_bytes w16 (length n) ++ n) names ∙ sym spells_e.named.is in
-    (ap (λ n. record { name = n; members = d.members }) names ∙ ap (λ ms. record { name = e.name; members = ms }) members,
-     spells_d.parts ∙ ap (λ n. kind_number kind.Compound ∷ (n ++ spells_d.body)) heads ∙ ap (λ r. kind_number kind.Compound ∷ (spells_e.name ++ r)) tags.1 ∙ sym spells_e.parts)
+    let heads : spells_d.name ≡ spells_e.name = spells_d.named.is ∙ ap (λ n. to_be_bytes w16 (length n) ++ n) names ∙ sym spells_e.named.is in (
+      ap (λ n. record { name = n; members = d.members }) names ∙ ap (λ ms. record { name = e.name; members = ms }) members,
+      spells_d.parts ∙ ap (λ n. kind_number kind.Compound ∷ (n ++ spells_d.body)) heads ∙ ap (λ r. kind_number kind.Compound ∷ (spells_e.name ++ r)) tags.1 ∙ sym spells_e.parts,
+    )
 
 -- bytes from which no document is read spell none
 pub none_is_spelled : (bytes : List ℕ) → document_at bytes ≡ None → SpellsNone bytes

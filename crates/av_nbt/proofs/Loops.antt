@@ -1,5 +1,5 @@
 -- The loops of reading: one more field after those that were read.
-use Rattle.std.proofs.Common.{◌≡◌, ℕ, suc, ◌+◌, ◌-◌, ◌<◌, List, [], ◌∷◌, ◌++◌, Option, Some, None, Result, Ok, Err, refl, sym, ap, ◌∙◌, append_assoc, append-nil, arith, Bool, true, false}
+use Rattle.std.proofs.Common.{◌≡◌, ℕ, suc, ◌+◌, ◌-◌, ◌<◌, List, [], ◌∷◌, ◌++◌, Option, Some, None, Result, Ok, Err, refl, sym, ap, ◌∙◌, append_assoc, append-nil, arith, true, false}
 use Rattle.std.specs.Prelude.{IsErrAnd}
 use Rattle.av_types.specs.declared.fault.Fault.{Fault}
 use Rattle.av_types.specs.declared.fault.Fault.TheVariants.{OutOfMemory, BadNbt}
@@ -34,7 +34,7 @@ module _ {X : Type 0} (read : List ℕ → Field X) where
 
   module _ (xs : List X) (count i : ℕ) (rest : List ℕ) (whole : Field (List X)) where
     pub repeat_more : (after : List ℕ) (x : X) → i < count → read rest ≡ Some (x, after) → with_front xs (repeat_at read (count - i) rest) ≡ whole
-      → with_front (xs ++ x ∷ []) (repeat_at read (count - (i + 1)) after) ≡ whole
+        → with_front (xs ++ x ∷ []) (repeat_at read (count - (i + 1)) after) ≡ whole
     repeat_more after x more step so_far =
         let left : suc (count - (i + 1)) ≡ count - i = omega arith in
         front_moves xs x (repeat_at read (count - (i + 1)) after) ∙ ap (λ o. with_front xs o) (sym (repeat_next (count - (i + 1)) rest after x step))
@@ -47,7 +47,7 @@ module _ {X : Type 0} (read : List ℕ → Field X) where
 
 module _ (read : Reader) where
   until_next : (n : ℕ) (rest after next : List ℕ) (k : Kind) (m : NamedTag) → kind_at rest ≡ Some (k, after) → is_end k ≡ false → named_at read k after ≡ Some (m, next)
-    → until_end read (suc n) rest ≡ (until_end read n next >>= λ f. Some (m ∷ f.0, f.1))
+      → until_end read (suc n) rest ≡ (until_end read n next >>= λ f. Some (m ∷ f.0, f.1))
   until_next n rest after next k m kind more tag = rw (kind, more, tag) refl
 
   until_last : (n : ℕ) (rest after : List ℕ) (k : Kind) → kind_at rest ≡ Some (k, after) → is_end k ≡ true → until_end read (suc n) rest ≡ Some ([], after)
@@ -66,7 +66,7 @@ module _ (read : Reader) where
         ap (λ f. with_front xs f) (sym is) ∙ ap (λ n. with_front xs (until_end read n rest)) left ∙ so_far
 
     pub named_more : (after next : List ℕ) (k : Kind) (m : NamedTag) → kind_at rest ≡ Some (k, after) → is_end k ≡ false → named_at read k after ≡ Some (m, next)
-      → with_front (xs ++ m ∷ []) (until_end read (count - (i + 1)) next) ≡ whole
+        → with_front (xs ++ m ∷ []) (until_end read (count - (i + 1)) next) ≡ whole
     named_more after next k m kind going tag =
         front_moves xs m (until_end read (count - (i + 1)) next) ∙ opened (until_end read (count - (i + 1)) next >>= λ f. Some (m ∷ f.0, f.1)) (until_next (count - (i + 1)) rest after next k m kind going tag)
 

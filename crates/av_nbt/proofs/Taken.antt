@@ -1,20 +1,18 @@
 -- What is read from the front of bytes is spelled by the bytes that it takes: fields.
-use Rattle.std.proofs.Common.{◌≡◌, ℕ, ℤ, pos, negsuc, zero, suc, ◌+◌, ◌*◌, ◌/◌, ◌<◌, ◌≤◌, ◌^◌, List, [], ◌∷◌, ◌++◌, length, map, take, drop, get_or, Option, Some, None, Bool, true, false, refl, sym, ap, ◌∙◌, subst, arith, append_assoc}
+use Rattle.std.proofs.Common.{◌≡◌, ℕ, ℤ, pos, negsuc, zero, suc, ◌*◌, ◌/◌, ◌<◌, ◌≤◌, ◌^◌, List, [], ◌∷◌, ◌++◌, length, map, take, drop, Option, Some, None, Bool, true, false, refl, sym, ap, ◌∙◌, subst, arith, append_assoc}
 use Rattle.std.specs.Prelude.{nat_lt, if◌then◌else◌}
 use Rattle.std.proofs.lemmas.List.{take-append-drop, length-take-le, length-drop, nil_from_length}
 use Rattle.std.proofs.lemmas.Bool.{ltb-false}
 use Rattle.std.proofs.Math.Nat.{mul-div_cancel}
 use Rattle.std.proofs.Math.Facts.{of_z-to_z, sfits_to_z, Fits-of_lt}
 use Rattle.std.specs.Simd.{first_chunks}
-use Rattle.std.specs.Int.{Width, w8, w16, w32, w64, byte_len, to_be_bytes, from_be_bytes, cast_signed, cast_unsigned}
-use Rattle.std.specs.Int.RustNames.{FitsSigned}
-use mir.Val.{bits}
+use Rattle.std.specs.Int.{Width, w16, w32, byte_len, to_be_bytes, from_be_bytes, cast_signed}
 use Rattle.av_nbt.specs.declared.tag.Kind.{Kind}
 use Rattle.av_nbt.specs.declared.tag.Kind.TheVariants as kind
-use Rattle.av_nbt.specs.Kinds.{kind_number, kind_from, kinds}
+use Rattle.av_nbt.specs.Kinds.{kind_number, kind_from}
 use Rattle.av_nbt.specs.Shape.{◌>>=◌}
 use Rattle.av_nbt.specs.Spelling.{SpellsNumber, SpellsNumbers, SpellsBits, SpellsText, count_of}
-use Rattle.av_nbt.specs.Reading.{Field, as_field, front_at, number_at, signed_at, kind_at, text_at, length_from, length_at, list_length_at, bytes_at, signed_in, numbers_at}
+use Rattle.av_nbt.specs.Reading.{Field, front_at, number_at, signed_at, kind_at, text_at, length_from, length_at, list_length_at, bytes_at, signed_in, numbers_at}
 use Rattle.av_nbt.proofs.Bytes.{AreBytes, Codes, codes_16, codes_32, bytes_left, bytes_right}
 
 -- the bytes that were taken from the front, and what holds of them
@@ -78,7 +76,7 @@ number_taken w codes bytes rest n h e =
     record {
       front = f;
       parts = taken.0 ∙ ap (λ r. f ++ r) left;
-      holds = subst (λ m. SpellsBits w m f) value (codes.fits f are.0, sym (codes.writes_back f taken.1 are.0))
+      holds = subst (λ m. SpellsBits w m f) value (codes.fits f are.0, sym (codes.writes_back f taken.1 are.0));
     }
 
 pub signed_taken : (w : Width) → Codes w → Takes (signed_at w) (SpellsNumber w)
@@ -93,7 +91,7 @@ signed_taken w codes bytes rest z h e =
     record {
       front = taken.front;
       parts = taken.parts ∙ ap (λ r. taken.front ++ r) left;
-      holds = subst (λ m. SpellsNumber w m taken.front) value (record { fits = sfits_to_z fits; is = taken.holds.1 ∙ ap (λ m. to_be_bytes w m) (sym (of_z-to_z fits)) })
+      holds = subst (λ m. SpellsNumber w m taken.front) value (record { fits = sfits_to_z fits; is = taken.holds.1 ∙ ap (λ m. to_be_bytes w m) (sym (of_z-to_z fits)) });
     }
 
 kind_of_number : (b : ℕ) (k : Kind) → kind_from b ≡ Some k → kind_number k ≡ b
@@ -133,8 +131,8 @@ text_taken bytes rest s h e =
       parts = length_taken.parts ∙ ap (λ r. length_taken.front ++ r) taken.0 ∙ sym (append_assoc length_taken.front s rest);
       holds = record {
         short = subst (λ m. m < 2 ^ 16) (sym taken.1) length_taken.holds.0;
-        is = ap (λ f. f ++ s) (length_taken.holds.1 ∙ ap (λ m. to_be_bytes w16 m) (sym taken.1))
-      }
+        is = ap (λ f. f ++ s) (length_taken.holds.1 ∙ ap (λ m. to_be_bytes w16 m) (sym taken.1));
+      };
     }
 
 length_is_pos : (z : ℤ) (n : ℕ) → length_from z ≡ Some n → z ≡ pos n
@@ -151,7 +149,7 @@ length_taken bytes rest n h e =
     record {
       front = taken.front;
       parts = taken.parts ∙ ap (λ r. taken.front ++ r) (same_rest (last.value, step.value.1) n rest last.then_rest);
-      holds = subst (λ z. SpellsNumber w32 z taken.front) value taken.holds
+      holds = subst (λ z. SpellsNumber w32 z taken.front) value taken.holds;
     }
 
 -- a List's length, of which a negative one stands for 0
@@ -166,7 +164,7 @@ list_length_taken bytes rest n h e =
     record {
       front = taken.front;
       parts = taken.parts ∙ ap (λ r. taken.front ++ r) (same_rest (count_of step.value.0, step.value.1) n rest step.then_rest);
-      holds = (step.value.0, taken.holds, same_value (count_of step.value.0, step.value.1) n rest step.then_rest)
+      holds = (step.value.0, taken.holds, same_value (count_of step.value.0, step.value.1) n rest step.then_rest);
     }
 
 -- an array of bytes, and one of signed numbers
@@ -185,12 +183,12 @@ bytes_taken bytes rest s h e =
     record {
       front = len.front ++ s;
       parts = len.parts ∙ ap (λ r. len.front ++ r) taken.0 ∙ sym (append_assoc len.front s rest);
-      holds = (len.front, refl, subst (λ m. SpellsNumber w32 (pos m) len.front) (sym taken.1) len.holds)
+      holds = (len.front, refl, subst (λ m. SpellsNumber w32 (pos m) len.front) (sym taken.1) len.holds);
     }
 
 -- the numbers that stand one after the other, and how many they are
 numbers_in : (w : Width) → Codes w → (n : ℕ) (bs : List ℕ) → length bs ≡ n * byte_len w → AreBytes bs
-  → SpellsNumbers w (map (λ b. cast_signed w (from_be_bytes w b)) (first_chunks (byte_len w) n bs)) bs × (length (map (λ b. cast_signed w (from_be_bytes w b)) (first_chunks (byte_len w) n bs)) ≡ n)
+    → SpellsNumbers w (map (λ b. cast_signed w (from_be_bytes w b)) (first_chunks (byte_len w) n bs)) bs × (length (map (λ b. cast_signed w (from_be_bytes w b)) (first_chunks (byte_len w) n bs)) ≡ n)
 numbers_in w codes zero bs e h = (nil_from_length bs (omega (arith, e)), refl)
 numbers_in w codes (suc n) bs e h =
     let k = byte_len w in
@@ -217,5 +215,5 @@ numbers_taken w codes some bytes rest zs h e =
     record {
       front = len.front ++ f;
       parts = len.parts ∙ ap (λ r. len.front ++ r) (taken.0 ∙ ap (λ r. f ++ r) (same_rest (signed_in w f, last.value.1) zs rest last.then_rest)) ∙ sym (append_assoc len.front f rest);
-      holds = (len.front, f, refl, subst (λ m. SpellsNumber w32 (pos m) len.front) (sym numbers.1 ∙ ap length value) len.holds, subst (λ xs. SpellsNumbers w xs f) value numbers.0)
+      holds = (len.front, f, refl, subst (λ m. SpellsNumber w32 (pos m) len.front) (sym numbers.1 ∙ ap length value) len.holds, subst (λ xs. SpellsNumbers w xs f) value numbers.0);
     }

@@ -1,5 +1,5 @@
 -- What is read from the front of bytes is spelled by the bytes that it takes: tags.
-use Rattle.std.proofs.Common.{◌≡◌, ℕ, ℤ, pos, zero, suc, ◌+◌, ◌<◌, ◌≤◌, List, [], ◌∷◌, ◌++◌, length, Option, Some, None, Bool, true, false, refl, sym, ap, ◌∙◌, subst, arith, append_assoc, append-nil, ◌⊎◌, inl, inr, max}
+use Rattle.std.proofs.Common.{◌≡◌, ℕ, zero, suc, ◌≤◌, List, [], ◌∷◌, ◌++◌, length, Option, Some, None, Bool, true, false, refl, sym, ap, ◌∙◌, subst, arith, append_assoc, append-nil, ◌⊎◌, inl, inr}
 use Rattle.std.specs.Prelude.{if◌then◌else◌, ◌==◌}
 use Rattle.std.specs.Str.{bytes_eq}
 use Rattle.std.specs.Int.{w8, w16, w32, w64}
@@ -11,10 +11,10 @@ use Rattle.av_nbt.specs.declared.tag.Kind.TheVariants as kind
 use Rattle.av_nbt.specs.Kinds.{kind_number, is_end, is_compound}
 use Rattle.av_nbt.specs.Nbt.{Nbt, byte, int16, int, int64, bits32, bits64, byte_array, text, list, compound, int_array, long_array, NamedTag, Document, kind_of, items_of, members_of, item_count, IsAbsent, AreOf, AreDistinct, depth, items_depth, members_depth}
 use Rattle.av_nbt.specs.Shape.{◌>>=◌}
-use Rattle.av_nbt.specs.Spelling.{Spells, SpellsItems, SpellsMembers, SpellsNumber, SpellsBits, SpellsText, SpellsDocument, count_of}
+use Rattle.av_nbt.specs.Spelling.{Spells, SpellsItems, SpellsMembers, SpellsNumber, SpellsBits, SpellsText, SpellsDocument}
 use Rattle.av_nbt.specs.Reading.{Field, Reader, as_field, number_at, signed_at, kind_at, text_at, list_length_at, bytes_at, numbers_at, leaf_at, repeat_at, list_at, named_at, until_end, has_name, are_distinct, members_at, compound_at, payload_at, document_at}
 use Rattle.av_nbt.proofs.Bytes.{AreBytes, codes_8, codes_16, codes_32, codes_64, bytes_right}
-use Rattle.av_nbt.proofs.Taken.{Took, Takes, Chained, chained, same_value, same_rest, took_bytes, number_taken, signed_taken, kind_taken, text_taken, SpellsCount, list_length_taken, SpellsByteArray, SpellsArray, bytes_taken, numbers_taken}
+use Rattle.av_nbt.proofs.Taken.{Took, Takes, chained, same_value, same_rest, took_bytes, number_taken, signed_taken, kind_taken, text_taken, list_length_taken, SpellsByteArray, SpellsArray, bytes_taken, numbers_taken}
 
 -- A tag that was read: it is spelled, of the kind, and no deeper than allowed.
 pub record IsRead (limit : ℕ) (k : Kind) (t : Nbt) (front : List ℕ) : Type 0 where
@@ -23,14 +23,14 @@ pub record IsRead (limit : ℕ) (k : Kind) (t : Nbt) (front : List ℕ) : Type 0
   pub shallow : depth t ≤ limit
 
 field_taken : {X Y : Type 0} (f : X → Y) (read : List ℕ → Field X) (P : X → List ℕ → Type 0) (Q : Y → List ℕ → Type 0) → Takes read P → ((x : X) (front : List ℕ) → P x front → Q (f x) front)
-  → Takes (λ bytes. as_field f (read bytes)) Q
+    → Takes (λ bytes. as_field f (read bytes)) Q
 field_taken f read P Q takes turns bytes rest y h e =
     let step = chained (read bytes) (λ x. Some (f x.0, x.1)) (y, rest) e in
     let taken = takes bytes step.value.1 step.value.0 h step.first in
     record {
       front = taken.front;
       parts = taken.parts ∙ ap (λ r. taken.front ++ r) (same_rest (f step.value.0, step.value.1) y rest step.then_rest);
-      holds = subst (λ z. Q z taken.front) (same_value (f step.value.0, step.value.1) y rest step.then_rest) (turns step.value.0 taken.front taken.holds)
+      holds = subst (λ z. Q z taken.front) (same_value (f step.value.0, step.value.1) y rest step.then_rest) (turns step.value.0 taken.front taken.holds);
     }
 
 leaf_taken : (limit : ℕ) (k : Kind) → Takes (leaf_at k) (IsRead limit k)
@@ -68,12 +68,12 @@ repeat_taken read P takes (suc n) bytes rest xs h e =
     record {
       front = first.front ++ others.front;
       parts = first.parts ∙ ap (λ r. first.front ++ r) (others.parts ∙ ap (λ r. others.front ++ r) (same_rest (x ∷ last.value.0, last.value.1) xs rest last.then_rest)) ∙ sym (append_assoc first.front others.front rest);
-      holds = subst (λ ys. Each P ys (first.front ++ others.front) × (length ys ≡ suc n)) value ((first.front, others.front, refl, first.holds, others.holds.0), ap suc others.holds.1)
+      holds = subst (λ ys. Each P ys (first.front ++ others.front) × (length ys ≡ suc n)) value ((first.front, others.front, refl, first.holds, others.holds.0), ap suc others.holds.1);
     }
 
 -- the tags of a List
 items_spelled : (limit : ℕ) (e : Kind) (ts : List Nbt) (front : List ℕ) → Each (IsRead limit e) ts front
-  → SpellsItems (items_of ts) front × AreOf e (items_of ts) × (items_depth (items_of ts) ≤ limit) × (item_count (items_of ts) ≡ length ts)
+    → SpellsItems (items_of ts) front × AreOf e (items_of ts) × (items_depth (items_of ts) ≤ limit) × (item_count (items_of ts) ≡ length ts)
 items_spelled d e [] front h = (h, tt, omega arith, refl)
 items_spelled d e (t ∷ ts) front (a, b, parts, first, each) =
     let others = items_spelled d e ts b each in
@@ -107,7 +107,7 @@ list_taken d read reads bytes rest t h e =
     record {
       front = kind_number k ∷ body;
       parts = kind_parts ∙ ap (λ r. kind_number k ∷ r) (size.parts ∙ ap (λ r. size.front ++ r) (taken.parts ∙ ap (λ r. taken.front ++ r) (same_rest (list k (items_of ts), step.value.1) t rest step.then_rest)) ∙ sym (append_assoc size.front taken.front rest));
-      holds = subst (λ u. IsRead (suc d) kind.List u (kind_number k ∷ body)) value (record { spelled = (size.holds.0, size.front, taken.front, refl, size.holds.1, count, items.1, items.0); kind = refl; shallow = omega arith })
+      holds = subst (λ u. IsRead (suc d) kind.List u (kind_number k ∷ body)) value (record { spelled = (size.holds.0, size.front, taken.front, refl, size.holds.1, count, items.1, items.0); kind = refl; shallow = omega arith });
     }
 
 -- a named tag of a kind
@@ -132,7 +132,7 @@ named_taken d read reads k bytes rest m h e =
     record {
       front = name.front ++ tag.front;
       parts = name.parts ∙ ap (λ r. name.front ++ r) (tag.parts ∙ ap (λ r. tag.front ++ r) (same_rest (record { name = n; tag = t }, step.value.1) m rest step.then_rest)) ∙ sym (append_assoc name.front tag.front rest);
-      holds = subst (λ x. IsNamed d k x (name.front ++ tag.front)) value (record { head = name.front; body = tag.front; parts = refl; named = name.holds; tag = tag.holds })
+      holds = subst (λ x. IsNamed d k x (name.front ++ tag.front)) value (record { head = name.front; body = tag.front; parts = refl; named = name.holds; tag = tag.holds });
     }
 
 -- the tags of a Compound up to its end
@@ -170,11 +170,11 @@ ended d k bytes b rest ms parts ends e =
     record {
       front = kind_number k ∷ [];
       parts = parts ∙ ap (λ r. kind_number k ∷ r) (same_rest ([], b) ms rest e);
-      holds = subst (λ xs. AreNamed d xs (kind_number k ∷ [])) (same_value ([], b) ms rest e) none
+      holds = subst (λ xs. AreNamed d xs (kind_number k ∷ [])) (same_value ([], b) ms rest e) none;
     }
 
 one_more : (limit : ℕ) (read : Reader) → ReadsTags limit read → (n : ℕ) → Takes (until_end read n) (AreNamed limit) → (k : Kind) (bytes b rest : List ℕ) (ms : List NamedTag) → AreBytes b → bytes ≡ kind_number k ∷ b
-  → named_then read n k b ≡ Some (ms, rest) → Took (AreNamed limit ms) bytes rest
+    → named_then read n k b ≡ Some (ms, rest) → Took (AreNamed limit ms) bytes rest
 one_more d read reads n takes k bytes b rest ms h parts e =
     let first_step = chained (named_at read k b) (λ first. until_end read n first.1 >>= λ others. Some (first.0 ∷ others.0, others.1)) (ms, rest) e in
     let m = first_step.value.0 in
@@ -186,12 +186,12 @@ one_more d read reads n takes k bytes b rest ms h parts e =
     let shallow : depth m.tag ≤ d = first.holds.tag.shallow in
     let others_shallow : members_depth (members_of step.value.0) ≤ d = others.holds.shallow in
     let split : kind_number k ∷ body ≡ kind_number (kind_of m.tag) ∷ (first.holds.head ++ (first.holds.body ++ others.front)) =
-        ap (λ j. kind_number j ∷ body) (sym first.holds.tag.kind) ∙ ap (λ r. kind_number (kind_of m.tag) ∷ r) (ap (λ f. f ++ others.front) first.holds.parts ∙ append_assoc first.holds.head first.holds.body others.front) in
+    ap (λ j. kind_number j ∷ body) (sym first.holds.tag.kind) ∙ ap (λ r. kind_number (kind_of m.tag) ∷ r) (ap (λ f. f ++ others.front) first.holds.parts ∙ append_assoc first.holds.head first.holds.body others.front) in
     record {
       front = kind_number k ∷ body;
       parts = parts ∙ ap (λ r. kind_number k ∷ r) (first.parts ∙ ap (λ r. first.front ++ r) (others.parts ∙ ap (λ r. others.front ++ r) (same_rest (m ∷ step.value.0, step.value.1) ms rest step.then_rest)) ∙ sym (append_assoc first.front others.front rest));
       holds = subst (λ xs. AreNamed d xs (kind_number k ∷ body)) value
-          (record { spelled = (first.holds.head, first.holds.body, others.front, split, first.holds.named, first.holds.tag.spelled, others.holds.spelled); shallow = omega arith })
+          (record { spelled = (first.holds.head, first.holds.body, others.front, split, first.holds.named, first.holds.tag.spelled, others.holds.spelled); shallow = omega arith });
     }
 
 until_taken : (limit : ℕ) (read : Reader) → ReadsTags limit read → (n : ℕ) → Takes (until_end read n) (AreNamed limit)
@@ -203,8 +203,8 @@ until_taken d read reads (suc n) bytes rest ms h e =
     let parts = kind_taken bytes b k step.first in
     let are = bytes_right (kind_number k ∷ []) b (subst AreBytes parts h) in
     elim (either (is_end k) (Some ([], b)) (named_then read n k b) (ms, rest) step.then_rest) [
-      inl end ↦ ended d k bytes b rest ms parts end.0 end.1
-    | inr more ↦ one_more d read reads n (until_taken d read reads n) k bytes b rest ms are parts more.1
+      | inl end ↦ ended d k bytes b rest ms parts end.0 end.1
+      | inr more ↦ one_more d read reads n (until_taken d read reads n) k bytes b rest ms are parts more.1
     ]
 
 -- tests of names
@@ -212,16 +212,16 @@ pub name_is_absent : (n : List ℕ) (ms : List NamedTag) → has_name n ms ≡ f
 name_is_absent n [] e = tt
 name_is_absent n (m ∷ ms) e =
     elim (bytes_eq n m.name) as (λ b. bytes_eq n m.name ≡ b → (if b then true else has_name n ms) ≡ false → IsAbsent n (members_of (m ∷ ms))) [
-      true ↦ λ _ taken. cc
-    | false ↦ λ other absent. ((λ same. let found : bytes_eq n m.name ≡ true = (bytes_eq-Decides n m.name).1 same in cc), name_is_absent n ms absent)
+      | true ↦ λ _ taken. cc
+      | false ↦ λ other absent. ((λ same. let found : bytes_eq n m.name ≡ true = (bytes_eq-Decides n m.name).1 same in cc), name_is_absent n ms absent)
     ] refl e
 
 pub names_are_distinct : (ms : List NamedTag) → are_distinct ms ≡ true → AreDistinct (members_of ms)
 names_are_distinct [] e = tt
 names_are_distinct (m ∷ ms) e =
     elim (has_name m.name ms) as (λ b. has_name m.name ms ≡ b → (if b then false else are_distinct ms) ≡ true → AreDistinct (members_of (m ∷ ms))) [
-      true ↦ λ _ taken. cc
-    | false ↦ λ absent others. (name_is_absent m.name ms absent, names_are_distinct ms others)
+      | true ↦ λ _ taken. cc
+      | false ↦ λ absent others. (name_is_absent m.name ms absent, names_are_distinct ms others)
     ] refl e
 
 -- the tags of a Compound
@@ -243,14 +243,14 @@ members_taken d read reads bytes rest ms h e =
     record {
       front = taken.front;
       parts = taken.parts ∙ ap (λ r. taken.front ++ r) (same_rest step.value ms rest test.1);
-      holds = subst (λ ys. AreMembers d ys taken.front) (same_value step.value ms rest test.1) (record { spelled = (names_are_distinct xs test.0, taken.holds.spelled); shallow = taken.holds.shallow })
+      holds = subst (λ ys. AreMembers d ys taken.front) (same_value step.value ms rest test.1) (record { spelled = (names_are_distinct xs test.0, taken.holds.spelled); shallow = taken.holds.shallow });
     }
 
 compound_taken : (limit : ℕ) (read : Reader) → ReadsTags limit read → Takes (compound_at read) (IsRead (suc limit) kind.Compound)
 unfolding compound_at
 compound_taken d read reads bytes rest t h e =
     field_taken (λ ms. compound (members_of ms)) (members_at read) (AreMembers d) (IsRead (suc d) kind.Compound) (members_taken d read reads)
-        (λ ms front are. let shallow : members_depth (members_of ms) ≤ d = are.shallow in record { spelled = are.spelled; kind = refl; shallow = omega arith }) bytes rest t h e
+    (λ ms front are. let shallow : members_depth (members_of ms) ≤ d = are.shallow in record { spelled = are.spelled; kind = refl; shallow = omega arith }) bytes rest t h e
 
 pub payload_taken : (limit : ℕ) → ReadsTags limit (payload_at limit)
 payload_taken zero k = leaf_taken zero k
@@ -320,5 +320,5 @@ document_taken bytes d h e =
       parts = kind_parts ∙ ap (λ j. kind_number j ∷ b) is ∙ ap (λ r. kind_number kind.Compound ∷ r) (name.parts ∙ ap (λ r. name.front ++ r) body_parts);
       named = name.holds;
       tags = tags.holds.spelled;
-      shallow = omega arith
+      shallow = omega arith;
     })

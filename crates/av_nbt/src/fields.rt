@@ -173,7 +173,10 @@ fn ints(alloc: Global, bytes: &[u8]) -> Result<Vec<i32>, AllocError>
     ensures { IfOk result (λ numbers. numbers.items ≡ signed_in w32 bytes.now) }
 {
     let (chunks, _) = bytes.as_chunks::<4>();
-    chunks.iter().map(|chunk| i32::from_be_bytes(*chunk)).collect(alloc)
+    chunks
+        .iter()
+        .map(|chunk| i32::from_be_bytes(*chunk))
+        .collect(alloc)
 }
 
 /// The numbers of an Int Array, after their count.
@@ -191,7 +194,10 @@ fn longs(alloc: Global, bytes: &[u8]) -> Result<Vec<i64>, AllocError>
     ensures { IfOk result (λ numbers. numbers.items ≡ signed_in w64 bytes.now) }
 {
     let (chunks, _) = bytes.as_chunks::<8>();
-    chunks.iter().map(|chunk| i64::from_be_bytes(*chunk)).collect(alloc)
+    chunks
+        .iter()
+        .map(|chunk| i64::from_be_bytes(*chunk))
+        .collect(alloc)
 }
 
 /// The numbers of a Long Array, after their count.

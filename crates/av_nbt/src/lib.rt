@@ -1,8 +1,9 @@
 //! NBT, the tags of Minecraft's files (<https://minecraft.wiki/w/NBT_format>): a tag tree, its bytes read and written.
 #![tactic(auto)]
 
-pub mod members;
+mod distinct;
 mod fields;
+pub mod members;
 pub mod reader;
 pub mod tag;
 pub mod writer;

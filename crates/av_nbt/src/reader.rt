@@ -4,24 +4,16 @@ ghost use Rattle.av_nbt.specs.View.{document, view, views, named_view, named_vie
 ghost use Rattle.av_nbt.specs.Spelling.{SpellsDocument};
 ghost use Rattle.av_nbt.specs.Laws.{OneTag, OneDocument};
 ghost use Rattle.av_nbt.specs.Outcome.{IsRefusal};
-ghost use Rattle.av_nbt.specs.Reading.{Gives, leaf_at, list_at, named_at, compound_at, members_at, until_end, payload_at, repeat_at, are_distinct, document_at};
+ghost use Rattle.av_nbt.specs.Reading.{Gives, leaf_at, list_at, named_at, compound_at, members_at, until_end, payload_at, repeat_at, document_at};
 
+use crate::distinct::are_distinct;
 use crate::fields;
 use crate::tag::{Kind, Named, Root, Tag};
 use av_types::Fault;
-use std::alloc::{AllocError, Global};
+use std::alloc::Global;
 
 /// How deep Lists and Compounds may nest, the root's own Compound among them.
 const DEPTH: u32 = 512;
-
-/// Whether no name is there twice.
-fn are_distinct(alloc: Global, tags: &[Named]) -> Result<bool, AllocError>
-    ensures { IfOk result (λ b. b ≡ are_distinct (named_views tags.now)) }
-{
-    let _ = tags;
-    let _ = alloc;
-    Err(AllocError)
-}
 
 /// A tag of a kind that holds no tags.
 #[tactic(auto, unfolding(crate::specs::Reading::leaf_at))]
@@ -75,7 +67,13 @@ fn leaf(alloc: Global, kind: Kind, bytes: &[u8]) -> Result<(Tag, &[u8]), Fault>
 
 /// So many tags of a kind, one after the other. They may nest so deep.
 #[cycle(reading)]
-fn items(alloc: Global, depth: u32, kind: Kind, count: usize, bytes: &[u8]) -> Result<(Vec<Tag>, &[u8]), Fault>
+fn items(
+    alloc: Global,
+    depth: u32,
+    kind: Kind,
+    count: usize,
+    bytes: &[u8],
+) -> Result<(Vec<Tag>, &[u8]), Fault>
     ensures { Gives (λ p. (views p.0.items, p.1.now)) result (repeat_at (payload_at depth kind) count bytes.now) }
 {
     let mut items = Vec::new(alloc);
@@ -202,5 +200,4 @@ pub fn decode(alloc: Global, bytes: &[u8]) -> Result<Root, Fault>
 pub fn spelling_is_unique()
     ensures tag { OneTag }
     ensures document { OneDocument }
-{
-}
+{}
