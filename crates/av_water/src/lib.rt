@@ -1,2 +1,10 @@
-//! The turn of an entry.
+//! What water does: what comes into a block, and the turn of a block.
 #![tactic(auto)]
+
+pub mod coming;
+mod plan;
+mod steps;
+pub mod turning;
+
+pub use coming::incoming;
+pub use turning::turn;
