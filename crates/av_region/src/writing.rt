@@ -4,7 +4,7 @@ ghost use Rattle.av_types.specs.Places.{IsInLimits, chunk_at};
 ghost use Rattle.av_types.specs.declared.fault.Fault.TheVariants.{OutOfMemory, ChunkTooLarge};
 ghost use Rattle.std.specs.Int.{w32, to_be_bytes};
 ghost use Rattle.std.specs.List.{flat_map, sum_by};
-ghost use Rattle.av_region.specs.Layout.{sectors_for, location_for, locations_from, chunk_bytes, region_bytes, is_too_large, first_too_large};
+ghost use Rattle.av_region.specs.Layout.{sectors_for, location_for, locations_from, chunk_bytes, region_bytes, is_too_large, first_too_large, HoldsAll};
 
 use crate::layout::{CHUNK_HEADER, HEADER, SECTOR, UNCOMPRESSED};
 use av_types::{Fault, RegionPos};
@@ -153,6 +153,7 @@ pub fn write<P: AsSlice<u8>>(
     requires payloads { length payloads.now ≡ 1024 }
     requires stamps { length stamps.now ≡ 1024 }
     ensures ok { IfOk result (λ file. file.items ≡ region_bytes (map (option_map P.items) payloads.now) stamps.now) }
+    ensures holds { IfOk result (λ file. HoldsAll file.items (map (option_map P.items) payloads.now) stamps.now) }
     ensures err { MatchOption (first_too_large (map (option_map P.items) payloads.now)) (IfErr result (λ e. e ≡ OutOfMemory)) (λ index. result ≡ Err (ChunkTooLarge (chunk_at region index))) }
 {
     if let Some(index) = first_too_large(payloads) {
