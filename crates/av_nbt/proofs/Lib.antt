@@ -4,6 +4,7 @@ mod TakenTags
 mod Again
 mod AgainTags
 mod LawProofs
+pub mod Written
 mod Bytes
 mod Loops
 pub mod Views

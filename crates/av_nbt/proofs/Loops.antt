@@ -1,5 +1,5 @@
 -- The loops of reading: one more field after those that were read.
-use Rattle.std.proofs.Common.{◌≡◌, ℕ, suc, ◌+◌, ◌-◌, ◌<◌, List, [], ◌∷◌, ◌++◌, Option, Some, None, Result, Ok, Err, refl, sym, ap, ◌∙◌, append_assoc, append-nil, arith, true, false}
+use Rattle.std.proofs.Common.{◌≡◌, flat_map, length, get_or, drop, drop-cons, add-one, ℕ, suc, ◌+◌, ◌-◌, ◌<◌, List, [], ◌∷◌, ◌++◌, Option, Some, None, Result, Ok, Err, refl, sym, ap, ◌∙◌, append_assoc, append-nil, arith, true, false}
 use Rattle.std.specs.Prelude.{IsErrAnd}
 use Rattle.av_types.specs.declared.fault.Fault.{Fault}
 use Rattle.av_types.specs.declared.fault.Fault.TheVariants.{OutOfMemory, BadNbt}
@@ -7,6 +7,7 @@ use Rattle.av_nbt.specs.declared.tag.Kind.{Kind}
 use Rattle.av_nbt.specs.Kinds.{is_end}
 use Rattle.av_nbt.specs.Nbt.{NamedTag}
 use Rattle.av_nbt.specs.Shape.{◌>>=◌}
+use Rattle.av_nbt.specs.Appending.{Writes}
 use Rattle.av_nbt.specs.Reading.{Fails, Gives, Field, Reader, kind_at, named_at, repeat_at, until_end, with_front}
 
 -- a fault of a step is a fault of the whole
@@ -78,3 +79,15 @@ module _ (read : Reader) where
 
     pub named_no_tag : (after : List ℕ) (k : Kind) → kind_at rest ≡ Some (k, after) → is_end k ≡ false → named_at read k after ≡ None → whole ≡ None
     named_no_tag after k kind going tag = sym (opened None (until_no_tag (count - (i + 1)) rest after k kind going tag))
+
+-- a loop that writes: one more value behind those that were written
+pub written_more : {X : Type 0} (f : X → List ℕ) (old new : List ℕ) (xs : List X) (i : ℕ) (x d : X) (whole : List ℕ) → i < length xs → x ≡ get_or xs i d → new ≡ old ++ f x
+    → old ++ flat_map f (drop i xs) ≡ whole → new ++ flat_map f (drop (i + 1) xs) ≡ whole
+written_more f old new xs i x d whole more is wrote so_far =
+    let next : drop i xs ≡ x ∷ drop (i + 1) xs = drop-cons xs i d more ∙ ap (λ y. y ∷ drop (suc i) xs) (sym is) ∙ ap (λ n. x ∷ drop n xs) (sym (add-one i)) in
+    ap (λ n. n ++ flat_map f (drop (i + 1) xs)) wrote ∙ append_assoc old (f x) (flat_map f (drop (i + 1) xs)) ∙ ap (λ ys. old ++ flat_map f ys) (sym next) ∙ so_far
+
+-- bytes written after others that were written
+pub writes_after : (r : Result (Unit {0}) Fault) (a b old mid new : List ℕ) → mid ≡ old ++ a → Writes r b mid new → Writes r (a ++ b) old new
+writes_after (Ok done) a b old mid new e h = h ∙ ap (λ m. m ++ b) e ∙ append_assoc old a b
+writes_after (Err fault) a b old mid new e h = h

@@ -8,3 +8,4 @@ pub mod Place
 pub mod Shape
 pub mod Outcome
 pub mod Reading
+pub mod Appending

@@ -4,7 +4,7 @@ use Rattle.std.specs.List.{flat_map}
 use Rattle.std.specs.Int.{Width, w8, w16, w32, w64, to_be_bytes, cast_unsigned}
 use Rattle.av_nbt.specs.declared.tag.Kind.TheVariants as kind
 use Rattle.av_nbt.specs.Kinds.{kind_number}
-use Rattle.av_nbt.specs.Nbt.{Nbt, byte, int16, int, int64, bits32, bits64, byte_array, text, list, compound, int_array, long_array, Items, no_items, item, Members, no_members, member, Document, kind_of, item_count}
+use Rattle.av_nbt.specs.Nbt.{Nbt, byte, int16, int, int64, bits32, bits64, byte_array, text, list, compound, int_array, long_array, Items, no_items, item, Members, no_members, member, NamedTag, Document, kind_of, item_count}
 use Rattle.av_nbt.specs.Spelling.{SpellsDocument}
 
 abbrev pub signed_bytes : Width → ℤ → List ℕ
@@ -35,6 +35,10 @@ abbrev mutual
   pub written_members : Members → List ℕ
   written_members no_members = 0 ∷ []
   written_members (member n t ms) = kind_number (kind_of t) ∷ (text_bytes n ++ (written t ++ written_members ms))
+
+-- a tag under a name
+abbrev pub written_named : NamedTag → List ℕ
+written_named m = kind_number (kind_of m.tag) ∷ (text_bytes m.name ++ written m.tag)
 
 abbrev pub written_document : Document → List ℕ
 written_document d = kind_number kind.Compound ∷ (text_bytes d.name ++ written_members d.members)
