@@ -1,3 +1,11 @@
 //! What a chunk's document denotes, and the document that it is written as
 //! (<https://minecraft.wiki/w/Chunk_format>): definitions, and the law that ties them.
 #![tactic(auto)]
+
+ghost use Rattle.av_document.specs.Law.{WrittenDenotes};
+
+/// A law of the definitions: what is written of a chunk denotes the same cells and rest, and the
+/// same water entries, sooner by the ticks that were run. There is nothing to do.
+pub fn written_denotes()
+    ensures { WrittenDenotes }
+{}

@@ -1,0 +1,11 @@
+pub mod Tags
+pub mod Rows
+pub mod Numbers
+pub mod Sections
+pub mod Positions
+pub mod WrittenTicks
+pub mod WrittenPalette
+pub mod Spelled
+pub mod WrittenSection
+pub mod Faults
+pub mod Written
