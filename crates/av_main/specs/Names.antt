@@ -1,5 +1,5 @@
 -- The names of region files (minecraft.wiki, Region file format).
-use Rattle.std.specs.Prelude.{◌≢◌, ◌<◌, ℕ, List, ◌++◌, codes, length, slice_index, FitsSigned}
+use Rattle.std.specs.Prelude.{◌≡◌, ◌≢◌, ◌⊎◌, ◌<◌, ℕ, List, ◌++◌, codes, length, slice_index, FitsSigned}
 use Rattle.std.specs.Int.{w32}
 use Rattle.std.specs.Fmt.{signed_decimal}
 use Rattle.av_types.specs.declared.place.RegionPos.{RegionPos}
@@ -19,3 +19,8 @@ region_name_of region = name_with (signed_decimal region.x) (signed_decimal regi
 -- both coordinates are numbers of 32 bits
 abbrev pub FitsRegion : RegionPos → Type 0
 FitsRegion region = FitsSigned w32 region.x × FitsSigned w32 region.z
+
+-- the name of a file in its folder: what follows the last slash of its path
+abbrev pub IsFileNameOf : List ℕ → List ℕ → Type 0
+IsFileNameOf path name = ((i : ℕ) → i < length name → slice_index name i ≢ 47)
+    × ((path ≡ name) ⊎ ((folder : List ℕ) × (path ≡ folder ++ (codes "/" ++ name))))

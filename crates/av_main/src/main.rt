@@ -3,6 +3,7 @@
 
 pub mod command_line;
 pub mod names;
+pub mod output;
 
 use std::process::ExitCode;
 

@@ -2,11 +2,21 @@
 ghost use Rattle.std.specs.Prelude.{◌≡◌, ◌++◌, codes, ℕ, List, IfOk, IfSome, IfNone, IsSomeAnd, FitsSigned, Some, ℤ};
 ghost use Rattle.std.specs.Int.{w32};
 ghost use Rattle.std.specs.Fmt.{signed_decimal};
-ghost use Rattle.av_main.specs.Names.{FitsRegion, HasNoDot, name_with, region_name_of};
+ghost use Rattle.av_main.specs.Names.{FitsRegion, HasNoDot, IsFileNameOf, name_with, region_name_of};
 ghost use Rattle.av_types.specs.declared.place.RegionPos.{RegionPos};
 
 use av_types::RegionPos;
 use std::alloc::{AllocError, Global};
+
+/// The name of a file in its folder: what follows the last `/` of its path.
+pub fn file_name(path: &str) -> &str
+    ensures { IsFileNameOf path.now result.now }
+{
+    match path.rsplit_once('/') {
+        Some((_, name)) => name,
+        None => path,
+    }
+}
 
 /// The text up to the first dot, and the text behind it.
 fn at_dot(text: &str) -> Option<(&str, &str)>
