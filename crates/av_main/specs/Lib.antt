@@ -1,3 +1,5 @@
 pub mod CommandLine
 pub mod Names
 pub mod Output
+pub mod BlockCommand
+pub mod Tables

@@ -1,4 +1,4 @@
-use Rattle.std.proofs.Common.{◌≡◌, ◌≢◌, ◌<◌, ◌∙◌, ap, sym, ℕ, List, ◌∷◌, ◌++◌, take, drop, length, slice_index, inl, inr, lit<, refl}
+use Rattle.std.proofs.Common.{◌≡◌, ◌≢◌, ◌<◌, ◌∙◌, ap, sym, ℕ, ◌∷◌, ◌++◌, take, drop, length, slice_index, inl, inr, lit<, refl}
 use Rattle.std.proofs.lemmas.List.{take-append-drop}
 use Rattle.std.proofs.lemmas.Str.Pattern.{drop_at_char, NoCharPasses-char}
 use Rattle.av_main.proofs.names.file_name.Goals as goal
