@@ -1,0 +1,36 @@
+//! The program that `bench/run.sh` times: hot paths of the crates over a whole region, one a command.
+#![tactic(auto)]
+
+pub mod decoding;
+pub mod tally;
+
+use anyhow::{Result, bail};
+use std::alloc::{AllocError, Global};
+use std::rt::{Env, Files};
+use std::{env, fs};
+
+/// Runs a command, and gives the line that it prints.
+fn run<R: Env + Files + AllocGlobal>(rt: &R, words: &[&str]) -> Result<String> {
+    let alloc = rt.alloc();
+    match words {
+        ["decode", path, rounds] => {
+            let bytes = fs::read(rt, *path)?;
+            let rounds: u32 = rounds.parse()?;
+            Ok(decoding::decode_rounds(alloc, bytes.as_slice(), rounds)?)
+        }
+        _ => bail!("av_bench decode FILE ROUNDS"),
+    }
+}
+
+fn as_texts(alloc: Global, words: &[String]) -> Result<Vec<&str>, AllocError> {
+    words.iter().map(|word| word.as_str()).collect(alloc)
+}
+
+fn main(rt: HostRuntime) -> Result<()> {
+    let alloc = rt.alloc();
+    let words: Vec<String> = env::args(&rt)?.skip(1).collect(alloc)?;
+    let words = as_texts(alloc, words.as_slice())?;
+    let line = run(&rt, words.as_slice())?;
+    println!(rt; "{line}")?;
+    Ok(())
+}
