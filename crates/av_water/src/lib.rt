@@ -2,6 +2,7 @@
 #![tactic(auto)]
 
 pub mod coming;
+pub mod laws;
 mod plan;
 mod steps;
 pub mod turning;
