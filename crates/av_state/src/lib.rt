@@ -3,6 +3,8 @@
 
 pub mod state;
 pub mod table;
+#[cfg(test)]
+mod tests;
 
 pub use state::{Property, State};
 pub use table::StateTable;
