@@ -47,6 +47,13 @@ impl Kinds {
         Ok(Kinds { table, rows, wets })
     }
 
+    /// How many numbers there are.
+    pub fn count(&self) -> usize
+        ensures { result ≡ kind_count self.now }
+    {
+        self.rows.len()
+    }
+
     /// The row of a number.
     pub fn row(&self, number: u16) -> Row
         requires { number < kind_count self.now }

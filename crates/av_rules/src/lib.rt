@@ -5,6 +5,8 @@ mod document;
 pub mod kinds;
 pub mod row;
 pub mod rules;
+#[cfg(test)]
+mod tests;
 
 pub use kinds::Kinds;
 pub use row::Row;
