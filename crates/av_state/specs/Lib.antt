@@ -5,3 +5,4 @@ pub mod Views
 pub mod States
 pub mod Table
 pub mod Form
+pub mod Hashing

@@ -9,12 +9,26 @@ ghost use Rattle.av_state.specs.Words.{property_text, more_text};
 
 use av_types::{Fault, Wet};
 use std::alloc::{AllocError, Global};
+use std::hash::{Hash, Hasher};
 
 /// One property of a state, as `lit` = `true`.
-#[derive(Debug, Drop, PartialEq, Eq, Hash)]
+#[derive(Debug, Drop, PartialEq, Eq)]
 pub struct Property {
     pub key: Vec<u8>,
     pub value: Vec<u8>,
+}
+
+impl Hash for Property {
+    ghost use Rattle.av_state.specs.Hashing.{property_texts, property_texts-equal};
+
+    ghost hash_input = { property_texts };
+
+    ghost respects_eq = { property_texts-equal };
+
+    fn hash<H: Hasher>(&self, state: &mut H) {
+        state.write(self.key.as_slice());
+        state.write(self.value.as_slice());
+    }
 }
 
 impl Clone for Property {
@@ -29,7 +43,7 @@ impl Clone for Property {
 }
 
 /// A block state: a name, and properties in the byte order of their keys.
-#[derive(Debug, Drop, PartialEq, Eq, Hash)]
+#[derive(Debug, Drop, PartialEq, Eq)]
 pub struct State {
     pub name: Vec<u8>,
     pub properties: Vec<Property>,
@@ -212,6 +226,22 @@ impl State {
             text.push(b']')?;
         }
         Ok(text)
+    }
+}
+
+impl Hash for State {
+    ghost use Rattle.std.specs.Prelude.{◌∷◌};
+    ghost use Rattle.av_state.specs.Hashing.{properties_texts, state_texts-equal};
+
+    ghost hash_input = { λ s. s.name.items ∷ properties_texts s.properties.items };
+
+    ghost respects_eq = { λ s t. state_texts-equal s.name.items t.name.items s.properties.items t.properties.items };
+
+    fn hash<H: Hasher>(&self, state: &mut H) {
+        state.write(self.name.as_slice());
+        for property in &self.properties {
+            property.hash(state);
+        }
     }
 }
 

@@ -10,4 +10,4 @@ pub returns : goal.returns
 returns c =
     let h : c.any.result ≡ list_any (λ t. bytes_eq t.now c.args.key.now) c.args.keys.now =
     any_from_yields_List (λ t. bytes_eq t.now c.args.key.now) _ _ c.any.result c.any.ensures.ran (YieldsList-from_slice c.args.keys.now cc) (λ x b q k. search (rules, tests)) in
-    h ∙ list_any-views (λ t. bytes_eq t.now c.args.key.now) (λ t. t.now) (λ t. bytes_eq t c.args.key.now) (λ t. refl) c.args.keys.now
+    h ∙ list_any-views (λ t. bytes_eq t.now c.args.key.now) (λ t. t.now) (λ t. bytes_eq t c.args.key.now) (λ t. refl {a = bytes_eq t.now c.args.key.now}) c.args.keys.now
