@@ -1,5 +1,5 @@
 -- Working definitions: fields of bits within a number.
-use Rattle.std.specs.Prelude.{ℕ, ◌+◌, ◌*◌, ◌/◌, ◌%◌, ◌^◌, List, map}
+use Rattle.std.specs.Prelude.{◌≡◌, ◌<◌, ◌≤◌, ℕ, ◌+◌, ◌*◌, ◌/◌, ◌%◌, ◌^◌, List, map}
 use Rattle.std.specs.List.{range_with_len}
 
 -- n with its b bits from bit s on replaced by v
@@ -13,3 +13,8 @@ entry_of b n k = n / 2 ^ (b * k) % 2 ^ b
 -- the first m such fields
 abbrev pub entries_of : ℕ → ℕ → ℕ → List ℕ
 entries_of b n m = map (entry_of b n) (range_with_len 0 m)
+
+-- a place times the second number, without its low 16 bits, is the place by the first
+pub record DividesPlaces (m r : ℕ) : Type 0 where
+  pub quotient : (i : ℕ) → i < 4096 → i * r / 2 ^ 16 ≡ i / m
+  pub small : r ≤ 16384

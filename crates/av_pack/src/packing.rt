@@ -5,7 +5,7 @@ ghost use Rattle.std.specs.Prelude.{◌≡◌, ◌≢◌, ◌<◌, ◌≤◌, �
 ghost use Rattle.std.specs.Int.{cast_signed, w64};
 ghost use Rattle.av_types.specs.declared.fault.Fault.TheVariants.{OutOfMemory, BadPacked};
 ghost use Rattle.av_pack.specs.Packing.{bits_for, longs_for, packed_at, low_first, packed, unpacked, IsPacked, SetsEntry};
-ghost use Rattle.av_pack.specs.Fields.{with_field, entries_of};
+ghost use Rattle.av_pack.specs.Fields.{with_field, entries_of, DividesPlaces};
 
 use av_types::{Fault, Place};
 use std::alloc::{AllocError, Global};
@@ -46,6 +46,61 @@ struct Slot {
     shift: u32,
 }
 
+/// How many entries a long holds, and 65,536 by that number, rounded up: with it a place is divided
+/// by a multiplication and a shift.
+#[derive(Clone, Copy)]
+struct PerLong {
+    count: u32,
+    reciprocal: u32,
+}
+
+/// The entries of a long, for entries of 4 to 16 bits.
+fn per_long(bits: u32) -> PerLong
+    requires low { 4 ≤ bits }
+    requires high { bits ≤ 16 }
+    ensures count { result.count ≡ 64 / bits }
+    ensures divides { DividesPlaces result.count result.reciprocal }
+{
+    match bits {
+        4 => PerLong {
+            count: 16,
+            reciprocal: 4096,
+        },
+        5 => PerLong {
+            count: 12,
+            reciprocal: 5462,
+        },
+        6 => PerLong {
+            count: 10,
+            reciprocal: 6554,
+        },
+        7 => PerLong {
+            count: 9,
+            reciprocal: 7282,
+        },
+        8 => PerLong {
+            count: 8,
+            reciprocal: 8192,
+        },
+        9 => PerLong {
+            count: 7,
+            reciprocal: 9363,
+        },
+        10 => PerLong {
+            count: 6,
+            reciprocal: 10923,
+        },
+        11 | 12 => PerLong {
+            count: 5,
+            reciprocal: 13108,
+        },
+        _ => PerLong {
+            count: 4,
+            reciprocal: 16384,
+        },
+    }
+}
+
 /// Where the entry of a place stands.
 #[tactic(auto, using(crate::proofs::Slots::slot_in_range))]
 fn slot_of(bits: u32, place: Place) -> Slot
@@ -56,11 +111,12 @@ fn slot_of(bits: u32, place: Place) -> Slot
     ensures in_range { result.long < longs_for bits }
     ensures within { result.shift + bits ≤ 64 }
 {
-    let per_long = 64 / bits;
+    let per_long = per_long(bits);
     let index = u32::from(place.index);
+    let long = index * per_long.reciprocal >> 16;
     Slot {
-        long: (index / per_long) as usize,
-        shift: bits * (index % per_long),
+        long: long as usize,
+        shift: bits * (index - long * per_long.count),
     }
 }
 
