@@ -1,6 +1,7 @@
 -- What ties reading and writing.
 use Rattle.std.specs.Prelude.{◌≡◌, ℕ, ℤ, pos, ◌-ℤ◌, List, map, Some, Bool, true}
 use Rattle.std.specs.List.{AllByRecursion}
+use Rattle.av_types.specs.Places.{is_section_of}
 use Rattle.av_types.specs.declared.place.Pos.{Pos}
 use Rattle.av_types.specs.declared.place.ChunkPos.{ChunkPos}
 use Rattle.av_types.specs.declared.place.Height.{Height}
@@ -32,3 +33,18 @@ pub record IsLawful (c : ChunkPos) (h : Height) (cells : Pos → BlockState) (wa
 abbrev pub WrittenDenotes : Type 0
 WrittenDenotes = (c : ChunkPos) (h : Height) (d : Document) (cells now : Pos → BlockState) (water then : List Entry) (sources : Pos → Bool) (rest : Rest) (light : ℤ → List ℕ) (n : ℕ)
     → IsWellFormed d → DenotesChunk c h d cells water rest → IsLawful c h now then → DenotesChunk c h (chunk_layout c h now then sources rest light n) now (map (sooner n) then) rest
+
+-- the same chunk: its blocks, its water entries and its rest, as far as a document says them
+pub record IsSameChunk (c : ChunkPos) (h : Height) (cells now : Pos → BlockState) (water then : List Entry) (rest other : Rest) : Type 0 where
+  pub same_cells : (p : Pos) → lies_in c h p ≡ true → cells p ≡ now p
+  pub same_water : water ≡ then
+  pub same_name : rest.name ≡ other.name
+  pub same_tags : rest.tags ≡ other.tags
+  pub same_foreign : rest.foreign ≡ other.foreign
+  pub same_outside : (y : ℤ) → rest.outside y ≡ other.outside y
+  pub same_section : (y : ℤ) → is_section_of h y ≡ true → rest.section y ≡ other.section y
+
+-- A document denotes one chunk at most.
+abbrev pub DenotesOne : Type 0
+DenotesOne = (c : ChunkPos) (h : Height) (d : Document) (cells now : Pos → BlockState) (water then : List Entry) (rest other : Rest)
+    → DenotesChunk c h d cells water rest → DenotesChunk c h d now then other → IsSameChunk c h cells now water then rest other

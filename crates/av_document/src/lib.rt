@@ -2,10 +2,15 @@
 //! (<https://minecraft.wiki/w/Chunk_format>): definitions, and the law that ties them.
 #![tactic(auto)]
 
-ghost use Rattle.av_document.specs.Law.{WrittenDenotes};
+ghost use Rattle.av_document.specs.Law.{WrittenDenotes, DenotesOne};
 
 /// A law of the definitions: what is written of a chunk denotes the same cells and rest, and the
 /// same water entries, sooner by the ticks that were run. There is nothing to do.
 pub fn written_denotes()
     ensures { WrittenDenotes }
+{}
+
+/// A law of the definitions: a document denotes one chunk at most. There is nothing to do.
+pub fn denotes_one()
+    ensures { DenotesOne }
 {}
