@@ -1,5 +1,10 @@
 pub mod Distinct
+pub mod Each
 pub mod Grown
+pub mod FromLongs
 pub mod Keeps
+pub mod Numbers
+pub mod Once
 pub mod PackedLemmas
 pub mod PlaceBits
+pub mod Refusals

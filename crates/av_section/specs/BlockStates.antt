@@ -25,14 +25,17 @@ are_below count indices = list_all (λ i. nat_lt i count) indices
 abbrev pub indices_if : Bool → List ℕ → Option (List ℕ)
 indices_if fits indices = if fits then Some indices else None
 
--- the indices of the 4,096 places into a palette of that length. No longs stand for a palette of one entry.
--- Otherwise they are just as many as that length needs, and each index is below it. Bits that hold no index are not looked at.
-abbrev pub indices_in : ℕ → List ℤ → Option (List ℕ)
-indices_in count [] = indices_if (count == 1) all_zero
-indices_in count (first ∷ rest) =
-    let longs = first ∷ rest in
+-- the indices that longs hold: just as many longs as a palette of that length needs, and each index below that length.
+-- Bits that hold no index are not looked at.
+abbrev pub packed_indices : ℕ → List ℤ → Option (List ℕ)
+packed_indices count longs =
     let indices = unpacked (bits_for count) longs in
     indices_if ((length longs == longs_for (bits_for count)) && are_below count indices) indices
+
+-- the indices of the 4,096 places into a palette of that length. No longs stand for index 0 everywhere, where the palette
+-- has one entry.
+abbrev pub indices_in : ℕ → List ℤ → Option (List ℕ)
+indices_in count longs = if length longs == 0 then indices_if (count == 1) all_zero else packed_indices count longs
 
 abbrev pub indices_of : ℕ → Option Nbt → Option (List ℕ)
 indices_of count packed = data_of packed >>= λ longs. indices_in count longs

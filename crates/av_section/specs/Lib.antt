@@ -2,5 +2,9 @@ pub mod Palette
 pub mod BlockStates
 pub mod Places
 pub mod Packed
+pub mod Judged
+pub mod Numbered
+pub mod Distinct
 pub mod Section
+pub mod Indexed
 pub mod Reading

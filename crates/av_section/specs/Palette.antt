@@ -5,7 +5,7 @@ use Rattle.std.specs.Str.{bytes_eq}
 use Rattle.av_nbt.specs.declared.tag.Kind.TheVariants as kind
 use Rattle.av_nbt.specs.Nbt.{Nbt, text, list, compound, NamedTag, members_of, items_of}
 use Rattle.av_nbt.specs.Place.{tag_of}
-use Rattle.av_nbt.specs.Shape.{◌>>=◌, text_of, compound_of, compounds_of, each}
+use Rattle.av_nbt.specs.Shape.{◌>>=◌, text_of, compound_of, items_of_list, each}
 use Rattle.av_state.specs.BlockState.{BlockState, Property, in_order}
 
 abbrev pub name_key : List ℕ
@@ -37,12 +37,17 @@ written_state tags = do
   properties ← properties_in (tag_of properties_key tags)
   if list_all is_of_entry tags then Some (record { name = name; properties = properties }) else None
 
+-- the state of an entry, which is a Compound
+abbrev pub state_in : Nbt → Option BlockState
+state_in t = compound_of t >>= λ tags. written_state tags
+
+abbrev pub states_if : Bool → List Nbt → Option (List BlockState)
+states_if fits entries = if fits then each state_in entries else None
+
 -- the 1 to 4,096 states of a palette, as they stand
 abbrev pub palette_of : Option Nbt → Option (List BlockState)
 palette_of None = None
-palette_of (Some t) = do
-  entries ← compounds_of t
-  if nat_lt 0 (length entries) && nat_lt (length entries) 4097 then each written_state entries else None
+palette_of (Some t) = items_of_list t >>= λ entries. states_if (nat_lt 0 (length entries) && nat_lt (length entries) 4097) entries
 
 -- ---- written
 

@@ -2,6 +2,9 @@
 //! (<https://minecraft.wiki/w/Chunk_format>).
 #![tactic(auto)]
 
+mod indices;
+mod numbering;
+mod palette;
 pub mod places;
 pub mod section;
 

@@ -5,10 +5,13 @@ ghost use Rattle.av_pack.specs.Packing.{bits_for, longs_for, packed_at};
 ghost use Rattle.av_section.specs.Packed.{IsPacked, IsRepacked};
 ghost use Rattle.std.proofs.Props.{props};
 
+use crate::indices::{data_longs, distinct, index_of, longs_indices, mapped, places_in};
+use crate::numbering::number_states;
+use crate::palette::palette_states;
 use crate::places::PlaceSet;
 use av_nbt::Tag;
 use av_pack::{bits_for, get_at, pack, set_at, unpack};
-use av_state::StateTable;
+use av_state::{State, StateTable};
 use av_types::{Fault, Place};
 use std::alloc::Global;
 
@@ -23,15 +26,6 @@ pub struct Section {
     bits: u32,
     pending: PlaceSet,
     pub ghost packed: { IsPacked palette.items longs.items bits } by { Prim.hlevel props },
-}
-
-/// The index of a number that is in the palette.
-fn index_of(palette: &[u16], number: u16) -> usize
-    requires { Contains palette.now number }
-    ensures bound { result < length palette.now }
-    ensures value { slice_index palette.now result ≡ number }
-{
-    palette.iter().position(|known| *known == number).unwrap()
 }
 
 /// Whether a number is in the palette.
@@ -67,11 +61,14 @@ fn repacked(alloc: Global, longs: &[i64], bits: u32, wider: u32) -> Result<Vec<i
 }
 
 impl Section {
-    ghost use Rattle.std.specs.Prelude.{All, true, false, option_map, OnOk};
+    ghost use Rattle.std.specs.Prelude.{All, Some, true, false, map, option_map, ◌==◌, OnOk};
     ghost use Rattle.std.specs.Option.{option_copied};
     ghost use Rattle.av_nbt.specs.View.{view};
     ghost use Rattle.av_state.specs.Table.{states};
-    ghost use Rattle.av_section.specs.BlockStates.{palette_tag, data_tag};
+    ghost use Rattle.av_state.specs.States.{state_of};
+    ghost use Rattle.av_section.specs.BlockStates.{palette_tag, data_tag, indices_if, packed_indices, all_zero};
+    ghost use Rattle.av_section.specs.Distinct.{AreDistinct};
+    ghost use Rattle.av_section.specs.Indexed.{IsSectionOf, IsNoSection, HasNumbers};
     ghost use Rattle.av_section.specs.Section.{number_at, is_pending, CanSet, KeepsPlaces, SetsNumber, SetsPending, IsFilled, AreParts, HasNumbersBelow, section_states};
     ghost use Rattle.av_section.specs.Reading.{IsRead, IsRefused, OnlyGrows};
 
@@ -90,11 +87,101 @@ impl Section {
         ensures err { IfErr result (IsRefused (option_map view (option_copied palette.entry)) (option_map view (option_copied longs.entry)) (states table.old)) }
         ensures table { OnlyGrows (states table.old) (states table.new) }
     {
-        let _ = alloc;
-        let _ = palette;
-        let _ = longs;
-        let _ = table.len();
-        Err(Fault::OutOfMemory)
+        let entries = palette_states(alloc, palette)?;
+        let Some(longs) = data_longs(longs) else {
+            return Err(Fault::BadPacked);
+        };
+        let section = if longs.is_empty() {
+            Section::uniform(alloc, entries.as_slice(), table)?
+        } else {
+            Section::packed(alloc, entries.as_slice(), longs, table)?
+        };
+        Ok(section)
+    }
+
+    /// The section of one entry, which is at every place.
+    fn uniform(alloc: Global, entries: &[State], table: &mut StateTable) -> Result<Self, Fault>
+        ensures ok { IfOk result (IsSectionOf (map state_of entries.now) (indices_if (length entries.now == 1) all_zero) (states table.old) (states table.new)) }
+        ensures err { IfErr result (IsNoSection (map state_of entries.now) (indices_if (length entries.now == 1) all_zero) (states table.old)) }
+        ensures table { OnlyGrows (states table.old) (states table.new) }
+    {
+        if entries.len() != 1 {
+            return Err(Fault::BadPacked);
+        }
+        let numbers = number_states(alloc, entries, table)?;
+        let section = Section::filled(alloc, numbers[0])?;
+        Ok(section)
+    }
+
+    /// The section of entries and the longs that hold the index of each place.
+    fn packed(
+        alloc: Global,
+        entries: &[State],
+        longs: &[i64],
+        table: &mut StateTable,
+    ) -> Result<Self, Fault>
+        requires some { 0 < length entries.now }
+        requires few { length entries.now ≤ 4096 }
+        ensures ok { IfOk result (IsSectionOf (map state_of entries.now) (packed_indices (length entries.now) longs.now) (states table.old) (states table.new)) }
+        ensures err { IfErr result (IsNoSection (map state_of entries.now) (packed_indices (length entries.now) longs.now) (states table.old)) }
+        ensures table { OnlyGrows (states table.old) (states table.new) }
+    {
+        let indices = longs_indices(alloc, longs, entries.len())?;
+        let numbers = number_states(alloc, entries, table)?;
+        let section = Section::indexed(alloc, numbers.as_slice(), longs, indices.as_slice())?;
+        Ok(section)
+    }
+
+    /// The section of numbers and the longs that hold the index of each place into them. The longs stay as they are,
+    /// unless a number is there twice.
+    fn indexed(
+        alloc: Global,
+        numbers: &[u16],
+        longs: &[i64],
+        indices: &[u16],
+    ) -> Result<Self, Fault>
+        requires some { 0 < length numbers.now }
+        requires few { length numbers.now ≤ 4096 }
+        requires indices { packed_indices (length numbers.now) longs.now ≡ Some indices.now }
+        ensures ok { IfOk result (HasNumbers numbers.now indices.now) }
+        ensures err { IfErr result (λ e. e ≡ OutOfMemory) }
+    {
+        let palette = distinct(alloc, numbers)?;
+        if palette.len() != numbers.len() {
+            return Section::reindexed(alloc, palette, numbers, indices);
+        }
+        Ok(Section {
+            palette,
+            longs: Vec::from_slice(alloc, longs)?,
+            bits: bits_for(numbers.len()),
+            pending: PlaceSet::new(),
+        })
+    }
+
+    /// The section of numbers and the index of each place into them, with another palette that has each number.
+    fn reindexed(
+        alloc: Global,
+        palette: Vec<u16>,
+        numbers: &[u16],
+        indices: &[u16],
+    ) -> Result<Self, Fault>
+        requires palette { AreDistinct numbers.now palette.items }
+        requires few { length numbers.now ≤ 4096 }
+        requires count { length indices.now ≡ 4096 }
+        requires below { All (λ index. index < length numbers.now) indices.now }
+        ensures ok { IfOk result (HasNumbers numbers.now indices.now) }
+        ensures err { IfErr result (λ e. e ≡ OutOfMemory) }
+    {
+        let bits = bits_for(palette.len());
+        let places = places_in(alloc, palette.as_slice(), numbers)?;
+        let indices = mapped(alloc, indices, places.as_slice())?;
+        let longs = pack(alloc, indices.as_slice(), bits)?;
+        Ok(Section {
+            palette,
+            longs,
+            bits,
+            pending: PlaceSet::new(),
+        })
     }
 
     /// The number of the state at a place.

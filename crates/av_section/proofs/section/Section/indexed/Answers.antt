@@ -1,0 +1,28 @@
+-- The longs hold the indices as they are.
+use Rattle.std.proofs.Common.{◌≡◌, length, arith, refl}
+use Rattle.std.proofs.lemmas.Bool.{lt-ltb}
+use Rattle.av_section.proofs.FromLongs.{from_longs, packed_as_is}
+use Rattle.av_section.proofs.section.Section.indexed.Goals as goal
+
+pub reindexed-requires-clause-count : goal.reindexed-requires-clause-count
+reindexed-requires-clause-count c = (from_longs (length c.args.numbers.now) c.args.longs.now c.args.indices.now c.requires.indices).long
+
+pub reindexed-requires-clause-below : goal.reindexed-requires-clause-below
+reindexed-requires-clause-below c = (from_longs (length c.args.numbers.now) c.args.longs.now c.args.indices.now c.requires.indices).below
+
+pub invariant_of-result : goal.invariant_of-result
+invariant_of-result c =
+    let f = from_longs (length c.args.numbers.now) c.args.longs.now c.args.indices.now c.requires.indices in
+    let a = c.in_ok-palette.ensures in
+    let same : length c.in_ok-palette.palette.items ≡ length c.args.numbers.now = omega (arith, c.len.ensures, c.if-len-numbers.false) in
+    rw c.in_ok-from_slice.ensures.items (record { packed = packed_as_is c.args.numbers.now c.in_ok-palette.palette.items c.args.indices.now c.args.longs.now c.bits_for.result a same c.requires.few c.bits_for.ensures.value f })
+
+pub returns-clause-ok : goal.returns-clause-ok
+returns-clause-ok c =
+    let f = from_longs (length c.args.numbers.now) c.args.longs.now c.args.indices.now c.requires.indices in
+    let same : length c.in_ok-palette.palette.items ≡ length c.args.numbers.now = omega (arith, c.len.ensures, c.if-len-numbers.false) in
+    let palette = c.in_ok-palette.ensures.same same in
+    record {
+      numbers_are = λ i low. rw (lt-ltb i 4096 low, c.in_ok-from_slice.ensures.items, palette, c.bits_for.ensures.value, f.entries i 0 low) refl;
+      pending = c.new.ensures;
+    }

@@ -1,0 +1,93 @@
+//! The indices of a section's places into its palette.
+ghost use Rattle.std.specs.Prelude.{◌≡◌, ◌<◌, ◌≤◌, ◌+◌, ℕ, Some, map, option_map, length, slice_index, All, Contains, IfOk, IfErr};
+ghost use Rattle.std.specs.Option.{option_copied};
+ghost use Rattle.av_types.specs.declared.fault.Fault.TheVariants.{OutOfMemory};
+ghost use Rattle.av_nbt.specs.View.{view};
+ghost use Rattle.av_section.specs.BlockStates.{data_of, packed_indices, are_below};
+ghost use Rattle.av_section.specs.Distinct.{AreDistinct, ArePlaces};
+ghost use Rattle.av_section.specs.Judged.{AreNoIndices};
+
+use av_nbt::Tag;
+use av_pack::{bits_for, unpack};
+use av_types::Fault;
+use indexmap::IndexSet;
+use std::alloc::{AllocError, Global};
+
+/// The longs of a data tag, none where there is no tag.
+pub(crate) fn data_longs<'a>(tag: Option<&'a Tag>) -> Option<&'a [i64]>
+    ensures { option_copied result ≡ data_of (option_map view (option_copied tag.entry)) }
+{
+    match tag {
+        None => Some(&[]),
+        Some(tag) => tag.as_longs(),
+    }
+}
+
+/// Whether each index is below a number.
+fn are_below(indices: &[u16], count: usize) -> bool
+    ensures { result ≡ are_below count indices.now }
+{
+    indices.iter().all(|index| usize::from(*index) < count)
+}
+
+/// The indices that longs hold, into a palette of so many entries. `BadPacked` where the longs are not as many as it
+/// needs, or where an index is not below its length.
+pub(crate) fn longs_indices(alloc: Global, longs: &[i64], count: usize) -> Result<Vec<u16>, Fault>
+    requires { count ≤ 65536 }
+    ensures ok { IfOk result (λ indices. packed_indices count longs.now ≡ Some indices.items) }
+    ensures err { IfErr result (AreNoIndices (packed_indices count longs.now)) }
+{
+    let indices = unpack(alloc, longs, bits_for(count))?;
+    if !are_below(indices.as_slice(), count) {
+        return Err(Fault::BadPacked);
+    }
+    Ok(indices)
+}
+
+/// The numbers of a list, each once, in the order in which they come first.
+pub(crate) fn distinct(alloc: Global, numbers: &[u16]) -> Result<Vec<u16>, AllocError>
+    ensures { IfOk result (λ once. AreDistinct numbers.now once.items) }
+{
+    let mut once = IndexSet::new(alloc);
+    for number in numbers {
+        once.insert(*number)?;
+    }
+    Vec::from_slice(alloc, once.as_slice())
+}
+
+/// The index of a number that is in the palette.
+pub(crate) fn index_of(palette: &[u16], number: u16) -> usize
+    requires { Contains palette.now number }
+    ensures bound { result < length palette.now }
+    ensures value { slice_index palette.now result ≡ number }
+{
+    palette.iter().position(|known| *known == number).unwrap()
+}
+
+/// Where each number stands in a palette that has it.
+pub(crate) fn places_in(
+    alloc: Global,
+    palette: &[u16],
+    numbers: &[u16],
+) -> Result<Vec<u16>, AllocError>
+    requires there { All (Contains palette.now) numbers.now }
+    requires few { length palette.now ≤ 65536 }
+    ensures { IfOk result (λ places. ArePlaces palette.now numbers.now places.items) }
+{
+    let mut places = Vec::new(alloc);
+    for number in numbers {
+        places.push(index_of(palette, *number) as u16)?;
+    }
+    Ok(places)
+}
+
+/// The place of each index.
+pub(crate) fn mapped(alloc: Global, indices: &[u16], places: &[u16]) -> Result<Vec<u16>, AllocError>
+    requires { All (λ index. index < length places.now) indices.now }
+    ensures { IfOk result (λ found. found.items ≡ map (slice_index places.now) indices.now) }
+{
+    indices
+        .iter()
+        .map(|index| places[usize::from(*index)])
+        .collect(alloc)
+}
