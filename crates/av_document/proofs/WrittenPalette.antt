@@ -14,8 +14,8 @@ use Rattle.av_state.specs.BlockState.{BlockState, Property, air, meant, in_order
 use Rattle.av_state.specs.StateList.{same_state, number_in, with_state, with_states}
 use Rattle.av_state.proofs.Ordered.{in_order-again}
 use Rattle.av_state.proofs.Numbering.{number_in-there, number_in-any, number_in-none, number_in-end, with_states-number}
-use Rattle.av_section.specs.Palette.{name_key, properties_key, property_in, properties_in, is_of_entry, written_state, palette_of, property_tag, properties_tags, state_tag, states_tag}
-use Rattle.av_section.specs.BlockStates.{all_zero, are_below, indices_if, indices_in, indices_of, when, states_faults, state_at, palette_states, palette_tag, index_of, data_tag}
+use Rattle.av_section.specs.Palette.{name_key, properties_key, property_in, properties_in, is_of_entry, written_state, state_in, states_if, palette_of, property_tag, properties_tags, state_tag, states_tag}
+use Rattle.av_section.specs.BlockStates.{all_zero, are_below, indices_if, packed_indices, indices_in, indices_of, when, states_faults, state_at, palette_states, palette_tag, index_of, data_tag}
 use Rattle.av_pack.specs.Packing.{bits_for, longs_for, unpacked, packed}
 use Rattle.av_pack.proofs.Laws.{bits_for-low, bits_for-high, bits_for-enough, unpacked-packed}
 use Rattle.av_pack.proofs.Packed.{length-packed}
@@ -49,17 +49,12 @@ written_state-tags s ordered =
 
 -- ---- the palette
 
-each_state : (palette : List BlockState) → each compound_of (map state_tag palette) ≡ Some (map state_tags palette)
-each_state [] = refl
-each_state (s ∷ palette) =
-    ap (λ l. Some l >>= λ y. (each compound_of (map state_tag palette) >>= λ ys. Some (y ∷ ys))) (members_in_of (state_tags s))
-    ∙ ap (λ o. o >>= λ ys. Some (state_tags s ∷ ys)) (each_state palette)
-
-each_written : (palette : List BlockState) → AllByRecursion IsMeant palette → each written_state (map state_tags palette) ≡ Some palette
-each_written [] h = refl
-each_written (s ∷ palette) h =
-    ap (λ o. o >>= λ y. (each written_state (map state_tags palette) >>= λ ys. Some (y ∷ ys))) (written_state-tags s h.0.ordered)
-    ∙ ap (λ o. o >>= λ ys. Some (s ∷ ys)) (each_written palette h.1)
+each_state : (palette : List BlockState) → AllByRecursion IsMeant palette → each state_in (map state_tag palette) ≡ Some palette
+each_state [] h = refl
+each_state (s ∷ palette) h =
+    ap (λ l. written_state l >>= λ y. (each state_in (map state_tag palette) >>= λ ys. Some (y ∷ ys))) (members_in_of (state_tags s))
+    ∙ ap (λ o. o >>= λ y. (each state_in (map state_tag palette) >>= λ ys. Some (y ∷ ys))) (written_state-tags s h.0.ordered)
+    ∙ ap (λ o. o >>= λ ys. Some (s ∷ ys)) (each_state palette h.1)
 
 each_meant : (palette : List BlockState) → AllByRecursion IsMeant palette → each meant palette ≡ Some palette
 each_meant [] h = refl
@@ -69,10 +64,9 @@ each_meant (s ∷ palette) h =
 
 pub palette_of-written : (palette : List BlockState) → AllByRecursion IsMeant palette → 0 < length palette → length palette < 4097 → palette_of (Some (states_tag palette)) ≡ Some palette
 palette_of-written palette h some few =
-    ap (λ l. each compound_of l >>= λ entries. cond (nat_lt 0 (length entries) && nat_lt (length entries) 4097) (each written_state entries) None) (items_in_of (map state_tag palette))
-    ∙ ap (λ o. o >>= λ entries. cond (nat_lt 0 (length entries) && nat_lt (length entries) 4097) (each written_state entries) None) (each_state palette)
-    ∙ ap (λ b. cond b (each written_state (map state_tags palette)) None) (counts (length (map state_tags palette)) (length-map palette state_tags))
-    ∙ each_written palette h
+    ap (λ l. states_if (nat_lt 0 (length l) && nat_lt (length l) 4097) l) (items_in_of (map state_tag palette))
+    ∙ ap (λ b. states_if b (map state_tag palette)) (counts (length (map state_tag palette)) (length-map palette state_tag))
+    ∙ each_state palette h
   where
     counts : (n : ℕ) → n ≡ length palette → (nat_lt 0 n && nat_lt n 4097) ≡ true
     counts n e = grind (arith, nat_tests)
@@ -168,8 +162,10 @@ indices_all palette (s ∷ states) b h few =
 
 -- longs that are as many as they should be
 indices_in-longs : (count : ℕ) (longs : List ℤ) → 0 < length longs → indices_in count longs ≡ indices_if ((nat_eq (length longs) (longs_for (bits_for count))) && are_below count (unpacked (bits_for count) longs)) (unpacked (bits_for count) longs)
-indices_in-longs count [] some = absurd (omega arith)
-indices_in-longs count (z ∷ zs) some = refl
+indices_in-longs count longs some = ap (λ b. cond b (indices_if (nat_eq count 1) all_zero) (packed_indices count longs)) (not_zero (length longs) some)
+  where
+    not_zero : (n : ℕ) → 0 < n → nat_eq n 0 ≡ false
+    not_zero n h = grind (arith, nat_tests)
 
 -- the states of 4,096 places, and their palette
 pub record IsFilled (states palette : List BlockState) : Type 0 where
