@@ -7,6 +7,7 @@ mod LawProofs
 pub mod Written
 mod Bytes
 mod Loops
+mod Sorting
 pub mod Views
 pub mod Names
 pub mod Slots

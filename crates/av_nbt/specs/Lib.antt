@@ -9,3 +9,4 @@ pub mod Shape
 pub mod Outcome
 pub mod Reading
 pub mod Appending
+pub mod Order

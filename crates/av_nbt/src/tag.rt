@@ -118,24 +118,24 @@ impl Tag {
     ghost use Rattle.av_nbt.specs.Shape.{byte_of, int_of, text_of, longs_of, compound_of, items_of_list};
 
     /// A Byte.
-    pub fn byte(value: i8) -> Self
-        ensures { view result ≡ byte value }
+    pub fn byte(number: i8) -> Self
+        ensures { view result ≡ byte number }
     {
-        Tag::Byte(value)
+        Tag::Byte(number)
     }
 
     /// An Int.
-    pub fn int(value: i32) -> Self
-        ensures { view result ≡ int value }
+    pub fn int(number: i32) -> Self
+        ensures { view result ≡ int number }
     {
-        Tag::Int(value)
+        Tag::Int(number)
     }
 
     /// A Text of these bytes.
-    pub fn text(bytes: Vec<u8>) -> Self
-        ensures { view result ≡ text bytes.items }
+    pub fn text(characters: Vec<u8>) -> Self
+        ensures { view result ≡ text characters.items }
     {
-        Tag::Text(bytes)
+        Tag::Text(characters)
     }
 
     /// A List of tags of that kind.
@@ -146,10 +146,10 @@ impl Tag {
     }
 
     /// A Compound.
-    pub fn compound(members: Vec<Named>) -> Self
-        ensures { view result ≡ compound (members_of (named_views members.items)) }
+    pub fn compound(tags: Vec<Named>) -> Self
+        ensures { view result ≡ compound (members_of (named_views tags.items)) }
     {
-        Tag::Compound(members)
+        Tag::Compound(tags)
     }
 
     /// A Byte Array.
@@ -160,10 +160,10 @@ impl Tag {
     }
 
     /// A Long Array.
-    pub fn long_array(longs: Vec<i64>) -> Self
-        ensures { view result ≡ long_array longs.items }
+    pub fn long_array(numbers: Vec<i64>) -> Self
+        ensures { view result ≡ long_array numbers.items }
     {
-        Tag::LongArray(longs)
+        Tag::LongArray(numbers)
     }
 
     /// The tag's kind, which is never `End`.
