@@ -1,12 +1,12 @@
 -- Numbering states one after the other.
-use Rattle.std.proofs.Common.{◌≡◌, ℕ, zero, suc, ◌+◌, ◌-◌, ◌<◌, ◌≤◌, List, [], ◌∷◌, ◌++◌, length, take, drop, map, Bool, true, false, ◌&&◌, ◌||◌, Option, Some, None, option_map, option_and_then, cond, refl, ap, ◌∙◌, sym, arith, subst, length-append}
+use Rattle.std.proofs.Common.{◌≡◌, ℕ, zero, suc, ◌+◌, ◌-◌, ◌<◌, ◌≤◌, List, [], ◌∷◌, ◌++◌, length, take, drop, map, Bool, true, false, ◌&&◌, ◌||◌, Option, Some, None, option_map, option_and_then, IfSome, cond, refl, ap, ◌∙◌, sym, arith, subst, length-append}
 use Rattle.std.specs.List.{list_any, slice_get}
 use Rattle.std.specs.Str.{bytes_eq}
 use Rattle.std.specs.Cmp.Lexicographic.{pointwise}
 use Rattle.std.proofs.lemmas.Slice.Eq.{bytes_eq-Decides, slice_eq-Decides}
 use Rattle.std.proofs.lemmas.Bool.{and_parts, false≢true}
 use Rattle.std.specs.Bool.{Decides}
-use Rattle.std.proofs.lemmas.Option.{none-some, same_Some}
+use Rattle.std.proofs.lemmas.Option.{none-some, same_Some, slice_get_within}
 use Rattle.std.proofs.lemmas.List.{take-append-drop, take-append-le, length-take, map-append}
 use Rattle.av_state.specs.BlockState.{Property, BlockState, air, water, meant}
 use Rattle.av_state.specs.StateList.{same_property, same_state, first_states, most_states, number_in, with_state, with_states, IsStateList, Numbers}
@@ -260,3 +260,19 @@ with_state-water (suc (suc (suc (suc (suc (suc zero)))))) h = refl
 with_state-water (suc (suc (suc (suc (suc (suc (suc zero))))))) h = refl
 with_state-water (suc (suc (suc (suc (suc (suc (suc (suc zero)))))))) h = refl
 with_state-water (suc (suc (suc (suc (suc (suc (suc (suc (suc n))))))))) h = absurd (omega arith)
+
+known : (xs : List BlockState) (s : BlockState) (n : ℕ) (o : Option ℕ) → IsStateList xs → slice_get xs n ≡ Some s → number_in xs s ≡ o → number_in xs s ≡ Some n
+known xs s n None l h e = absurd (absent xs s e n h)
+known xs s n (Some m) l h e =
+    let there : slice_get xs m ≡ Some s = number_in-there xs s m e in
+    e ∙ ap Some (l.distinct m n (slice_get_within xs m s there) (slice_get_within xs n s h) (there ∙ sym h))
+
+-- the number of a number's state is that number
+pub number_in-state : (xs : List BlockState) (s : BlockState) (n : ℕ) → IsStateList xs → slice_get xs n ≡ Some s → number_in xs s ≡ Some n
+number_in-state xs s n l h = known xs s n (number_in xs s) l h refl
+
+-- a number that is found is that of the form
+pub number_of-there : (xs : List BlockState) (o : Option BlockState) (r : Option ℕ) → r ≡ option_and_then (number_in xs) o → IfSome r (λ n. slice_get xs n ≡ o)
+number_of-there xs o None e = tt
+number_of-there xs None (Some n) e = absurd (none-some n (sym e))
+number_of-there xs (Some s) (Some n) e = number_in-there xs s n (sym e)

@@ -59,14 +59,17 @@ impl StateTable {
     /// The state of a number.
     pub fn state(&self, number: u16) -> &State
         requires { number < length (states self.now) }
-        ensures { slice_get (states self.now) number ≡ Some (state_of result.now) }
+        ensures there { slice_get (states self.now) number ≡ Some (state_of result.now) }
+        // and of no other number
+        ensures only { number_in (states self.now) (state_of result.now) ≡ Some number }
     {
         &self.numbers[number as usize]
     }
 
     /// The number of a state in the form that it takes when it is read, where it has such a form and that is there.
     pub fn number_of(&self, state: &State) -> Option<u16>
-        ensures { result ≡ option_and_then (number_in (states self.now)) (meant (state_of state.now)) }
+        ensures value { result ≡ option_and_then (number_in (states self.now)) (meant (state_of state.now)) }
+        ensures there { IfSome result (λ n. slice_get (states self.now) n ≡ meant (state_of state.now)) }
     {
         match state.form() {
             Form::Fixed(number) => Some(number),

@@ -1,0 +1,12 @@
+use Rattle.std.proofs.Common.{option_and_then, sym, ap, ◌∙◌}
+use Rattle.av_state.specs.BlockState.{meant}
+use Rattle.av_state.specs.States.{state_of}
+use Rattle.av_state.specs.StateList.{number_in}
+use Rattle.av_state.specs.Table.{states}
+use Rattle.av_state.proofs.Numbering.{number_of-there}
+use Rattle.av_state.proofs.table.StateTable.number_of.Goals as goal
+
+pub returns-in-Same-clause-there : goal.returns-in-Same-clause-there
+returns-in-Same-clause-there c =
+    let xs = states c.args.self.now in
+    number_of-there xs (meant (state_of c.args.state.now)) c.place.result (c.place.ensures ∙ ap (option_and_then (number_in xs)) (sym c.in-Same.ensures))
