@@ -15,8 +15,8 @@ loop-number-preserved c =
     let s = state_of c.state-state.result.now in
     let row : c.row-row.result ≡ row_of t s = c.row-row.ensures in
     let wet : c.wet_by.result ≡ wet_in t s = c.wet_by.ensures ∙ ap (λ (r : Row). wet_by r s) row in (
-      c.in_ok-push.ensures.items ∙ ap (λ (r : Row). c.loop-number.rows.items ++ r ∷ []) row ∙ map-take-more (row_of t) (states c.args.table) c.loop-number.number s _ c.state-state.ensures c.loop-number.invariant.0,
-      c.in_ok-push-2.ensures.items ∙ ap (λ (w : Wet). c.loop-number.wets.items ++ w ∷ []) wet ∙ map-take-more (wet_in t) (states c.args.table) c.loop-number.number s _ c.state-state.ensures c.loop-number.invariant.1,
+      c.in_ok-push.ensures.items ∙ ap (λ (r : Row). c.loop-number.rows.items ++ r ∷ []) row ∙ map-take-more (row_of t) (states c.args.table) c.loop-number.number s _ c.state-state.ensures.there c.loop-number.invariant.0,
+      c.in_ok-push-2.ensures.items ∙ ap (λ (w : Wet). c.loop-number.wets.items ++ w ∷ []) wet ∙ map-take-more (wet_in t) (states c.args.table) c.loop-number.number s _ c.state-state.ensures.there c.loop-number.invariant.1,
     )
 
 pub invariant_of-result : goal.invariant_of-result
