@@ -10,7 +10,8 @@ use Rattle.std.proofs.lemmas.List.{get_or-set_other}
 use Rattle.av_types.specs.declared.place.Pos.{Pos}
 use Rattle.av_types.specs.declared.tick.Entry.{Entry}
 use Rattle.av_types.specs.Places.{chunk_of}
-use Rattle.av_cells.specs.Positions.{same_pos, same_chunk, IsNearOrigin}
+use Rattle.av_cells.specs.Positions.{same_pos, same_chunk, IsNearOrigin, IsInner}
+use Rattle.av_cells.specs.Rule.{HasKinds}
 use Rattle.av_cells.specs.World.{World, Lists, with_number, with_entry, with_entry_if, listed_if}
 
 -- a coordinate is one of so many from the lowest
@@ -169,3 +170,16 @@ world_adds bottom layers numbers waiting e long there h =
 
 pub read_false : (cells : List Bool) (i j : ℕ) (b : Bool) → b ≡ slice_index_or cells i b → b ≡ false → i ≡ j → slice_index_or cells j false ≡ false
 read_false cells i j b is e same = subst (λ k. slice_index_or cells k false ≡ false) same (subst (λ x. slice_index_or cells i x ≡ x) e (sym is))
+
+pub all_have_kinds : (bottom : ℤ) (layers : ℕ) (numbers : List ℕ) (waiting : List Bool) (count : ℕ) → length numbers ≡ 256 * layers
+    → ((k : ℕ) → k < length numbers → slice_index numbers k < count) → HasKinds count (world_of bottom layers numbers waiting)
+all_have_kinds bottom layers numbers waiting count long h = λ p there. by p (is_there bottom layers p) refl there where
+  by : (p : Pos) (b : Bool) → is_there bottom layers p ≡ b → b ≡ true → cond b (slice_index numbers (slot bottom p)) 0 < count
+  by p true e t = h (slot bottom p) (let a = slot_within bottom layers p (there_of bottom layers p e) in omega (arith, a, long))
+  by p false e t = absurd (true≢false (sym t))
+
+pub there_is_inner : (bottom : ℤ) (layers : ℕ) (p : Pos) → is_there bottom layers p ≡ true → negsuc 1023 ≤ℤ bottom → (bottom +ℤ pos layers) ≤ℤ pos 1024 → IsInner p
+there_is_inner bottom layers p h low high =
+    let t = there_is_near bottom layers low high p h in
+    let a = t.x_low in let b = t.x_high in let c = t.y_low in let d = t.y_high in let e = t.z_low in let f = t.z_high in
+    record { x_low = omega (arith, ints); x_high = omega (arith, ints); y_low = omega (arith, ints); y_high = omega (arith, ints); z_low = omega (arith, ints); z_high = omega (arith, ints) }

@@ -1,12 +1,15 @@
 //! Some layers of the chunk at x 0 and z 0.
 ghost use Rattle.std.specs.Prelude.{◌≡◌, ◌<◌, ◌≤◌, ◌+◌, ◌*◌, ◌-◌, ℕ, ◌+ℤ◌, ◌-ℤ◌, ◌≤ℤ◌, ◌<ℤ◌, pos, negsuc, nat_abs, length, vec_len, [], IsTrue, Some, None, IfOk, IfErr, if◌then◌else◌, true, false};
 ghost use Rattle.arrayvec.specs.ArrayVec.{array_vec_len};
+ghost use Rattle.av_rules.specs.Kinds.{kind_count};
+ghost use Rattle.av_cells.specs.Rule.{HasKinds};
 ghost use Rattle.av_types.specs.declared.fault.Fault.TheVariants.{OutOfMemory};
 ghost use Rattle.av_types.specs.declared.place.Pos.{Pos};
 ghost use Rattle.av_column.specs.Columns.{is_in, is_there, slot, world_of, lists_of};
 
 use arrayvec::ArrayVec;
 use av_cells::Cells;
+use av_rules::Kinds;
 use av_types::{Entry, Fault, Pos};
 use std::alloc::Global;
 
@@ -84,11 +87,28 @@ impl Column {
         })
     }
 
+    /// Whether each block's number has a kind.
+    #[tactic(auto, using(crate::specs::Columns::all_have_kinds))]
+    pub fn has_kinds(&self, kinds: &Kinds) -> bool
+        ensures { IsTrue result → HasKinds (kind_count kinds.now)
+            (world_of self.now.bottom self.now.layers self.now.numbers.items self.now.waiting.items) }
+    {
+        let count = kinds.count();
+        self.numbers.iter().all(|number| (*number as usize) < count)
+    }
+
     /// The entries, in the order in which they were added.
     pub fn entries(&self) -> &[Entry]
         ensures { result.now ≡ self.now.entries.items }
     {
         self.entries.as_slice()
+    }
+
+    /// How many more entries it can take.
+    pub fn room(&self) -> usize
+        ensures { result ≡ 512 - array_vec_len self.now.entries }
+    {
+        self.entries.remaining_capacity()
     }
 
     /// Takes the first entry out, if there is one.

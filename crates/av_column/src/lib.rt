@@ -4,3 +4,6 @@
 pub mod columns;
 
 pub use columns::Column;
+
+#[cfg(test)]
+mod tests;
