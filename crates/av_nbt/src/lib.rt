@@ -1,6 +1,7 @@
 //! NBT, the tags of Minecraft's files (<https://minecraft.wiki/w/NBT_format>): a tag tree, its bytes read and written.
 #![tactic(auto)]
 
+pub mod copy;
 mod distinct;
 mod fields;
 pub mod members;
@@ -8,6 +9,7 @@ pub mod reader;
 pub mod tag;
 pub mod writer;
 
+pub use copy::copy_tags;
 pub use members::{exchange, find, place, remove};
 pub use reader::{decode, spelling_is_unique};
 pub use tag::{Kind, Named, Root, Tag};

@@ -1,6 +1,6 @@
 //! Documents by hand.
 use crate::{
-    Kind, Named, Tag, decode, encode, exchange, find, place, remove, spelling_is_unique,
+    Kind, Named, Tag, copy_tags, decode, encode, exchange, find, place, remove, spelling_is_unique,
     written_is_spelling,
 };
 use av_types::Fault;
@@ -190,6 +190,7 @@ fn values_by_kind(rt: HostRuntime) -> Result<(), Fail> {
         Some(1)
     );
     assert_eq!(rt; tag(b"d")?.kind(), Kind::Long);
+    assert_eq!(rt; copy_tags(alloc, &root.tags)?, root.tags);
     spelling_is_unique();
     written_is_spelling();
     Ok(())
