@@ -9,3 +9,8 @@ pub mod Spelled
 pub mod WrittenSection
 pub mod Faults
 pub mod Written
+pub mod Good
+pub mod GoodNames
+pub mod GoodStates
+pub mod GoodCounts
+pub mod WellFormed

@@ -57,15 +57,19 @@ fits_byte : (y : ℤ) → negsuc 127 ≤ℤ y → y ≤ℤ pos 127 → FitsSigne
 fits_byte (pos n) low high = record { sfits = omega (arith, ints) }
 fits_byte (negsuc n) low high = record { sfits = omega (arith, ints) }
 
--- so is one of the height
-pub height_number : (h : Height) (y : ℤ) → is_section_of h y ≡ true → list_any (int_eq y) section_numbers ≡ true
-height_number h y inside =
+-- a number of the height is one byte
+pub height_fits : (h : Height) (y : ℤ) → is_section_of h y ≡ true → FitsSigned w8 y
+height_fits h y inside =
     let parts = and_parts (int_le h.min_section y) (int_lt y (h.min_section +ℤ pos h.sections)) inside in
     let low : h.min_section ≤ℤ y = le_from h.min_section y parts.0 in
     let high : y <ℤ (h.min_section +ℤ pos h.sections) = lt_from y (h.min_section +ℤ pos h.sections) parts.1 in
     let lowest : negsuc 63 ≤ℤ h.min_section = h.lowest in
     let highest : (h.min_section +ℤ pos h.sections) ≤ℤ pos 64 = h.highest in
-    byte_number y (fits_byte y (omega (arith, ints)) (omega (arith, ints)))
+    fits_byte y (omega (arith, ints)) (omega (arith, ints))
+
+-- so is one of the height
+pub height_number : (h : Height) (y : ℤ) → is_section_of h y ≡ true → list_any (int_eq y) section_numbers ≡ true
+height_number h y inside = byte_number y (height_fits h y inside)
 
 -- numbers that rise, from above y on
 abbrev pub rises_from : ℤ → List ℤ → Bool

@@ -8,7 +8,7 @@ use Rattle.std.proofs.lemmas.List.{length-map, length-append, get_or-map}
 use Rattle.std.proofs.lemmas.List.Elements.{All-nil, All-cons}
 use Rattle.av_nbt.specs.Nbt.{Nbt, text, long_array, NamedTag}
 use Rattle.av_nbt.specs.Place.{tag_of}
-use Rattle.av_nbt.specs.Shape.{◌>>=◌, compound_of, each, lacks, or_else}
+use Rattle.av_nbt.specs.Shape.{◌>>=◌, each, lacks, or_else}
 use Rattle.av_nbt.proofs.Trees.{items_in_of, members_in_of}
 use Rattle.av_state.specs.BlockState.{BlockState, Property, air, meant, in_order, is_in_order}
 use Rattle.av_state.specs.StateList.{same_state, number_in, with_state, with_states}
@@ -135,7 +135,7 @@ index_there palette s d h =
 
 -- ---- indices
 
-abbrev indices : List BlockState → List BlockState → List ℕ
+abbrev pub indices : List BlockState → List BlockState → List ℕ
 indices palette states = map (index_of palette) states
 
 indices_below : (palette states : List BlockState) → AllByRecursion (HasNumber palette) states → are_below (length palette) (indices palette states) ≡ true
@@ -153,7 +153,7 @@ indices_zero palette (s ∷ states) h one =
     let zeroth : index_of palette s ≡ 0 = omega arith in
     ap (λ k. k ∷ indices palette states) zeroth ∙ ap (λ l. 0 ∷ l) (indices_zero palette states h.1 one)
 
-indices_all : (palette states : List BlockState) (b : ℕ) → AllByRecursion (HasNumber palette) states → length palette ≤ 2 ^ b → All (λ n. n < 2 ^ b) (indices palette states)
+pub indices_all : (palette states : List BlockState) (b : ℕ) → AllByRecursion (HasNumber palette) states → length palette ≤ 2 ^ b → All (λ n. n < 2 ^ b) (indices palette states)
 indices_all palette [] b h few = All-nil (λ n. n < 2 ^ b)
 indices_all palette (s ∷ states) b h few =
     let lt : index_of palette s < length palette = index_lt palette s h.0 in

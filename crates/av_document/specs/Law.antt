@@ -1,12 +1,15 @@
 -- What ties reading and writing.
-use Rattle.std.specs.Prelude.{◌≡◌, ℕ, ℤ, pos, ◌-ℤ◌, List, map, Some, Bool, true}
-use Rattle.std.specs.List.{AllByRecursion}
+use Rattle.std.specs.Prelude.{◌≡◌, ℕ, ◌^◌, ◌<◌, ◌≤◌, ℤ, pos, ◌-ℤ◌, FitsSigned, List, length, map, Some, Bool, true}
+use Rattle.std.specs.Int.{w32}
+use Rattle.std.specs.List.{AllByRecursion, IsDistinct}
+use Rattle.std.specs.Str.{bytes_eq}
 use Rattle.av_types.specs.Places.{is_section_of}
 use Rattle.av_types.specs.declared.place.Pos.{Pos}
 use Rattle.av_types.specs.declared.place.ChunkPos.{ChunkPos}
 use Rattle.av_types.specs.declared.place.Height.{Height}
 use Rattle.av_types.specs.declared.tick.Entry.{Entry}
 use Rattle.av_nbt.specs.Nbt.{Document}
+use Rattle.av_nbt.specs.Spelling.{SpellsDocument}
 use Rattle.av_nbt.specs.Writing.{IsWellFormed}
 use Rattle.av_state.specs.BlockState.{BlockState, meant, is_in_order}
 use Rattle.av_ticks.specs.Entries.{are_apart}
@@ -48,3 +51,24 @@ pub record IsSameChunk (c : ChunkPos) (h : Height) (cells now : Pos → BlockSta
 abbrev pub DenotesOne : Type 0
 DenotesOne = (c : ChunkPos) (h : Height) (d : Document) (cells now : Pos → BlockState) (water then : List Entry) (rest other : Rest)
     → DenotesChunk c h d cells water rest → DenotesChunk c h d now then other → IsSameChunk c h cells now water then rest other
+
+-- texts that a document can have, and no key twice
+pub record HasShortTexts (s : BlockState) : Type 0 where
+  pub short_name : length s.name < 2 ^ 16
+  pub short_properties : AllByRecursion (λ p. (length p.key < 2 ^ 16) × (length p.value < 2 ^ 16)) s.properties
+  pub distinct_keys : IsDistinct bytes_eq (map (λ p. p.key) s.properties)
+
+-- an entry whose numbers are Ints, once so many ticks were run
+pub record HasInts (n : ℕ) (e : Entry) : Type 0 where
+  pub int_x : FitsSigned w32 e.pos.x
+  pub int_y : FitsSigned w32 e.pos.y
+  pub int_z : FitsSigned w32 e.pos.z
+  pub int_due : FitsSigned w32 (e.due -ℤ pos n)
+  pub int_priority : FitsSigned w32 e.priority
+
+-- What is written for a rest that was read from a document of at most 1,044,475 bytes has a spelling.
+abbrev pub WrittenIsWellFormed : Type 0
+WrittenIsWellFormed = (c : ChunkPos) (h : Height) (d : Document) (bytes : List ℕ) (cells now : Pos → BlockState) (water then : List Entry) (sources : Pos → Bool) (rest : Rest) (light : ℤ → List ℕ) (n : ℕ)
+    → SpellsDocument d bytes → length bytes ≤ 1044475 → DenotesChunk c h d cells water rest → IsLawful c h now then
+    → ((p : Pos) → lies_in c h p ≡ true → HasShortTexts (now p)) → AllByRecursion (HasInts n) then → ((y : ℤ) → is_section_of h y ≡ true → length (light y) ≡ 2048)
+    → IsWellFormed (chunk_layout c h now then sources rest light n)

@@ -2,12 +2,18 @@
 //! (<https://minecraft.wiki/w/Chunk_format>): definitions, and the law that ties them.
 #![tactic(auto)]
 
-ghost use Rattle.av_document.specs.Law.{WrittenDenotes, DenotesOne};
+ghost use Rattle.av_document.specs.Law.{WrittenDenotes, WrittenIsWellFormed, DenotesOne};
 
 /// A law of the definitions: what is written of a chunk denotes the same cells and rest, and the
 /// same water entries, sooner by the ticks that were run. There is nothing to do.
 pub fn written_denotes()
     ensures { WrittenDenotes }
+{}
+
+/// A law of the definitions: what is written for a rest that was read from a document of at most
+/// 1,044,475 bytes has a spelling, so that it can be encoded. There is nothing to do.
+pub fn written_is_well_formed()
+    ensures { WrittenIsWellFormed }
 {}
 
 /// A law of the definitions: a document denotes one chunk at most. There is nothing to do.
