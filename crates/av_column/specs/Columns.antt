@@ -1,5 +1,5 @@
 -- The blocks of the chunk at x 0 and z 0, layer by layer, each layer row by row.
-use Rattle.std.specs.Prelude.{◌≡◌, ◌≢◌, ℕ, ◌+◌, ◌*◌, ◌-◌, ◌<◌, ◌≤◌, ℤ, pos, negsuc, ◌+ℤ◌, ◌-ℤ◌, ◌≤ℤ◌, ◌<ℤ◌, nat_abs, int_le, int_lt, List, [], length, slice_index, slice_index_or, slice_set, Bool, true, false, ◌&&◌, if◌then◌else◌, cond, IsTrue, filter, ◌∷◌, ◌++◌, not}
+use Rattle.std.specs.Prelude.{◌≡◌, ℕ, ◌+◌, ◌*◌, ◌<◌, ℤ, pos, negsuc, ◌+ℤ◌, ◌-ℤ◌, ◌≤ℤ◌, ◌<ℤ◌, nat_abs, int_le, int_lt, List, [], length, slice_index, slice_index_or, slice_set, Bool, true, false, ◌&&◌, if◌then◌else◌, cond, filter, replicate, zero, suc, ◌∷◌, ◌++◌, not}
 use Rattle.std.specs.Ordering.{int_eq}
 use Rattle.std.proofs.Common.{refl, sym, ap, ◌∙◌, subst, arith}
 use Rattle.std.proofs.lemmas.Bool.{and_parts, true≢false}
@@ -183,3 +183,17 @@ there_is_inner bottom layers p h low high =
     let t = there_is_near bottom layers low high p h in
     let a = t.x_low in let b = t.x_high in let c = t.y_low in let d = t.y_high in let e = t.z_low in let f = t.z_high in
     record { x_low = omega (arith, ints); x_high = omega (arith, ints); y_low = omega (arith, ints); y_high = omega (arith, ints); z_low = omega (arith, ints); z_high = omega (arith, ints) }
+
+replicate_below : (n k count i : ℕ) → n < k → i < length (replicate count n) → slice_index (replicate count n) i < k
+replicate_below n k zero i h l = absurd (omega arith)
+replicate_below n k (suc count) zero h l = h
+replicate_below n k (suc count) (suc i) h l = replicate_below n k count i h (omega arith)
+
+long_as : (n count : ℕ) → length (replicate count n) ≡ count
+long_as n zero = refl
+long_as n (suc count) = ap suc (long_as n count)
+
+pub filled_has_kinds : (bottom : ℤ) (layers : ℕ) (numbers : List ℕ) (waiting : List Bool) (n k : ℕ) → numbers ≡ replicate (256 * layers) n → n < k → HasKinds k (world_of bottom layers numbers waiting)
+filled_has_kinds bottom layers numbers waiting n k is h =
+    all_have_kinds bottom layers numbers waiting k (ap length is ∙ long_as n (256 * layers))
+    (subst (λ xs. (i : ℕ) → i < length xs → slice_index xs i < k) (sym is) (λ i l. replicate_below n k (256 * layers) i h l))

@@ -3,6 +3,7 @@ ghost use Rattle.std.specs.Prelude.{◌≡◌, ◌<◌, ◌≤◌, ◌+◌, ◌*
 ghost use Rattle.arrayvec.specs.ArrayVec.{array_vec_len};
 ghost use Rattle.av_rules.specs.Kinds.{kind_count};
 ghost use Rattle.av_cells.specs.Rule.{HasKinds};
+ghost use Rattle.av_cells.specs.Wakes.{SameStates};
 ghost use Rattle.av_types.specs.declared.fault.Fault.TheVariants.{OutOfMemory};
 ghost use Rattle.av_types.specs.declared.place.Pos.{Pos};
 ghost use Rattle.av_column.specs.Columns.{is_in, is_there, slot, world_of, lists_of};
@@ -70,12 +71,15 @@ impl Column {
     ///
     /// # Errors
     /// `OutOfMemory`.
+    #[tactic(auto, using(crate::specs::Columns::filled_has_kinds))]
     pub fn filled(alloc: Global, bottom: i32, layers: u32, number: u16) -> Result<Column, Fault>
         requires low { negsuc 1023 ≤ℤ bottom }
         requires high { (bottom +ℤ pos layers) ≤ℤ pos 1024 }
         ensures fault { IfErr result (λ e. e ≡ OutOfMemory) }
         ensures bottom { IfOk result (λ c. c.bottom ≡ bottom) }
         ensures layers { IfOk result (λ c. c.layers ≡ layers) }
+        ensures kinds { IfOk result (λ c. (k : ℕ) → number < k
+            → HasKinds k (world_of c.bottom c.layers c.numbers.items c.waiting.items)) }
     {
         let count = 256 * layers as usize;
         Ok(Column {
@@ -111,8 +115,12 @@ impl Column {
         self.entries.remaining_capacity()
     }
 
-    /// Takes the first entry out, if there is one.
-    pub fn take_first(&mut self) -> Option<Entry> {
+    /// Takes the first entry out, if there is one. Its block is pending no longer, and keeps its state.
+    pub fn take_first(&mut self) -> Option<Entry>
+        ensures states { SameStates
+            (world_of self.old.bottom self.old.layers self.old.numbers.items self.old.waiting.items)
+            (world_of self.new.bottom self.new.layers self.new.numbers.items self.new.waiting.items) }
+    {
         if self.entries.is_empty() {
             return None;
         }

@@ -1,0 +1,7 @@
+use Rattle.std.proofs.Common.{replicate, ◌*◌, false}
+use Rattle.av_column.specs.Columns.{filled_has_kinds}
+use Rattle.av_column.proofs.columns.Column.filled.Goals as goal
+
+pub returns-clause-kinds : goal.returns-clause-kinds
+returns-clause-kinds c = λ k h.
+    filled_has_kinds _ _ _ (replicate (256 * c.args.layers) false) c.args.number k (c.in_ok-vec.ensures.items_if_clones_equal (λ y e. e)) h
