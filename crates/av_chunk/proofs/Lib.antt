@@ -1,2 +1,4 @@
 pub mod Heights
 pub mod Numbers
+pub mod Rows
+pub mod Judging

@@ -4,11 +4,16 @@ use Rattle.std.proofs.lemmas.Int.{ints}
 use Rattle.std.specs.Ordering.{int_eq}
 use Rattle.std.specs.List.{list_any}
 use Rattle.av_nbt.specs.Nbt.{Nbt, NamedTag}
-use Rattle.av_nbt.specs.Shape.{◌>>=◌, compound_of, each, lacks}
+use Rattle.av_nbt.specs.Shape.{◌>>=◌, compound_of, compounds_of, items_of_list, each, lacks}
 use Rattle.std.proofs.Common.{subst, Decides}
 use Rattle.std.proofs.lemmas.Bool.Decides.{Decides-int_eq}
 use Rattle.av_types.specs.declared.place.Height.{Height}
-use Rattle.av_chunk.specs.Working.{has_other, flag_of, Noted, are_bad_items, checked_number}
+use Rattle.av_chunk.specs.Working.{has_other, flag_of, Noted, are_bad_items, checked_number, good_number, is_refused}
+use Rattle.std.proofs.Common.{◌&&◌, if◌then◌else◌, codes}
+use Rattle.std.proofs.Math.Bool.{or-true, or-false}
+use Rattle.av_types.specs.Places.{is_section_of}
+use Rattle.av_nbt.specs.Place.{tag_of}
+use Rattle.av_document.specs.Chunk.{section_number, is_other, is_bad_at, with_number, are_bad_sections, is_bad_list}
 
 other_step : (o : Option (List NamedTag)) (r : Option (List (List NamedTag))) (b : Bool) → lacks r ≡ b → lacks (o >>= λ y. r >>= λ ys. Some (y ∷ ys)) ≡ lacks o || b
 other_step None r b e = refl
@@ -51,3 +56,43 @@ Noted-set before flags y p n = record {
 pub good_step : (h : Height) (before : List ℤ) (t : Nbt) (ts : List Nbt) (y : ℤ) (r : Bool) → Some y ≡ checked_number h (compound_of t) → list_any (int_eq y) before ≡ false
     → are_bad_items h before (t ∷ ts) ≡ r → are_bad_items h (y ∷ before) ts ≡ r
 good_step h before t ts y r e f g = rw (← e, f) at g
+
+-- ---- all sections
+
+abbrev list_from : Height → List ℤ → Option (List (List NamedTag)) → Bool
+list_from h before None = true
+list_from h before (Some rows) = are_bad_sections h before rows
+
+number_step : (h : Height) (before : List ℤ) (ms : List NamedTag) (y : ℤ) (rows : List (List NamedTag)) (bad : Bool)
+  → (list_any (int_eq y) before || bad) || are_bad_sections h (y ∷ before) rows
+      ≡ is_refused before (if bad then None else Some y) || are_bad_sections h (with_number before (if bad then None else Some y)) rows
+number_step h before ms y rows true = simp (or-true)
+number_step h before ms y rows false = simp (or-false)
+
+row_step : (h : Height) (before : List ℤ) (ms : List NamedTag) (rows : List (List NamedTag)) (n : Option ℤ)
+  → is_bad_at h before ms n || are_bad_sections h (with_number before n) rows
+      ≡ is_refused before (good_number h ms n) || are_bad_sections h (with_number before (good_number h ms n)) rows
+row_step h before ms rows None = refl
+row_step h before ms rows (Some y) = number_step h before ms y rows (is_section_of h y && is_other compound_of (tag_of (codes "block_states") ms))
+
+bad_step : (h : Height) (before : List ℤ) (o : Option (List NamedTag)) (r : Option (List (List NamedTag))) (b : Bool) → list_from h (with_number before (checked_number h o)) r ≡ b
+  → list_from h before (o >>= λ y. r >>= λ ys. Some (y ∷ ys)) ≡ is_refused before (checked_number h o) || b
+bad_step h before None r b e = refl
+bad_step h before (Some ms) None b e = rw (← e) (simp (or-true))
+bad_step h before (Some ms) (Some rows) b e = rw (← e) (row_step h before ms rows (section_number ms))
+
+bad_from : (h : Height) (before : List ℤ) (ts : List Nbt) → list_from h before (each compound_of ts) ≡ are_bad_items h before ts
+bad_from h before [] = refl
+bad_from h before (t ∷ ts) = bad_step h before (compound_of t) (each compound_of ts) _ (bad_from h (with_number before (checked_number h (compound_of t))) ts)
+
+-- the sections of a root are judged tag by tag
+pub is_bad_list-each : (h : Height) (ts : List Nbt) → is_bad_list h (each compound_of ts) ≡ are_bad_items h [] ts
+is_bad_list-each h ts = list_is h (each compound_of ts) ∙ bad_from h [] ts
+  where
+    list_is : (h : Height) (o : Option (List (List NamedTag))) → is_bad_list h o ≡ list_from h [] o
+    list_is h None = refl
+    list_is h (Some rows) = refl
+
+pub is_bad_list-at : (h : Height) (t : Option Nbt) (ts : List Nbt) → t >>= items_of_list ≡ Some ts → is_bad_list h (t >>= compounds_of) ≡ are_bad_items h [] ts
+is_bad_list-at h None ts e = cc
+is_bad_list-at h (Some t) ts e = rw e (is_bad_list-each h ts)

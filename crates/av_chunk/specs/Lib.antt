@@ -5,3 +5,5 @@ pub mod Block
 pub mod Light
 pub mod Writing
 pub mod WritingSteps
+pub mod TicksRead
+pub mod SectionsRead

@@ -23,6 +23,9 @@ byte_at n ms = tag_of n ms >>= byte_of
 abbrev pub members_at : List ℕ → List NamedTag → Option (List NamedTag)
 members_at n ms = tag_of n ms >>= compound_of
 
+abbrev pub compound_in : Option Nbt → Option (List NamedTag)
+compound_in o = o >>= compound_of
+
 abbrev pub items_at : List ℕ → List NamedTag → Option (List Nbt)
 items_at n ms = tag_of n ms >>= items_of_list
 

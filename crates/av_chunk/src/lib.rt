@@ -5,6 +5,7 @@ pub mod block;
 pub mod chunk;
 pub mod light;
 pub mod rest;
+mod sections;
 mod shape;
 mod tags;
 mod water;

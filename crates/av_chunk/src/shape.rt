@@ -3,10 +3,10 @@ ghost use Rattle.std.specs.Prelude.{◌≡◌, ◌<◌, [], Ok};
 ghost use Rattle.av_nbt.specs.Place.{tag_of};
 ghost use Rattle.av_nbt.specs.Shape.{compound_of, compounds_of};
 ghost use Rattle.av_nbt.specs.View.{view, views, named_views};
-ghost use Rattle.av_document.specs.Chunk.{section_number, is_other, is_bad_list, sections_of, is_bad_chunk, is_elsewhere};
+ghost use Rattle.av_document.specs.Chunk.{section_number, is_other, is_bad_list, sections_of, is_full_name, is_bad_chunk, is_elsewhere};
 ghost use Rattle.av_chunk.specs.Working.{has_other, are_bad_items, admitted, checked_number, flag_of};
 
-use crate::tags::{byte_at, int_at, text_at};
+use crate::tags::{byte_at, int_at, items_at, text_at};
 use av_nbt::{Named, Tag, find};
 use av_types::{ChunkPos, Fault, Height};
 
@@ -81,4 +81,64 @@ fn has_bad_section(items: &[Tag], height: Height) -> bool
         seen[flag] = true;
     }
     false
+}
+
+/// Whether `sections` are missing, of another kind, or have a bad section.
+fn is_bad_list(tags: &[Named], height: Height) -> bool
+    ensures { result ≡ is_bad_list height (sections_of (named_views tags.now)) }
+{
+    match items_at(tags, b"sections") {
+        None => true,
+        Some(items) => has_bad_section(items, height),
+    }
+}
+
+/// Whether a tag that every chunk has is missing or of another kind.
+fn is_bad_chunk(tags: &[Named], height: Height) -> bool
+    ensures { result ≡ is_bad_chunk height (named_views tags.now) }
+{
+    int_at(tags, b"xPos").is_none()
+        || int_at(tags, b"zPos").is_none()
+        || is_bad_list(tags, height)
+        || is_no_list_of_compounds(tags, b"fluid_ticks")
+}
+
+/// Whether a chunk is not at its place.
+fn is_elsewhere(tags: &[Named], place: ChunkPos) -> bool
+    ensures { result ≡ is_elsewhere place (named_views tags.now) }
+{
+    match (int_at(tags, b"xPos"), int_at(tags, b"zPos")) {
+        (Some(x), Some(z)) => x != place.x || z != place.z,
+        _ => true,
+    }
+}
+
+/// Whether a `Status` is that of a chunk that is to be loaded.
+fn is_full(status: &[u8]) -> bool
+    ensures { result ≡ is_full_name status.now }
+{
+    status == b"full".as_slice() || status == b"minecraft:full".as_slice()
+}
+
+/// Whether a chunk is to be loaded, judged by all that is looked at before it is taken apart: `OldLayout`, `BadChunk`
+/// and `WrongPlace`, in this order.
+pub(crate) fn admitted(tags: &[Named], place: ChunkPos, height: Height) -> Result<bool, Fault>
+    ensures { result ≡ admitted height place (named_views tags.now) }
+{
+    if find(tags, b"Level").is_some() {
+        return Err(Fault::OldLayout);
+    }
+    let Some(status) = text_at(tags, b"Status") else {
+        return Err(Fault::BadChunk);
+    };
+    if !is_full(status) {
+        return Ok(false);
+    }
+    if is_bad_chunk(tags, height) {
+        return Err(Fault::BadChunk);
+    }
+    if is_elsewhere(tags, place) {
+        return Err(Fault::WrongPlace);
+    }
+    Ok(true)
 }

@@ -1,12 +1,17 @@
 //! The scheduled fluid ticks of a chunk.
-ghost use Rattle.std.specs.Prelude.{◌≡◌};
+ghost use Rattle.std.specs.Prelude.{◌≡◌, false, IfOk, IfErr};
 ghost use Rattle.std.specs.Option.{option_copied};
-ghost use Rattle.av_nbt.specs.View.{named_views};
+ghost use Rattle.av_nbt.specs.View.{views, named_views};
 ghost use Rattle.av_document.specs.Ticks.{lies_in, fluid_of, is_water_name, numbers_of, water_entry, is_bad_tick};
+ghost use Rattle.av_chunk.specs.Working.{has_other};
+ghost use Rattle.av_chunk.specs.Views.{opened};
+ghost use Rattle.av_chunk.specs.TicksRead.{AreTicks, AreBadTicks};
 
 use crate::tags::{int_at, text_at};
-use av_nbt::Named;
-use av_types::{ChunkPos, Entry, Height, Pos};
+use av_nbt::{Named, Tag};
+use av_ticks::TickList;
+use av_types::{ChunkPos, Entry, Fault, Height, Pos};
+use std::alloc::Global;
 
 /// Whether a block is one of the chunk.
 fn lies_in(place: ChunkPos, height: Height, pos: Pos) -> bool
@@ -62,4 +67,39 @@ fn is_bad(tags: &[Named], place: ChunkPos, height: Height) -> bool
         None => false,
         Some(entry) => !lies_in(place, height, entry.pos),
     }
+}
+
+/// The scheduled ticks of a chunk: its water, and all others as they are.
+#[derive(Drop)]
+pub(crate) struct Ticks {
+    pub(crate) water: TickList,
+    pub(crate) foreign: Vec<Tag>,
+}
+
+/// The scheduled ticks of the Compounds of `fluid_ticks`, or `BadTick`.
+pub(crate) fn read_ticks(
+    alloc: Global,
+    ticks: Vec<Tag>,
+    place: ChunkPos,
+    height: Height,
+) -> Result<Ticks, Fault>
+    requires { has_other (views ticks.items) ≡ false }
+    ensures ok { IfOk result (AreTicks place height (opened (views ticks.items))) }
+    ensures err { IfErr result (AreBadTicks place height (opened (views ticks.items))) }
+{
+    let mut water = TickList::new(alloc);
+    let mut foreign = Vec::new(alloc);
+    for tick in ticks {
+        let tags = tick.as_members().unwrap();
+        if is_bad(tags, place, height) {
+            return Err(Fault::BadTick);
+        }
+        match water_entry(tags) {
+            Some(entry) => {
+                water.add(entry)?;
+            }
+            None => foreign.push(tick)?,
+        }
+    }
+    Ok(Ticks { water, foreign })
 }

@@ -30,9 +30,12 @@ has_level root = is_some (tag_of (codes "Level") root)
 abbrev pub status_of : List NamedTag → Option (List ℕ)
 status_of root = tag_of (codes "Status") root >>= text_of
 
--- a chunk that is to be loaded; every other is kept
+-- the `Status` of a chunk that is to be loaded; every other is kept
+abbrev pub is_full_name : List ℕ → Bool
+is_full_name s = bytes_eq s (codes "full") || bytes_eq s (codes "minecraft:full")
+
 abbrev pub is_full : List NamedTag → Bool
-is_full root = bytes_eq (or_else [] (status_of root)) (codes "full") || bytes_eq (or_else [] (status_of root)) (codes "minecraft:full")
+is_full root = is_full_name (or_else [] (status_of root))
 
 abbrev pub sections_of : List NamedTag → Option (List (List NamedTag))
 sections_of root = tag_of (codes "sections") root >>= compounds_of
