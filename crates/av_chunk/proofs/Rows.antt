@@ -10,7 +10,7 @@ use Rattle.av_nbt.specs.Nbt.{Nbt, NamedTag}
 use Rattle.av_nbt.specs.Shape.{compound_of, lacks, or_else}
 use Rattle.av_nbt.specs.View.{view, views}
 use Rattle.av_document.specs.Ticks.{is_bad_tick, water_entry, with_entry, with_water, foreign}
-use Rattle.av_chunk.specs.Working.{has_other}
+use Rattle.av_chunk.specs.Working.{has_other, tags_in, has_bad_number, checked_number}
 use Rattle.av_chunk.specs.Views.{opened}
 
 pub views-push : (xs : List Tag) (x : Tag) → views (xs ++ x ∷ []) ≡ views xs ++ view x ∷ []
@@ -50,3 +50,13 @@ others_after t rest h = after (lacks (compound_of (view t))) (has_other rest) h
     after : (a b : Bool) → a || b ≡ false → b ≡ false
     after true b h = cc
     after false b h = h
+
+pub rows-push : (xs : List Tag) (x : Tag) → opened (views (xs ++ x ∷ [])) ≡ opened (views xs) ++ tags_in (view x) ∷ []
+rows-push xs x = ap opened (views-push xs x) ∙ opened-push (views xs) (view x)
+
+or_after : (a b : Bool) → a || b ≡ false → b ≡ false
+or_after true b h = cc
+or_after false b h = h
+
+pub good_after : (h : Height) (t : Nbt) (rest : List Nbt) → has_bad_number h (t ∷ rest) ≡ false → has_bad_number h rest ≡ false
+good_after h t rest e = or_after (lacks (checked_number h (compound_of t))) (has_bad_number h rest) e

@@ -7,3 +7,4 @@ pub mod Writing
 pub mod WritingSteps
 pub mod TicksRead
 pub mod SectionsRead
+pub mod Pending

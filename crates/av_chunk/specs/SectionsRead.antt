@@ -1,25 +1,27 @@
 -- What the readers of sections answer.
-use Rattle.std.specs.Prelude.{◌≡◌, ◌≢◌, ℕ, ◌<◌, ℤ, List, [], ◌∷◌, ◌++◌, Option, Some, None, Bool, true, false, nat_lt, length, slice_get, codes}
+use Rattle.std.specs.Prelude.{◌≡◌, ◌≢◌, ℕ, ◌<◌, ℤ, List, [], ◌∷◌, ◌++◌, Option, Some, None, Bool, true, false, nat_lt, length, slice_get, slice_index_or, slice_set, codes, if◌then◌else◌}
+use Rattle.std.specs.List.{flat_map}
 use Rattle.av_types.specs.Faults.{fault_number, least}
 use Rattle.av_types.specs.Places.{is_section_of}
 use Rattle.av_types.specs.declared.place.Height.{Height}
 use Rattle.av_types.specs.declared.fault.Fault.{Fault}
 use Rattle.av_types.specs.declared.fault.Fault.TheVariants.{OutOfMemory}
-use Rattle.av_nbt.specs.Nbt.{NamedTag}
+use Rattle.av_nbt.specs.Nbt.{NamedTag, byte}
 use Rattle.av_nbt.specs.Place.{without}
 use Rattle.av_nbt.specs.Shape.{or_else}
 use Rattle.av_nbt.specs.View.{named_views}
 use Rattle.av_state.specs.BlockState.{BlockState}
 use Rattle.av_state.specs.StateList.{with_states, most_states}
 use Rattle.av_section.specs.BlockStates.{when}
-use Rattle.av_section.specs.Section.{number_at, is_pending}
+use Rattle.av_section.specs.Section.{number_at, is_pending, IsFilled}
 use Rattle.av_section.specs.declared.section.Section.{Section}
-use Rattle.av_document.specs.Chunk.{section_number, section_faults, section_states, section_rest, block_states_of, block_faults, block_palette, block_cell}
+use Rattle.av_document.specs.Chunk.{section_number, is_number, section_faults, section_states, section_rest, block_states_of, block_faults, block_palette, block_cell}
 use Rattle.av_chunk.specs.declared.sections.Part.{Part}
 use Rattle.av_chunk.specs.declared.sections.Part.TheVariants.{Inside, Outside}
+use Rattle.av_chunk.specs.declared.sections.Sections.{Sections}
 use Rattle.av_chunk.specs.declared.rest.SectionTags.{SectionTags}
 use Rattle.av_chunk.specs.declared.rest.OutsideSection.{OutsideSection}
-use Rattle.av_chunk.specs.Views.{tags_of}
+use Rattle.av_chunk.specs.Views.{tags_of, offset_of, first_some, section_or_missing, found_outside}
 
 -- more states than a table has
 abbrev pub are_too_many : List BlockState → List BlockState → Bool
@@ -66,3 +68,67 @@ pub record IsSectionRead (h : Height) (ms : List NamedTag) (old new : List Block
 
 pub record IsSectionRefused (h : Height) (ms : List NamedTag) (old : List BlockState) (e : Fault) : Type 0 where
   pub first : e ≢ OutOfMemory → judged (section_faults h ms) old (section_states h ms) ≡ Some (fault_number e)
+
+-- ---- all sections
+
+-- a section of a number before any was found
+abbrev pub or_missing : ℤ → Option (List NamedTag) → List NamedTag
+or_missing y found = or_else (record { name = codes "Y"; tag = byte y } ∷ []) found
+
+-- the last section of a number
+abbrev pub if_numbered : ℤ → List NamedTag → Option (List NamedTag)
+if_numbered y ms = if is_number y (section_number ms) then Some ms else None
+
+abbrev pub last_numbered : ℤ → List (List NamedTag) → Option (List NamedTag)
+last_numbered y [] = None
+last_numbered y (ms ∷ rows) = first_some (last_numbered y rows) (if_numbered y ms)
+
+abbrev pub SlotHas : List BlockState → (ℕ → BlockState) → Option Section → Type 0
+SlotHas table cell None = ⊥
+SlotHas table cell (Some s) = HasCells table cell s
+
+-- Each section of the height as it was found among these, and the others.
+pub record HoldSections (h : Height) (table : List BlockState) (rows : List (List NamedTag)) (r : Sections) : Type 0 where
+  pub count : length r.sections.items ≡ h.sections
+  pub count_kept : length r.kept.items ≡ h.sections
+  pub cells : (y : ℤ) → is_section_of h y ≡ true → SlotHas table (block_cell (block_states_of (or_missing y (last_numbered y rows)))) (slice_index_or r.sections.items (offset_of h y) None)
+  pub rests : (y : ℤ) → is_section_of h y ≡ true → section_or_missing y (slice_index_or r.kept.items (offset_of h y) None) ≡ section_rest (or_missing y (last_numbered y rows))
+  pub others : (y : ℤ) → is_section_of h y ≡ false → found_outside y r.outside.items ≡ last_numbered y rows
+
+-- an air section
+abbrev pub SlotIsFilled : Option Section → Type 0
+SlotIsFilled None = ⊥
+SlotIsFilled (Some s) = IsFilled s 0
+
+-- before any was found
+pub record AreMissing (h : Height) (r : Sections) : Type 0 where
+  pub count : length r.sections.items ≡ h.sections
+  pub count_kept : length r.kept.items ≡ h.sections
+  pub filled : (i : ℕ) → i < h.sections → SlotIsFilled (slice_index_or r.sections.items i None)
+  pub empty : (i : ℕ) → slice_index_or r.kept.items i None ≡ None
+  pub none : r.outside.items ≡ []
+
+-- one more part
+abbrev pub IsPlaced : Height → Part → Sections → Sections → Type 0
+IsPlaced h (Inside y s kept) old new =
+  (new.sections.items ≡ slice_set old.sections.items (offset_of h y) (Some s)) × (new.kept.items ≡ slice_set old.kept.items (offset_of h y) (Some kept)) × (new.outside.items ≡ old.outside.items)
+IsPlaced h (Outside o) old new =
+  (new.sections.items ≡ old.sections.items) × (new.kept.items ≡ old.kept.items) × (new.outside.items ≡ old.outside.items ++ o ∷ [])
+
+abbrev pub FitsHeight : Height → Part → Type 0
+FitsHeight h (Inside y s kept) = is_section_of h y ≡ true
+FitsHeight h (Outside o) = Unit {0}
+
+-- what all sections so far are read as
+pub record AreRead (h : Height) (rows : List (List NamedTag)) (old new : List BlockState) (r : Sections) : Type 0 where
+  pub no_fault : flat_map (section_faults h) rows ≡ []
+  pub states : new ≡ with_states old (flat_map (section_states h) rows)
+  pub held : HoldSections h new rows r
+
+pub record AreRefusedBy (h : Height) (rows : List (List NamedTag)) (old : List BlockState) (e : Fault) : Type 0 where
+  pub first : judged (flat_map (section_faults h) rows) old (flat_map (section_states h) rows) ≡ Some (fault_number e)
+
+-- after some sections: read, or the first fault of them so far
+abbrev pub AreJudged : Height → List (List NamedTag) → List BlockState → List BlockState → Sections → Option Fault → Type 0
+AreJudged h rows old new r None = AreRead h rows old new r
+AreJudged h rows old new r (Some e) = e ≢ OutOfMemory → AreRefusedBy h rows old e

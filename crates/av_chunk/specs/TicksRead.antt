@@ -1,6 +1,11 @@
 -- What the reader of a chunk's scheduled ticks answers.
-use Rattle.std.specs.Prelude.{◌≡◌, ◌≢◌, List, [], true, false}
-use Rattle.std.specs.List.{list_any}
+use Rattle.std.specs.Prelude.{◌≡◌, ◌≢◌, ℕ, List, [], ◌++◌, Option, Some, true, false}
+use Rattle.std.specs.List.{list_any, flat_map}
+use Rattle.av_types.specs.Faults.{fault_number, least}
+use Rattle.av_state.specs.BlockState.{BlockState}
+use Rattle.av_section.specs.BlockStates.{when}
+use Rattle.av_document.specs.Chunk.{section_faults, section_states}
+use Rattle.av_chunk.specs.SectionsRead.{are_too_many}
 use Rattle.av_types.specs.declared.place.ChunkPos.{ChunkPos}
 use Rattle.av_types.specs.declared.place.Height.{Height}
 use Rattle.av_types.specs.declared.fault.Fault.{Fault}
@@ -22,3 +27,11 @@ pub record AreTicks (c : ChunkPos) (h : Height) (rows : List (List NamedTag)) (t
 pub record AreBadTicks (c : ChunkPos) (h : Height) (rows : List (List NamedTag)) (e : Fault) : Type 0 where
   pub is : e ≢ OutOfMemory → e ≡ BadTick
   pub bad : e ≢ OutOfMemory → list_any (is_bad_tick c h) rows ≡ true
+
+-- of the sections and the ticks, the first fault that holds
+abbrev pub parts_judged : ChunkPos → Height → List (List NamedTag) → List (List NamedTag) → List BlockState → Option ℕ
+parts_judged c h rows ticks old =
+  least ((flat_map (section_faults h) rows ++ when (list_any (is_bad_tick c h) ticks) 16) ++ when (are_too_many old (flat_map (section_states h) rows)) 18)
+
+pub record ArePartsRefused (c : ChunkPos) (h : Height) (rows ticks : List (List NamedTag)) (old : List BlockState) (e : Fault) : Type 0 where
+  pub first : e ≢ OutOfMemory → parts_judged c h rows ticks old ≡ Some (fault_number e)

@@ -1,5 +1,5 @@
 -- What a chunk in memory holds, and what its rest does.
-use Rattle.std.specs.Prelude.{ℕ, ℤ, pos, negsuc, ◌-ℤ◌, List, [], ◌∷◌, map, Option, Some, None, Bool, false, codes, slice_get, if◌then◌else◌}
+use Rattle.std.specs.Prelude.{ℕ, ℤ, pos, negsuc, ◌-ℤ◌, List, [], ◌∷◌, map, Option, Some, None, Bool, false, codes, slice_get, slice_index_or, if◌then◌else◌}
 use Rattle.std.specs.Ordering.{int_eq}
 use Rattle.av_types.specs.Division.{divided}
 use Rattle.av_types.specs.Places.{is_section_of, place_of}
@@ -25,13 +25,9 @@ natural (negsuc n) = 0
 abbrev pub offset_of : Height → ℤ → ℕ
 offset_of h y = natural (y -ℤ h.min_section)
 
-abbrev pub joined : {A : Type 0} → Option (Option A) → Option A
-joined None = None
-joined (Some o) = o
-
 -- the section of a number, where it is not out
 abbrev pub section_in : Height → Chunk → ℤ → Option Section
-section_in h chunk y = joined (slice_get chunk.sections.items (offset_of h y))
+section_in h chunk y = slice_index_or chunk.sections.items (offset_of h y) None
 
 -- the number of a block's state
 abbrev pub number_in : Height → Chunk → Pos → Option ℕ
@@ -66,9 +62,13 @@ section_or_missing y None = missing y
 section_or_missing y (Some s) = tags_of s
 
 -- the section out of the height with a number
+abbrev pub first_some : {A : Type 0} → Option A → Option A → Option A
+first_some None o = o
+first_some (Some x) o = Some x
+
 abbrev pub found_outside : ℤ → List OutsideSection → Option (List NamedTag)
 found_outside y [] = None
-found_outside y (o ∷ os) = if int_eq y o.y then Some (named_views o.tags.items) else found_outside y os
+found_outside y (o ∷ os) = first_some (found_outside y os) (if int_eq y o.y then Some (named_views o.tags.items) else None)
 
 abbrev pub rest_of : ChunkRest → Rest
 rest_of r = record {
@@ -76,5 +76,5 @@ rest_of r = record {
   tags = named_views r.tags.items;
   foreign = opened (views r.foreign.items);
   outside = λ y. if is_section_of r.height y then None else found_outside y r.outside.items;
-  section = λ y. section_or_missing y (joined (slice_get r.sections.items (offset_of r.height y)));
+  section = λ y. section_or_missing y (slice_index_or r.sections.items (offset_of r.height y) None);
 }

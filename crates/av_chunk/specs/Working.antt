@@ -11,7 +11,7 @@ use Rattle.av_types.specs.declared.fault.Fault.{Fault}
 use Rattle.av_types.specs.declared.fault.Fault.TheVariants.{OldLayout, BadChunk, WrongPlace}
 use Rattle.av_nbt.specs.Nbt.{Nbt, NamedTag}
 use Rattle.av_nbt.specs.Place.{tag_of}
-use Rattle.av_nbt.specs.Shape.{◌>>=◌, text_of, byte_of, compound_of, items_of_list, lacks}
+use Rattle.av_nbt.specs.Shape.{◌>>=◌, text_of, byte_of, compound_of, compounds_of, items_of_list, lacks, or_else}
 use Rattle.av_document.specs.Chunk.{section_number, is_other, with_number, has_level, status_of, is_full, is_bad_chunk, is_elsewhere}
 
 abbrev pub text_at : List ℕ → List NamedTag → Option (List ℕ)
@@ -25,6 +25,10 @@ members_at n ms = tag_of n ms >>= compound_of
 
 abbrev pub compound_in : Option Nbt → Option (List NamedTag)
 compound_in o = o >>= compound_of
+
+-- the tags of a Compound
+abbrev pub tags_in : Nbt → List NamedTag
+tags_in t = or_else [] (compound_of t)
 
 abbrev pub items_at : List ℕ → List NamedTag → Option (List Nbt)
 items_at n ms = tag_of n ms >>= items_of_list
@@ -71,3 +75,15 @@ admitted h c root =
 pub record Noted (before : List ℤ) (flags : List Bool) : Type 0 where
   pub count : length flags ≡ 256
   pub each_flag : (y : ℤ) → FitsSigned w8 y → get_or flags (flag_of y) false ≡ list_any (int_eq y) before
+
+-- a section without a good number among them
+abbrev pub has_bad_number : Height → List Nbt → Bool
+has_bad_number h [] = false
+has_bad_number h (t ∷ ts) = lacks (checked_number h (compound_of t)) || has_bad_number h ts
+
+-- the tags of a List, and of the Compounds in it
+abbrev pub list_items : Option Nbt → List Nbt
+list_items o = or_else [] (o >>= items_of_list)
+
+abbrev pub list_rows : Option Nbt → List (List NamedTag)
+list_rows o = or_else [] (o >>= compounds_of)

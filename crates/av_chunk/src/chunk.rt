@@ -1,11 +1,22 @@
 //! A chunk, read from its document.
-ghost use Rattle.std.specs.Prelude.{IfOk, IfErr};
-ghost use Rattle.av_nbt.specs.View.{document};
+ghost use Rattle.std.specs.Prelude.{◌≡◌, IfOk, IfErr, false, option_map};
+ghost use Rattle.av_nbt.specs.Shape.{compounds_of};
+ghost use Rattle.av_nbt.specs.View.{document, view, views};
 ghost use Rattle.av_state.specs.Table.{states};
 ghost use Rattle.av_section.specs.Reading.{OnlyGrows};
+ghost use Rattle.av_document.specs.Chunk.{is_other};
+ghost use Rattle.av_chunk.specs.SectionsRead.{AreRead};
+ghost use Rattle.av_chunk.specs.TicksRead.{AreTicks, ArePartsRefused};
+ghost use Rattle.av_chunk.specs.Views.{opened};
+ghost use Rattle.av_chunk.specs.Working.{has_other, has_bad_number, list_items, list_rows};
 
+use crate::faults::lesser;
+use crate::pending::mark_pending;
 use crate::rest::ChunkRest;
-use av_nbt::Root;
+use crate::sections::{Sections, emptied, read_sections};
+use crate::shape::admitted;
+use crate::water::{Ticks, read_ticks};
+use av_nbt::{Root, Tag};
 use av_section::Section;
 use av_state::StateTable;
 use av_ticks::TickList;
@@ -30,6 +41,47 @@ pub enum Reading {
     Kept,
 }
 
+/// The tags of a List, none where there is no tag.
+fn items(alloc: Global, list: Option<Tag>) -> Vec<Tag>
+    requires { is_other compounds_of (option_map view list) ≡ false }
+    ensures rows { opened (views result.items) ≡ list_rows (option_map view list) }
+    ensures compounds { has_other (views result.items) ≡ false }
+    ensures items { views result.items ≡ list_items (option_map view list) }
+{
+    match list {
+        None => Vec::new(alloc),
+        Some(list) => list.into_items().unwrap(),
+    }
+}
+
+/// The sections and the scheduled ticks of a chunk. Of several faults the first is answered.
+fn read_parts(
+    alloc: Global,
+    sections: Vec<Tag>,
+    ticks: Vec<Tag>,
+    place: ChunkPos,
+    height: Height,
+    table: &mut StateTable,
+) -> Result<(Sections, Ticks), Fault>
+    requires numbers { has_bad_number height (views sections.items) ≡ false }
+    requires compounds { has_other (views ticks.items) ≡ false }
+    ensures sections { IfOk result (λ parts. AreRead height (opened (views sections.items)) (states table.old) (states table.new) parts.0) }
+    ensures ticks { IfOk result (λ parts. AreTicks place height (opened (views ticks.items)) parts.1) }
+    ensures err { IfErr result (ArePartsRefused place height (opened (views sections.items)) (opened (views ticks.items)) (states table.old)) }
+    ensures table { OnlyGrows (states table.old) (states table.new) }
+{
+    match read_ticks(alloc, ticks, place, height) {
+        Ok(ticks) => {
+            let sections = read_sections(alloc, sections, height, table)?;
+            Ok((sections, ticks))
+        }
+        Err(bad) => match read_sections(alloc, sections, height, table) {
+            Ok(_) => Err(bad),
+            Err(fault) => Err(lesser(Some(bad), fault)),
+        },
+    }
+}
+
 impl Chunk {
     ghost use Rattle.av_chunk.specs.Reading.{IsStored, IsReading, IsRefusal};
 
@@ -51,10 +103,35 @@ impl Chunk {
         ensures err { IfErr result (IsRefusal place height (document root) (states table.old)) }
         ensures table { OnlyGrows (states table.old) (states table.new) }
     {
-        let _ = alloc;
-        let _ = root;
-        let _ = (place, height);
-        let _ = table.len();
-        Err(Fault::OutOfMemory)
+        let Root { name, mut tags } = root;
+        if !admitted(&tags, place, height)? {
+            return Ok(Reading::Kept);
+        }
+        let sections = emptied(alloc, &mut tags, b"sections")?;
+        let ticks = emptied(alloc, &mut tags, b"fluid_ticks")?;
+        let (mut read, ticks) = read_parts(
+            alloc,
+            items(alloc, sections),
+            items(alloc, ticks),
+            place,
+            height,
+            table,
+        )?;
+        mark_pending(&mut read.sections, ticks.water.as_slice(), height);
+        Ok(Reading::Full {
+            chunk: Chunk {
+                sections: read.sections,
+                ticks: ticks.water,
+            },
+            rest: ChunkRest {
+                place,
+                height,
+                name,
+                tags,
+                foreign: ticks.foreign,
+                sections: read.kept,
+                outside: read.outside,
+            },
+        })
     }
 }

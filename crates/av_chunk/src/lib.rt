@@ -4,6 +4,8 @@
 pub mod block;
 pub mod chunk;
 pub mod light;
+mod faults;
+mod pending;
 pub mod rest;
 mod sections;
 mod shape;

@@ -1,15 +1,19 @@
 //! The sections of a chunk, taken apart in the order of the file.
-ghost use Rattle.std.specs.Prelude.{◌≡◌, IfOk, IfErr, OnOk, IsSome, false, option_map};
+ghost use Rattle.std.specs.Prelude.{◌≡◌, IfOk, IfErr, OnOk, IsSome, ◌<◌, ◌≢◌, length, true, false, option_map};
 ghost use Rattle.av_types.specs.declared.fault.Fault.TheVariants.{OutOfMemory};
+ghost use Rattle.av_types.specs.Division.{divided};
+ghost use Rattle.av_types.specs.Places.{is_section_of, is_block_of};
 ghost use Rattle.av_nbt.specs.Place.{tag_of, emptied, blank};
 ghost use Rattle.av_nbt.specs.Shape.{compound_of};
 ghost use Rattle.av_nbt.specs.View.{view, views, named_view, named_views};
 ghost use Rattle.av_state.specs.Table.{states};
 ghost use Rattle.av_section.specs.Reading.{OnlyGrows};
 ghost use Rattle.av_document.specs.Chunk.{is_other};
-ghost use Rattle.av_chunk.specs.SectionsRead.{AreStates, AreRefused};
-ghost use Rattle.av_chunk.specs.Working.{checked_number, compound_in};
+ghost use Rattle.av_chunk.specs.SectionsRead.{AreStates, AreRefused, IsSectionRead, IsSectionRefused, AreMissing, IsPlaced, FitsHeight, AreRead, AreRefusedBy};
+ghost use Rattle.av_chunk.specs.Views.{offset_of, opened};
+ghost use Rattle.av_chunk.specs.Working.{checked_number, compound_in, tags_in, has_bad_number};
 
+use crate::faults::lesser;
 use crate::rest::{OutsideSection, SectionTags};
 use crate::tags::byte_at;
 use av_nbt::{Named, Tag, exchange, find, remove};
@@ -64,4 +68,129 @@ fn read_states(
     let _ = remove(&mut others, b"palette");
     let _ = remove(&mut others, b"data");
     Ok((section, others))
+}
+
+/// Whether a section of that number is in the height.
+fn is_inside(height: Height, y: i8) -> bool
+    ensures { result ≡ is_section_of height y }
+{
+    height.has_section(i32::from(y))
+}
+
+/// A section taken apart. Its number and its `block_states` are of the right kind.
+fn read_section(
+    alloc: Global,
+    section: Tag,
+    height: Height,
+    table: &mut StateTable,
+) -> Result<Part, Fault>
+    requires { IsSome (checked_number height (compound_of (view section))) }
+    ensures ok { IfOk result (IsSectionRead height (tags_in (view section)) (states table.old) (states table.new)) }
+    ensures err { IfErr result (IsSectionRefused height (tags_in (view section)) (states table.old)) }
+    ensures table { OnlyGrows (states table.old) (states table.new) }
+{
+    let mut tags = section.into_members().unwrap();
+    let y = byte_at(&tags, b"Y").unwrap();
+    if !is_inside(height, y) {
+        return Ok(Part::Outside(OutsideSection { y, tags }));
+    }
+    let block_states = emptied(alloc, &mut tags, b"block_states")?;
+    let _ = emptied(alloc, &mut tags, b"BlockLight")?;
+    let (section, states) = read_states(alloc, block_states, table)?;
+    Ok(Part::Inside {
+        y,
+        section,
+        kept: SectionTags { tags, states },
+    })
+}
+
+/// The sections of a chunk: those of the height by their places, with what they keep, and all others.
+#[derive(Drop)]
+pub(crate) struct Sections {
+    pub(crate) sections: Vec<Option<Section>>,
+    pub(crate) kept: Vec<Option<SectionTags>>,
+    pub(crate) outside: Vec<OutsideSection>,
+}
+
+/// Where a section of the height stands among them.
+pub(crate) fn index_of(y: i8, height: Height) -> usize
+    requires { is_section_of height y ≡ true }
+    ensures value { result ≡ offset_of height y }
+    ensures bound { result < height.sections }
+{
+    (i32::from(y) - height.min_section) as usize
+}
+
+/// Where the section of a block in the height stands among them.
+pub(crate) fn index_of_block(y: i32, height: Height) -> usize
+    requires { is_block_of height y ≡ true }
+    ensures value { result ≡ offset_of height (divided y 16) }
+    ensures bound { result < height.sections }
+{
+    (y.div_euclid(16) - height.min_section) as usize
+}
+
+impl Sections {
+    /// Sections of air, which keep nothing.
+    fn missing(alloc: Global, height: Height) -> Result<Self, Fault>
+        ensures ok { IfOk result (AreMissing height) }
+        ensures err { IfErr result (λ e. e ≡ OutOfMemory) }
+    {
+        let mut sections = Vec::new(alloc);
+        let mut kept = Vec::new(alloc);
+        for _ in 0..height.sections {
+            sections.push(Some(Section::filled(alloc, 0)?))?;
+            kept.push(None)?;
+        }
+        Ok(Sections {
+            sections,
+            kept,
+            outside: Vec::new(alloc),
+        })
+    }
+
+    /// Puts a section where it belongs.
+    fn place(&mut self, part: Part, height: Height) -> Result<(), Fault>
+        requires fits { FitsHeight height part }
+        requires count { length self.old.sections.items ≡ height.sections }
+        requires count_kept { length self.old.kept.items ≡ height.sections }
+        ensures ok { OnOk result (IsPlaced height part self.old self.new) }
+        ensures err { IfErr result (λ e. e ≡ OutOfMemory) }
+    {
+        match part {
+            Part::Inside { y, section, kept } => {
+                let index = index_of(y, height);
+                self.sections[index] = Some(section);
+                self.kept[index] = Some(kept);
+            }
+            Part::Outside(section) => self.outside.push(section)?,
+        }
+        Ok(())
+    }
+}
+
+/// The sections of a chunk. Of several faults the first is answered; want of memory comes before all others.
+pub(crate) fn read_sections(
+    alloc: Global,
+    sections: Vec<Tag>,
+    height: Height,
+    table: &mut StateTable,
+) -> Result<Sections, Fault>
+    requires { has_bad_number height (views sections.items) ≡ false }
+    ensures ok { IfOk result (AreRead height (opened (views sections.items)) (states table.old) (states table.new)) }
+    ensures err { IfErr result (λ e. e ≢ OutOfMemory → AreRefusedBy height (opened (views sections.items)) (states table.old) e) }
+    ensures table { OnlyGrows (states table.old) (states table.new) }
+{
+    let mut read = Sections::missing(alloc, height)?;
+    let mut refused = None;
+    for section in sections {
+        match read_section(alloc, section, height, table) {
+            Ok(part) => read.place(part, height)?,
+            Err(fault) => refused = Some(lesser(refused, fault)),
+        }
+    }
+    match refused {
+        None => Ok(read),
+        Some(fault) => Err(fault),
+    }
 }

@@ -1,0 +1,231 @@
+-- Sections put in their places.
+use Rattle.std.proofs.Common.{◌≡◌, ◌≢◌, ℕ, ◌<◌, ◌+◌, ℤ, Bool, true, false, true≢false, Option, Some, None, List, [], ◌∷◌, ◌++◌, length, get_or, slice_set, slice_get, refl, sym, ap, ◌∙◌, subst, arith, codes, if◌then◌else◌, Decides, get_or-set_same, get_or-set_other, length-set, zero, suc, below_more, option_map, take, append_assoc}
+use Rattle.std.proofs.lemmas.Bool.Decides.{Decides-int_eq}
+use Rattle.std.proofs.lemmas.List.{get_or_append_left}
+use Rattle.std.proofs.Math.Seq.{get_or-append_seam}
+use Rattle.std.specs.Ordering.{int_eq}
+use Rattle.std.specs.List.{flat_map}
+use Rattle.std.proofs.lemmas.Grind.{flat_map-append}
+use Rattle.std.proofs.lemmas.List.{append-nil}
+use Rattle.av_types.specs.Faults.{fault_number, lesser}
+use Rattle.av_types.specs.Places.{is_section_of}
+use Rattle.av_types.specs.declared.place.Height.{Height}
+use Rattle.av_types.specs.declared.fault.Fault.{Fault}
+use Rattle.av_types.specs.declared.fault.Fault.TheVariants.{OutOfMemory}
+use Rattle.av_nbt.specs.Nbt.{NamedTag, byte}
+use Rattle.av_nbt.specs.Shape.{or_else}
+use Rattle.av_nbt.specs.View.{named_views}
+use Rattle.av_state.specs.BlockState.{BlockState, air}
+use Rattle.av_state.specs.StateList.{with_states, first_states}
+use Rattle.av_section.specs.Section.{number_at, IsFilled}
+use Rattle.av_section.specs.Reading.{OnlyGrows}
+use Rattle.av_section.specs.declared.section.Section.{Section}
+use Rattle.av_document.specs.Chunk.{section_number, is_number, section_faults, section_states, section_rest, block_states_of, block_cell}
+use Rattle.av_chunk.specs.declared.rest.SectionTags.{SectionTags}
+use Rattle.av_chunk.specs.declared.rest.OutsideSection.{OutsideSection}
+use Rattle.av_chunk.specs.declared.sections.Part.{Part}
+use Rattle.av_chunk.specs.declared.sections.Part.TheVariants.{Inside, Outside}
+use Rattle.av_chunk.specs.declared.sections.Sections.{Sections}
+use Rattle.av_chunk.specs.Views.{offset_of, first_some, section_or_missing, found_outside}
+use Rattle.av_chunk.specs.SectionsRead.{HasCells, IsInside, IsOutside, IsPart, IsSectionRead, IsSectionRefused, or_missing, if_numbered, last_numbered, SlotHas, SlotIsFilled, HoldSections, AreMissing, IsPlaced, AreRead, AreRefusedBy, AreJudged, FitsHeight}
+use Rattle.av_chunk.proofs.Heights.{offset_below, offset_apart}
+use Rattle.av_chunk.proofs.Judging.{with_states-append, first_kept, first_of, first_lesser, memory_first, memory_before}
+
+-- ---- air
+
+pub filled_push : (xs : List (Option Section)) (s : Section) (n : ℕ) → length xs ≡ n → IsFilled s 0 → ((i : ℕ) → i < n → SlotIsFilled (get_or xs i None))
+  → (i : ℕ) → i < n + 1 → SlotIsFilled (get_or (xs ++ Some s ∷ []) i None)
+filled_push xs s n l f h =
+    below_more (λ i. SlotIsFilled (get_or (xs ++ Some s ∷ []) i None)) n
+      (λ i p. let q : i < length xs = omega arith in rw (get_or_append_left xs (Some s ∷ []) None i q) (h i p))
+      (rw (← l, get_or-append_seam xs (Some s) [] None) f)
+
+pub empty_push : (xs : List (Option SectionTags)) → ((i : ℕ) → get_or xs i None ≡ None) → (i : ℕ) → get_or (xs ++ None ∷ []) i None ≡ None
+empty_push [] h zero = refl
+empty_push [] h (suc i) = refl
+empty_push (x ∷ xs) h zero = h zero
+empty_push (x ∷ xs) h (suc i) = empty_push xs (λ j. h (suc j)) i
+
+-- ---- a table that grows
+
+slice_get-more : (xs ys : List BlockState) (n : ℕ) (x : BlockState) → slice_get xs n ≡ Some x → slice_get (xs ++ ys) n ≡ Some x
+slice_get-more [] ys n x e = cc
+slice_get-more (a ∷ xs) ys zero x e = e
+slice_get-more (a ∷ xs) ys (suc n) x e = slice_get-more xs ys n x e
+
+pub HasCells-grown : (old new : List BlockState) (cell : ℕ → BlockState) (s : Section) → OnlyGrows old new → HasCells old cell s → HasCells new cell s
+HasCells-grown old new cell s g c = record {
+  numbers = λ i p. rw g.grown (slice_get-more old g.more (number_at s i) (cell i) (c.numbers i p));
+  pending = c.pending
+}
+
+SlotHas-grown : (old new : List BlockState) (cell : ℕ → BlockState) (o : Option Section) → OnlyGrows old new → SlotHas old cell o → SlotHas new cell o
+SlotHas-grown old new cell None g c = c
+SlotHas-grown old new cell (Some s) g c = HasCells-grown old new cell s g c
+
+-- ---- the last section of a number
+
+first_none : {A : Type 0} (o : Option A) → first_some o None ≡ o
+first_none None = refl
+first_none (Some x) = refl
+
+first_assoc : {A : Type 0} (a b c : Option A) → first_some (first_some a b) c ≡ first_some a (first_some b c)
+first_assoc None b c = refl
+first_assoc (Some x) b c = refl
+
+last_numbered-push : (y : ℤ) (rows : List (List NamedTag)) (ms : List NamedTag) → last_numbered y (rows ++ ms ∷ []) ≡ first_some (if_numbered y ms) (last_numbered y rows)
+last_numbered-push y [] ms = sym (first_none (if_numbered y ms))
+last_numbered-push y (r ∷ rows) ms = rw (last_numbered-push y rows ms) (first_assoc (if_numbered y ms) (last_numbered y rows) (if_numbered y r))
+
+abbrev if_outside : ℤ → OutsideSection → Option (List NamedTag)
+if_outside y o = if int_eq y o.y then Some (named_views o.tags.items) else None
+
+found_outside-push : (y : ℤ) (os : List OutsideSection) (o : OutsideSection) → found_outside y (os ++ o ∷ []) ≡ first_some (if_outside y o) (found_outside y os)
+found_outside-push y [] o = sym (first_none (if_outside y o))
+found_outside-push y (p ∷ os) o = rw (found_outside-push y os o) (first_assoc (if_outside y o) (found_outside y os) (if_outside y p))
+
+same_eq : (y : ℤ) → int_eq y y ≡ true
+same_eq y = same (int_eq y y) (Decides-int_eq y y)
+  where
+    same : (b : Bool) → Decides b (y ≡ y) → b ≡ true
+    same b d = d.1 refl
+
+-- a number that a section has not
+other_last : (y z : ℤ) (rows : List (List NamedTag)) (ms : List NamedTag) → section_number ms ≡ Some z → int_eq y z ≡ false → last_numbered y (rows ++ ms ∷ []) ≡ last_numbered y rows
+other_last y z rows ms e n = rw (last_numbered-push y rows ms, e, n) refl
+
+this_last : (y z : ℤ) (rows : List (List NamedTag)) (ms : List NamedTag) → section_number ms ≡ Some z → int_eq y z ≡ true → last_numbered y (rows ++ ms ∷ []) ≡ Some ms
+this_last y z rows ms e n = rw (last_numbered-push y rows ms, e, n) refl
+
+apart_numbers : (h : Height) (y z : ℤ) → is_section_of h y ≡ true → is_section_of h z ≡ false → (b : Bool) → Decides b (y ≡ z) → b ≡ false
+apart_numbers h y z s t true d = let e : y ≡ z = d.0 refl in absurd (true≢false (sym s ∙ (ap (is_section_of h) e ∙ t)))
+apart_numbers h y z s t false d = refl
+
+-- ---- one more part
+
+abbrev Cell : ℤ → Option (List NamedTag) → ℕ → BlockState
+Cell y found = block_cell (block_states_of (or_missing y found))
+
+inside_cells : (h : Height) (old new : List BlockState) (rows : List (List NamedTag)) (ms : List NamedTag) (z : ℤ) (s : Section) (kept : SectionTags) (xs : List (Option Section))
+  → OnlyGrows old new → IsInside h new ms z s kept → length xs ≡ h.sections → (y : ℤ) → is_section_of h y ≡ true
+  → SlotHas old (Cell y (last_numbered y rows)) (get_or xs (offset_of h y) None)
+  → (b : Bool) → Decides b (y ≡ z) → int_eq y z ≡ b
+  → SlotHas new (Cell y (last_numbered y (rows ++ ms ∷ []))) (get_or (slice_set xs (offset_of h z) (Some s)) (offset_of h y) None)
+inside_cells h old new rows ms z s kept xs g p l y t c true d e =
+    let same : y ≡ z = d.0 refl in
+    let within : offset_of h y < length xs = rw l (offset_below h y t) in
+    rw (this_last y z rows ms p.number e, ← same, get_or-set_same xs (offset_of h y) (Some s) None within) p.cells
+inside_cells h old new rows ms z s kept xs g p l y t c false d e =
+    let ne : offset_of h y ≢ offset_of h z = λ o. true≢false (sym (d.1 (offset_apart h y z t p.within o))) in
+    rw (other_last y z rows ms p.number e, get_or-set_other xs (offset_of h z) (offset_of h y) (Some s) None ne) (SlotHas-grown old new _ _ g c)
+
+inside_rests : (h : Height) (new : List BlockState) (rows : List (List NamedTag)) (ms : List NamedTag) (z : ℤ) (s : Section) (kept : SectionTags) (xs : List (Option SectionTags))
+  → IsInside h new ms z s kept → length xs ≡ h.sections → (y : ℤ) → is_section_of h y ≡ true
+  → section_or_missing y (get_or xs (offset_of h y) None) ≡ section_rest (or_missing y (last_numbered y rows))
+  → (b : Bool) → Decides b (y ≡ z) → int_eq y z ≡ b
+  → section_or_missing y (get_or (slice_set xs (offset_of h z) (Some kept)) (offset_of h y) None) ≡ section_rest (or_missing y (last_numbered y (rows ++ ms ∷ [])))
+inside_rests h new rows ms z s kept xs p l y t c true d e =
+    let same : y ≡ z = d.0 refl in
+    let within : offset_of h y < length xs = rw l (offset_below h y t) in
+    rw (this_last y z rows ms p.number e, ← same, get_or-set_same xs (offset_of h y) (Some kept) None within) p.rest
+inside_rests h new rows ms z s kept xs p l y t c false d e =
+    let ne : offset_of h y ≢ offset_of h z = λ o. true≢false (sym (d.1 (offset_apart h y z t p.within o))) in
+    rw (other_last y z rows ms p.number e, get_or-set_other xs (offset_of h z) (offset_of h y) (Some kept) None ne) c
+
+symmetric : (y z : ℤ) → int_eq z y ≡ false → int_eq y z ≡ false
+symmetric y z e = sym_of (int_eq y z) (Decides-int_eq y z) (int_eq z y) (Decides-int_eq z y) e
+  where
+    sym_of : (a : Bool) → Decides a (y ≡ z) → (b : Bool) → Decides b (z ≡ y) → b ≡ false → a ≡ false
+    sym_of true d b q e = absurd (true≢false (sym (q.1 (sym (d.0 refl))) ∙ e))
+    sym_of false d b q e = refl
+
+pub HoldSections-inside : (h : Height) (old new : List BlockState) (rows : List (List NamedTag)) (ms : List NamedTag) (z : ℤ) (s : Section) (kept : SectionTags) (r u : Sections)
+  → OnlyGrows old new → IsInside h new ms z s kept → IsPlaced h (Inside z s kept) r u → HoldSections h old rows r → HoldSections h new (rows ++ ms ∷ []) u
+HoldSections-inside h old new rows ms z s kept r u g p placed held = record {
+  count = ap length placed.0 ∙ (length-set r.sections.items (offset_of h z) (Some s) ∙ held.count);
+  count_kept = ap length placed.1 ∙ (length-set r.kept.items (offset_of h z) (Some kept) ∙ held.count_kept);
+  cells = λ y t. rw placed.0 (inside_cells h old new rows ms z s kept r.sections.items g p held.count y t (held.cells y t) (int_eq y z) (Decides-int_eq y z) refl);
+  rests = λ y t. rw placed.1 (inside_rests h new rows ms z s kept r.kept.items p held.count_kept y t (held.rests y t) (int_eq y z) (Decides-int_eq y z) refl);
+  others = λ y t. rw (placed.2, other_last y z rows ms p.number (symmetric y z (apart_numbers h z y p.within t (int_eq z y) (Decides-int_eq z y)))) (held.others y t)
+}
+
+outside_found : (y : ℤ) (rows : List (List NamedTag)) (ms : List NamedTag) (os : List OutsideSection) (o : OutsideSection) → section_number ms ≡ Some o.y → named_views o.tags.items ≡ ms
+  → found_outside y os ≡ last_numbered y rows → found_outside y (os ++ o ∷ []) ≡ last_numbered y (rows ++ ms ∷ [])
+outside_found y rows ms os o e t f = rw (found_outside-push y os o, last_numbered-push y rows ms, e, t, f) refl
+
+pub HoldSections-outside : (h : Height) (old new : List BlockState) (rows : List (List NamedTag)) (ms : List NamedTag) (o : OutsideSection) (r u : Sections)
+  → OnlyGrows old new → IsOutside h ms o → IsPlaced h (Outside o) r u → HoldSections h old rows r → HoldSections h new (rows ++ ms ∷ []) u
+HoldSections-outside h old new rows ms o r u g p placed held = record {
+  count = ap length placed.0 ∙ held.count;
+  count_kept = ap length placed.1 ∙ held.count_kept;
+  cells = λ y t. rw (placed.0, other_last y o.y rows ms p.number (apart_numbers h y o.y t p.without (int_eq y o.y) (Decides-int_eq y o.y))) (SlotHas-grown old new _ _ g (held.cells y t));
+  rests = λ y t. rw (placed.1, other_last y o.y rows ms p.number (apart_numbers h y o.y t p.without (int_eq y o.y) (Decides-int_eq y o.y))) (held.rests y t);
+  others = λ y t. rw placed.2 (outside_found y rows ms r.outside.items o p.number p.tags (held.others y t))
+}
+
+HoldSections-part : (h : Height) (old new : List BlockState) (rows : List (List NamedTag)) (ms : List NamedTag) (part : Part) (r u : Sections)
+  → OnlyGrows old new → IsPart h new ms part → IsPlaced h part r u → HoldSections h old rows r → HoldSections h new (rows ++ ms ∷ []) u
+HoldSections-part h old new rows ms (Inside y s kept) r u g p placed held = HoldSections-inside h old new rows ms y s kept r u g p placed held
+HoldSections-part h old new rows ms (Outside o) r u g p placed held = HoldSections-outside h old new rows ms o r u g p placed held
+
+AreRead-part : (h : Height) (rows : List (List NamedTag)) (ms : List NamedTag) (start old new : List BlockState) (part : Part) (r u : Sections)
+  → OnlyGrows old new → IsSectionRead h ms old new part → IsPlaced h part r u → AreRead h rows start old r → AreRead h (rows ++ ms ∷ []) start new u
+AreRead-part h rows ms start old new part r u g read placed before = record {
+  no_fault = flat_map-append (section_faults h) rows (ms ∷ []) ∙ rw (before.no_fault, read.no_fault) refl;
+  states = rw (flat_map-append (section_states h) rows (ms ∷ []), append-nil (section_states h ms), with_states-append start (flat_map (section_states h) rows) (section_states h ms), ← before.states) read.states;
+  held = HoldSections-part h old new rows ms part r u g read.is_part placed before.held
+}
+
+pub AreJudged-part : (h : Height) (rows : List (List NamedTag)) (ms : List NamedTag) (start old new : List BlockState) (part : Part) (r u : Sections) (refused : Option Fault)
+  → OnlyGrows old new → IsSectionRead h ms old new part → IsPlaced h part r u → AreJudged h rows start old r refused → AreJudged h (rows ++ ms ∷ []) start new u refused
+AreJudged-part h rows ms start old new part r u None g read placed before = AreRead-part h rows ms start old new part r u g read placed before
+AreJudged-part h rows ms start old new part r u (Some e) g read placed before = λ ne. record { first = first_kept h rows ms start (fault_number e) (before ne).first read.no_fault }
+
+pub AreJudged-refused : (h : Height) (rows : List (List NamedTag)) (ms : List NamedTag) (start old new : List BlockState) (r u : Sections) (refused : Option Fault) (e f : Fault)
+  → IsSectionRefused h ms old e → fault_number f ≡ lesser (fault_number e) (option_map fault_number refused) → AreJudged h rows start old r refused
+  → AreJudged h (rows ++ ms ∷ []) start new u (Some f)
+AreJudged-refused h rows ms start old new r u None e f bad n before =
+    λ nf. record { first = first_of h rows ms start (fault_number f) before.no_fault (rw (← before.states, n) (bad.first (memory_first e f None n nf))) }
+AreJudged-refused h rows ms start old new r u (Some d) e f bad n before =
+    λ nf.
+      let early = before (memory_before e d f n nf) in
+      let first = first_lesser h rows ms start old (fault_number d) (fault_number e) early.first (bad.first (memory_first e f (Some (fault_number d)) n nf)) in
+      record { first = first ∙ ap Some (sym n) }
+
+-- ---- none so far
+
+pub first_is_air : (table : List BlockState) → take 10 table ≡ first_states → slice_get table 0 ≡ Some air
+first_is_air [] e = cc
+first_is_air (s ∷ table) e = let h : s ≡ air = ap (λ (x : List BlockState). get_or x 0 air) e in ap Some h
+
+SlotHas-filled : (table : List BlockState) (o : Option Section) → slice_get table 0 ≡ Some air → SlotIsFilled o → SlotHas table (λ i. air) o
+SlotHas-filled table None a f = f
+SlotHas-filled table (Some s) a f = record { numbers = λ i p. rw (f.numbers i p) a; pending = f.pending }
+
+pub AreRead-missing : (h : Height) (table : List BlockState) (r : Sections) → take 10 table ≡ first_states → AreMissing h r → AreRead h [] table table r
+AreRead-missing h table r b m = record {
+  no_fault = refl;
+  states = refl;
+  held = record {
+    count = m.count;
+    count_kept = m.count_kept;
+    cells = λ y t. SlotHas-filled table _ (first_is_air table b) (m.filled (offset_of h y) (offset_below h y t));
+    rests = λ y t. rw (m.empty (offset_of h y)) refl;
+    others = λ y t. rw m.none refl
+  }
+}
+
+pub section_counts : (h : Height) (part : Part) (r u : Sections) → IsPlaced h part r u → length r.sections.items ≡ h.sections → length u.sections.items ≡ h.sections
+section_counts h (Inside y s kept) r u p l = ap length p.0 ∙ (length-set r.sections.items (offset_of h y) (Some s) ∙ l)
+section_counts h (Outside o) r u p l = ap length p.0 ∙ l
+
+pub kept_counts : (h : Height) (part : Part) (r u : Sections) → IsPlaced h part r u → length r.kept.items ≡ h.sections → length u.kept.items ≡ h.sections
+kept_counts h (Inside y s kept) r u p l = ap length p.1 ∙ (length-set r.kept.items (offset_of h y) (Some kept) ∙ l)
+kept_counts h (Outside o) r u p l = ap length p.1 ∙ l
+
+pub part_fits : (h : Height) (table : List BlockState) (ms : List NamedTag) (part : Part) → IsPart h table ms part → FitsHeight h part
+part_fits h table ms (Inside y s kept) p = p.within
+part_fits h table ms (Outside o) p = tt
+
+pub OnlyGrows-trans : (a b d : List BlockState) → OnlyGrows a b → OnlyGrows b d → OnlyGrows a d
+OnlyGrows-trans a b d p q = record { more = p.more ++ q.more; grown = q.grown ∙ (ap (λ (x : List BlockState). x ++ q.more) p.grown ∙ append_assoc a p.more q.more) }
