@@ -41,7 +41,7 @@ too_many_is table more h = grind (arith, nat_tests)
 
 -- what a section's reader answers is the least of the faults that hold, too many states among them
 pub judged_of : (palette longs : Option Nbt) (old : List BlockState) (e : Fault) → IsRefused palette longs old e → e ≢ OutOfMemory
-  → judged (states_faults palette longs) old (read_states palette) ≡ Some (fault_number e)
+    → judged (states_faults palette longs) old (read_states palette) ≡ Some (fault_number e)
 judged_of palette longs old OutOfMemory r ne = absurd (ne refl)
 judged_of palette longs old TooManyStates r ne = rw (r.0, too_many_is old (read_states palette) r.1) refl
 judged_of palette longs old e r ne = capped _ _ _ (are_too_many old (read_states palette)) _ r
@@ -142,8 +142,8 @@ meet_none None = refl
 meet_none (Some a) = refl
 
 pub first_kept : (h : Height) (rows : List (List NamedTag)) (ms : List NamedTag) (old : List BlockState) (n : ℕ)
-  → judged (flat_map (section_faults h) rows) old (flat_map (section_states h) rows) ≡ Some n → section_faults h ms ≡ []
-  → judged (flat_map (section_faults h) (rows ++ ms ∷ [])) old (flat_map (section_states h) (rows ++ ms ∷ [])) ≡ Some n
+    → judged (flat_map (section_faults h) rows) old (flat_map (section_states h) rows) ≡ Some n → section_faults h ms ≡ []
+    → judged (flat_map (section_faults h) (rows ++ ms ∷ [])) old (flat_map (section_states h) (rows ++ ms ∷ [])) ≡ Some n
 first_kept h rows ms old n e f =
     let a = flat_map (section_faults h) rows in
     let s = flat_map (section_states h) rows in
@@ -151,12 +151,12 @@ first_kept h rows ms old n e f =
     let states : u ≡ s ++ flat_map (section_states h) (ms ∷ []) = flat_map-append (section_states h) rows (ms ∷ []) in
     let grows : are_too_many old s ≡ true → are_too_many old u ≡ true = λ t. rw states (more_too_many old s _ t) in
     let same : least (flat_map (section_faults h) (rows ++ ms ∷ [])) ≡ least a =
-      ap least (flat_map-append (section_faults h) rows (ms ∷ [])) ∙ (least-append a _ ∙ (ap (λ x. meet (least a) (least (x ++ []))) f ∙ meet_none (least a))) in
+    ap least (flat_map-append (section_faults h) rows (ms ∷ [])) ∙ (least-append a _ ∙ (ap (λ x. meet (least a) (least (x ++ []))) f ∙ meet_none (least a))) in
     judged_is _ old u ∙ rw same (kept_first (least a) (are_too_many old s) (are_too_many old u) n (early_rows h rows) grows (sym (judged_is a old s) ∙ e))
 
 -- one more section with a fault: the lesser of both
 lesser_of : (a b : Option ℕ) (t u x : Bool) (n m : ℕ) → IsEarly a → IsEarly b → (t ≡ true → u ≡ true) → meet a (cap t) ≡ Some n → meet b (cap x) ≡ Some m
-  → meet (meet a b) (cap u) ≡ Some (min m n)
+    → meet (meet a b) (cap u) ≡ Some (min m n)
 lesser_of None None true true true n m p q f d e = let i : 18 ≡ n = cc in let j : 18 ≡ m = cc in ap Some (omega arith)
 lesser_of None None true true false n m p q f d e = cc
 lesser_of None b true false x n m p q f d e = absurd (true≢false (sym (f refl)))
@@ -176,8 +176,8 @@ lesser_of (Some a) (Some b) false false true n m p q f d e = let i : a ≡ n = c
 lesser_of (Some a) (Some b) false false false n m p q f d e = let i : a ≡ n = cc in let j : b ≡ m = cc in ap Some (omega arith)
 
 pub first_lesser : (h : Height) (rows : List (List NamedTag)) (ms : List NamedTag) (old table : List BlockState) (n m : ℕ)
-  → judged (flat_map (section_faults h) rows) old (flat_map (section_states h) rows) ≡ Some n → judged (section_faults h ms) table (section_states h ms) ≡ Some m
-  → judged (flat_map (section_faults h) (rows ++ ms ∷ [])) old (flat_map (section_states h) (rows ++ ms ∷ [])) ≡ Some (min m n)
+    → judged (flat_map (section_faults h) rows) old (flat_map (section_states h) rows) ≡ Some n → judged (section_faults h ms) table (section_states h ms) ≡ Some m
+    → judged (flat_map (section_faults h) (rows ++ ms ∷ [])) old (flat_map (section_states h) (rows ++ ms ∷ [])) ≡ Some (min m n)
 first_lesser h rows ms old table n m d e =
     let a = flat_map (section_faults h) rows in
     let s = flat_map (section_states h) rows in
@@ -185,19 +185,19 @@ first_lesser h rows ms old table n m d e =
     let states : u ≡ s ++ flat_map (section_states h) (ms ∷ []) = flat_map-append (section_states h) rows (ms ∷ []) in
     let grows : are_too_many old s ≡ true → are_too_many old u ≡ true = λ t. rw states (more_too_many old s _ t) in
     let both : least (flat_map (section_faults h) (rows ++ ms ∷ [])) ≡ meet (least a) (least (section_faults h ms)) =
-      ap least (flat_map-append (section_faults h) rows (ms ∷ [])) ∙ (least-append a _ ∙ ap (λ x. meet (least a) (least x)) (append-nil (section_faults h ms))) in
+    ap least (flat_map-append (section_faults h) rows (ms ∷ [])) ∙ (least-append a _ ∙ ap (λ x. meet (least a) (least x)) (append-nil (section_faults h ms))) in
     judged_is _ old u ∙ rw both (lesser_of (least a) (least (section_faults h ms)) (are_too_many old s) (are_too_many old u) (are_too_many table (section_states h ms)) n m
-      (early_rows h rows) (early_section h ms) grows (sym (judged_is a old s) ∙ d) (sym (judged_is (section_faults h ms) table (section_states h ms)) ∙ e))
+    (early_rows h rows) (early_section h ms) grows (sym (judged_is a old s) ∙ d) (sym (judged_is (section_faults h ms) table (section_states h ms)) ∙ e))
 
 -- the first section that is refused, after others without a fault
 pub first_of : (h : Height) (rows : List (List NamedTag)) (ms : List NamedTag) (old : List BlockState) (m : ℕ) → flat_map (section_faults h) rows ≡ []
-  → judged (section_faults h ms) (with_states old (flat_map (section_states h) rows)) (section_states h ms) ≡ Some m
-  → judged (flat_map (section_faults h) (rows ++ ms ∷ [])) old (flat_map (section_states h) (rows ++ ms ∷ [])) ≡ Some m
+    → judged (section_faults h ms) (with_states old (flat_map (section_states h) rows)) (section_states h ms) ≡ Some m
+    → judged (flat_map (section_faults h) (rows ++ ms ∷ [])) old (flat_map (section_states h) (rows ++ ms ∷ [])) ≡ Some m
 first_of h rows ms old m f e =
     let faults : flat_map (section_faults h) (rows ++ ms ∷ []) ≡ section_faults h ms =
-      flat_map-append (section_faults h) rows (ms ∷ []) ∙ (ap (λ x. x ++ (section_faults h ms ++ [])) f ∙ append-nil (section_faults h ms)) in
+    flat_map-append (section_faults h) rows (ms ∷ []) ∙ (ap (λ x. x ++ (section_faults h ms ++ [])) f ∙ append-nil (section_faults h ms)) in
     let states : flat_map (section_states h) (rows ++ ms ∷ []) ≡ flat_map (section_states h) rows ++ section_states h ms =
-      flat_map-append (section_states h) rows (ms ∷ []) ∙ ap (λ x. flat_map (section_states h) rows ++ x) (append-nil (section_states h ms)) in
+    flat_map-append (section_states h) rows (ms ∷ []) ∙ ap (λ x. flat_map (section_states h) rows ++ x) (append-nil (section_states h ms)) in
     let after = with_states-append old (flat_map (section_states h) rows) (section_states h ms) in
     rw (faults, states, after) e
 

@@ -4,3 +4,7 @@ pub mod Rows
 pub mod Judging
 pub mod OneSection
 pub mod Slots
+pub mod Admitted
+pub mod Marking
+pub mod WaterIn
+pub mod Assembly

@@ -64,19 +64,19 @@ list_from h before None = true
 list_from h before (Some rows) = are_bad_sections h before rows
 
 number_step : (h : Height) (before : List ℤ) (ms : List NamedTag) (y : ℤ) (rows : List (List NamedTag)) (bad : Bool)
-  → (list_any (int_eq y) before || bad) || are_bad_sections h (y ∷ before) rows
-      ≡ is_refused before (if bad then None else Some y) || are_bad_sections h (with_number before (if bad then None else Some y)) rows
+    → (list_any (int_eq y) before || bad) || are_bad_sections h (y ∷ before) rows
+    ≡ is_refused before (if bad then None else Some y) || are_bad_sections h (with_number before (if bad then None else Some y)) rows
 number_step h before ms y rows true = simp (or-true)
 number_step h before ms y rows false = simp (or-false)
 
 row_step : (h : Height) (before : List ℤ) (ms : List NamedTag) (rows : List (List NamedTag)) (n : Option ℤ)
-  → is_bad_at h before ms n || are_bad_sections h (with_number before n) rows
-      ≡ is_refused before (good_number h ms n) || are_bad_sections h (with_number before (good_number h ms n)) rows
+    → is_bad_at h before ms n || are_bad_sections h (with_number before n) rows
+    ≡ is_refused before (good_number h ms n) || are_bad_sections h (with_number before (good_number h ms n)) rows
 row_step h before ms rows None = refl
 row_step h before ms rows (Some y) = number_step h before ms y rows (is_section_of h y && is_other compound_of (tag_of (codes "block_states") ms))
 
 bad_step : (h : Height) (before : List ℤ) (o : Option (List NamedTag)) (r : Option (List (List NamedTag))) (b : Bool) → list_from h (with_number before (checked_number h o)) r ≡ b
-  → list_from h before (o >>= λ y. r >>= λ ys. Some (y ∷ ys)) ≡ is_refused before (checked_number h o) || b
+    → list_from h before (o >>= λ y. r >>= λ ys. Some (y ∷ ys)) ≡ is_refused before (checked_number h o) || b
 bad_step h before None r b e = refl
 bad_step h before (Some ms) None b e = rw (← e) (simp (or-true))
 bad_step h before (Some ms) (Some rows) b e = rw (← e) (row_step h before ms rows (section_number ms))

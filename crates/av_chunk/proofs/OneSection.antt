@@ -24,26 +24,26 @@ good_at y false other h e = cc
 
 -- a section in the height that was checked has a Compound as its states, or none
 pub good_states : (h : Height) (ms : List NamedTag) (y : ℤ) → IsSome (checked_number h (Some ms)) → section_number ms ≡ Some y → is_section_of h y ≡ true
-  → is_other compound_of (tag_of (codes "block_states") ms) ≡ false
+    → is_other compound_of (tag_of (codes "block_states") ms) ≡ false
 good_states h ms y g e w = good_at y (is_section_of h y) _ (rw e at g) w
 
 pub outside_read : (h : Height) (ms : List NamedTag) (old : List BlockState) (o : OutsideSection) → section_number ms ≡ Some o.y → is_section_of h o.y ≡ false
-  → named_views o.tags.items ≡ ms → IsSectionRead h ms old old (Outside o)
+    → named_views o.tags.items ≡ ms → IsSectionRead h ms old old (Outside o)
 outside_read h ms old o e w t = record {
   is_part = record { number = e; without = w; tags = t };
   no_fault = rw (e, w) refl;
-  states = rw (e, w) refl
+  states = rw (e, w) refl;
 }
 
 pub inside_read : (h : Height) (ms : List NamedTag) (old new : List BlockState) (y : ℤ) (s : Section) (kept : SectionTags) → section_number ms ≡ Some y → is_section_of h y ≡ true
-  → AreStates (block_states_of ms) old new s (named_views kept.states.items) → named_views kept.tags.items ≡ emptied (codes "BlockLight") (emptied (codes "block_states") ms)
-  → IsSectionRead h ms old new (Inside y s kept)
+    → AreStates (block_states_of ms) old new s (named_views kept.states.items) → named_views kept.tags.items ≡ emptied (codes "BlockLight") (emptied (codes "block_states") ms)
+    → IsSectionRead h ms old new (Inside y s kept)
 inside_read h ms old new y s kept e w r t = record {
   is_part = record { number = e; within = w; cells = r.cells; rest = rw (t, r.others_are) refl };
   no_fault = rw (e, w) r.no_fault;
-  states = rw (e, w) r.states
+  states = rw (e, w) r.states;
 }
 
 pub inside_refused : (h : Height) (ms : List NamedTag) (old : List BlockState) (y : ℤ) (f : Fault) → section_number ms ≡ Some y → is_section_of h y ≡ true
-  → AreRefused (block_states_of ms) old f → IsSectionRefused h ms old f
+    → AreRefused (block_states_of ms) old f → IsSectionRefused h ms old f
 inside_refused h ms old y f e w r = record { first = λ ne. rw (e, w) (r.first ne) }

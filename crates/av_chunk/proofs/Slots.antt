@@ -34,11 +34,11 @@ use Rattle.av_chunk.proofs.Judging.{with_states-append, first_kept, first_of, fi
 -- ---- air
 
 pub filled_push : (xs : List (Option Section)) (s : Section) (n : ℕ) → length xs ≡ n → IsFilled s 0 → ((i : ℕ) → i < n → SlotIsFilled (get_or xs i None))
-  → (i : ℕ) → i < n + 1 → SlotIsFilled (get_or (xs ++ Some s ∷ []) i None)
+    → (i : ℕ) → i < n + 1 → SlotIsFilled (get_or (xs ++ Some s ∷ []) i None)
 filled_push xs s n l f h =
     below_more (λ i. SlotIsFilled (get_or (xs ++ Some s ∷ []) i None)) n
-      (λ i p. let q : i < length xs = omega arith in rw (get_or_append_left xs (Some s ∷ []) None i q) (h i p))
-      (rw (← l, get_or-append_seam xs (Some s) [] None) f)
+    (λ i p. let q : i < length xs = omega arith in rw (get_or_append_left xs (Some s ∷ []) None i q) (h i p))
+    (rw (← l, get_or-append_seam xs (Some s) [] None) f)
 
 pub empty_push : (xs : List (Option SectionTags)) → ((i : ℕ) → get_or xs i None ≡ None) → (i : ℕ) → get_or (xs ++ None ∷ []) i None ≡ None
 empty_push [] h zero = refl
@@ -56,7 +56,7 @@ slice_get-more (a ∷ xs) ys (suc n) x e = slice_get-more xs ys n x e
 pub HasCells-grown : (old new : List BlockState) (cell : ℕ → BlockState) (s : Section) → OnlyGrows old new → HasCells old cell s → HasCells new cell s
 HasCells-grown old new cell s g c = record {
   numbers = λ i p. rw g.grown (slice_get-more old g.more (number_at s i) (cell i) (c.numbers i p));
-  pending = c.pending
+  pending = c.pending;
 }
 
 SlotHas-grown : (old new : List BlockState) (cell : ℕ → BlockState) (o : Option Section) → OnlyGrows old new → SlotHas old cell o → SlotHas new cell o
@@ -107,10 +107,10 @@ abbrev Cell : ℤ → Option (List NamedTag) → ℕ → BlockState
 Cell y found = block_cell (block_states_of (or_missing y found))
 
 inside_cells : (h : Height) (old new : List BlockState) (rows : List (List NamedTag)) (ms : List NamedTag) (z : ℤ) (s : Section) (kept : SectionTags) (xs : List (Option Section))
-  → OnlyGrows old new → IsInside h new ms z s kept → length xs ≡ h.sections → (y : ℤ) → is_section_of h y ≡ true
-  → SlotHas old (Cell y (last_numbered y rows)) (get_or xs (offset_of h y) None)
-  → (b : Bool) → Decides b (y ≡ z) → int_eq y z ≡ b
-  → SlotHas new (Cell y (last_numbered y (rows ++ ms ∷ []))) (get_or (slice_set xs (offset_of h z) (Some s)) (offset_of h y) None)
+    → OnlyGrows old new → IsInside h new ms z s kept → length xs ≡ h.sections → (y : ℤ) → is_section_of h y ≡ true
+    → SlotHas old (Cell y (last_numbered y rows)) (get_or xs (offset_of h y) None)
+    → (b : Bool) → Decides b (y ≡ z) → int_eq y z ≡ b
+    → SlotHas new (Cell y (last_numbered y (rows ++ ms ∷ []))) (get_or (slice_set xs (offset_of h z) (Some s)) (offset_of h y) None)
 inside_cells h old new rows ms z s kept xs g p l y t c true d e =
     let same : y ≡ z = d.0 refl in
     let within : offset_of h y < length xs = rw l (offset_below h y t) in
@@ -120,10 +120,10 @@ inside_cells h old new rows ms z s kept xs g p l y t c false d e =
     rw (other_last y z rows ms p.number e, get_or-set_other xs (offset_of h z) (offset_of h y) (Some s) None ne) (SlotHas-grown old new _ _ g c)
 
 inside_rests : (h : Height) (new : List BlockState) (rows : List (List NamedTag)) (ms : List NamedTag) (z : ℤ) (s : Section) (kept : SectionTags) (xs : List (Option SectionTags))
-  → IsInside h new ms z s kept → length xs ≡ h.sections → (y : ℤ) → is_section_of h y ≡ true
-  → section_or_missing y (get_or xs (offset_of h y) None) ≡ section_rest (or_missing y (last_numbered y rows))
-  → (b : Bool) → Decides b (y ≡ z) → int_eq y z ≡ b
-  → section_or_missing y (get_or (slice_set xs (offset_of h z) (Some kept)) (offset_of h y) None) ≡ section_rest (or_missing y (last_numbered y (rows ++ ms ∷ [])))
+    → IsInside h new ms z s kept → length xs ≡ h.sections → (y : ℤ) → is_section_of h y ≡ true
+    → section_or_missing y (get_or xs (offset_of h y) None) ≡ section_rest (or_missing y (last_numbered y rows))
+    → (b : Bool) → Decides b (y ≡ z) → int_eq y z ≡ b
+    → section_or_missing y (get_or (slice_set xs (offset_of h z) (Some kept)) (offset_of h y) None) ≡ section_rest (or_missing y (last_numbered y (rows ++ ms ∷ [])))
 inside_rests h new rows ms z s kept xs p l y t c true d e =
     let same : y ≡ z = d.0 refl in
     let within : offset_of h y < length xs = rw l (offset_below h y t) in
@@ -140,57 +140,57 @@ symmetric y z e = sym_of (int_eq y z) (Decides-int_eq y z) (int_eq z y) (Decides
     sym_of false d b q e = refl
 
 pub HoldSections-inside : (h : Height) (old new : List BlockState) (rows : List (List NamedTag)) (ms : List NamedTag) (z : ℤ) (s : Section) (kept : SectionTags) (r u : Sections)
-  → OnlyGrows old new → IsInside h new ms z s kept → IsPlaced h (Inside z s kept) r u → HoldSections h old rows r → HoldSections h new (rows ++ ms ∷ []) u
+    → OnlyGrows old new → IsInside h new ms z s kept → IsPlaced h (Inside z s kept) r u → HoldSections h old rows r → HoldSections h new (rows ++ ms ∷ []) u
 HoldSections-inside h old new rows ms z s kept r u g p placed held = record {
   count = ap length placed.0 ∙ (length-set r.sections.items (offset_of h z) (Some s) ∙ held.count);
   count_kept = ap length placed.1 ∙ (length-set r.kept.items (offset_of h z) (Some kept) ∙ held.count_kept);
   cells = λ y t. rw placed.0 (inside_cells h old new rows ms z s kept r.sections.items g p held.count y t (held.cells y t) (int_eq y z) (Decides-int_eq y z) refl);
   rests = λ y t. rw placed.1 (inside_rests h new rows ms z s kept r.kept.items p held.count_kept y t (held.rests y t) (int_eq y z) (Decides-int_eq y z) refl);
-  others = λ y t. rw (placed.2, other_last y z rows ms p.number (symmetric y z (apart_numbers h z y p.within t (int_eq z y) (Decides-int_eq z y)))) (held.others y t)
+  others = λ y t. rw (placed.2, other_last y z rows ms p.number (symmetric y z (apart_numbers h z y p.within t (int_eq z y) (Decides-int_eq z y)))) (held.others y t);
 }
 
 outside_found : (y : ℤ) (rows : List (List NamedTag)) (ms : List NamedTag) (os : List OutsideSection) (o : OutsideSection) → section_number ms ≡ Some o.y → named_views o.tags.items ≡ ms
-  → found_outside y os ≡ last_numbered y rows → found_outside y (os ++ o ∷ []) ≡ last_numbered y (rows ++ ms ∷ [])
+    → found_outside y os ≡ last_numbered y rows → found_outside y (os ++ o ∷ []) ≡ last_numbered y (rows ++ ms ∷ [])
 outside_found y rows ms os o e t f = rw (found_outside-push y os o, last_numbered-push y rows ms, e, t, f) refl
 
 pub HoldSections-outside : (h : Height) (old new : List BlockState) (rows : List (List NamedTag)) (ms : List NamedTag) (o : OutsideSection) (r u : Sections)
-  → OnlyGrows old new → IsOutside h ms o → IsPlaced h (Outside o) r u → HoldSections h old rows r → HoldSections h new (rows ++ ms ∷ []) u
+    → OnlyGrows old new → IsOutside h ms o → IsPlaced h (Outside o) r u → HoldSections h old rows r → HoldSections h new (rows ++ ms ∷ []) u
 HoldSections-outside h old new rows ms o r u g p placed held = record {
   count = ap length placed.0 ∙ held.count;
   count_kept = ap length placed.1 ∙ held.count_kept;
   cells = λ y t. rw (placed.0, other_last y o.y rows ms p.number (apart_numbers h y o.y t p.without (int_eq y o.y) (Decides-int_eq y o.y))) (SlotHas-grown old new _ _ g (held.cells y t));
   rests = λ y t. rw (placed.1, other_last y o.y rows ms p.number (apart_numbers h y o.y t p.without (int_eq y o.y) (Decides-int_eq y o.y))) (held.rests y t);
-  others = λ y t. rw placed.2 (outside_found y rows ms r.outside.items o p.number p.tags (held.others y t))
+  others = λ y t. rw placed.2 (outside_found y rows ms r.outside.items o p.number p.tags (held.others y t));
 }
 
 HoldSections-part : (h : Height) (old new : List BlockState) (rows : List (List NamedTag)) (ms : List NamedTag) (part : Part) (r u : Sections)
-  → OnlyGrows old new → IsPart h new ms part → IsPlaced h part r u → HoldSections h old rows r → HoldSections h new (rows ++ ms ∷ []) u
+    → OnlyGrows old new → IsPart h new ms part → IsPlaced h part r u → HoldSections h old rows r → HoldSections h new (rows ++ ms ∷ []) u
 HoldSections-part h old new rows ms (Inside y s kept) r u g p placed held = HoldSections-inside h old new rows ms y s kept r u g p placed held
 HoldSections-part h old new rows ms (Outside o) r u g p placed held = HoldSections-outside h old new rows ms o r u g p placed held
 
 AreRead-part : (h : Height) (rows : List (List NamedTag)) (ms : List NamedTag) (start old new : List BlockState) (part : Part) (r u : Sections)
-  → OnlyGrows old new → IsSectionRead h ms old new part → IsPlaced h part r u → AreRead h rows start old r → AreRead h (rows ++ ms ∷ []) start new u
+    → OnlyGrows old new → IsSectionRead h ms old new part → IsPlaced h part r u → AreRead h rows start old r → AreRead h (rows ++ ms ∷ []) start new u
 AreRead-part h rows ms start old new part r u g read placed before = record {
   no_fault = flat_map-append (section_faults h) rows (ms ∷ []) ∙ rw (before.no_fault, read.no_fault) refl;
   states = rw (flat_map-append (section_states h) rows (ms ∷ []), append-nil (section_states h ms), with_states-append start (flat_map (section_states h) rows) (section_states h ms), ← before.states) read.states;
-  held = HoldSections-part h old new rows ms part r u g read.is_part placed before.held
+  held = HoldSections-part h old new rows ms part r u g read.is_part placed before.held;
 }
 
 pub AreJudged-part : (h : Height) (rows : List (List NamedTag)) (ms : List NamedTag) (start old new : List BlockState) (part : Part) (r u : Sections) (refused : Option Fault)
-  → OnlyGrows old new → IsSectionRead h ms old new part → IsPlaced h part r u → AreJudged h rows start old r refused → AreJudged h (rows ++ ms ∷ []) start new u refused
+    → OnlyGrows old new → IsSectionRead h ms old new part → IsPlaced h part r u → AreJudged h rows start old r refused → AreJudged h (rows ++ ms ∷ []) start new u refused
 AreJudged-part h rows ms start old new part r u None g read placed before = AreRead-part h rows ms start old new part r u g read placed before
 AreJudged-part h rows ms start old new part r u (Some e) g read placed before = λ ne. record { first = first_kept h rows ms start (fault_number e) (before ne).first read.no_fault }
 
 pub AreJudged-refused : (h : Height) (rows : List (List NamedTag)) (ms : List NamedTag) (start old new : List BlockState) (r u : Sections) (refused : Option Fault) (e f : Fault)
-  → IsSectionRefused h ms old e → fault_number f ≡ lesser (fault_number e) (option_map fault_number refused) → AreJudged h rows start old r refused
-  → AreJudged h (rows ++ ms ∷ []) start new u (Some f)
+    → IsSectionRefused h ms old e → fault_number f ≡ lesser (fault_number e) (option_map fault_number refused) → AreJudged h rows start old r refused
+    → AreJudged h (rows ++ ms ∷ []) start new u (Some f)
 AreJudged-refused h rows ms start old new r u None e f bad n before =
     λ nf. record { first = first_of h rows ms start (fault_number f) before.no_fault (rw (← before.states, n) (bad.first (memory_first e f None n nf))) }
 AreJudged-refused h rows ms start old new r u (Some d) e f bad n before =
     λ nf.
-      let early = before (memory_before e d f n nf) in
-      let first = first_lesser h rows ms start old (fault_number d) (fault_number e) early.first (bad.first (memory_first e f (Some (fault_number d)) n nf)) in
-      record { first = first ∙ ap Some (sym n) }
+    let early = before (memory_before e d f n nf) in
+    let first = first_lesser h rows ms start old (fault_number d) (fault_number e) early.first (bad.first (memory_first e f (Some (fault_number d)) n nf)) in
+    record { first = first ∙ ap Some (sym n) }
 
 -- ---- none so far
 
@@ -211,8 +211,8 @@ AreRead-missing h table r b m = record {
     count_kept = m.count_kept;
     cells = λ y t. SlotHas-filled table _ (first_is_air table b) (m.filled (offset_of h y) (offset_below h y t));
     rests = λ y t. rw (m.empty (offset_of h y)) refl;
-    others = λ y t. rw m.none refl
-  }
+    others = λ y t. rw m.none refl;
+  };
 }
 
 pub section_counts : (h : Height) (part : Part) (r u : Sections) → IsPlaced h part r u → length r.sections.items ≡ h.sections → length u.sections.items ≡ h.sections

@@ -31,7 +31,7 @@ SlotAdds _ _ test = ⊥
 
 -- an entry lies in the section at an offset, at a place of it
 abbrev pub is_entry_at : Height → ℕ → ℕ → Entry → Bool
-is_entry_at h offset place e = (offset_of h (divided e.pos.y 16) == offset) && (place_of e.pos == place)
+is_entry_at h offset place e = (offset == offset_of h (divided e.pos.y 16)) && (place == place_of e.pos)
 
 pub record MarksPending (h : Height) (entries : List Entry) (old new : List (Option Section)) : Type 0 where
   pub count : length new ≡ length old

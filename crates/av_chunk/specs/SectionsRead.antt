@@ -111,9 +111,9 @@ pub record AreMissing (h : Height) (r : Sections) : Type 0 where
 -- one more part
 abbrev pub IsPlaced : Height → Part → Sections → Sections → Type 0
 IsPlaced h (Inside y s kept) old new =
-  (new.sections.items ≡ slice_set old.sections.items (offset_of h y) (Some s)) × (new.kept.items ≡ slice_set old.kept.items (offset_of h y) (Some kept)) × (new.outside.items ≡ old.outside.items)
+    (new.sections.items ≡ slice_set old.sections.items (offset_of h y) (Some s)) × (new.kept.items ≡ slice_set old.kept.items (offset_of h y) (Some kept)) × (new.outside.items ≡ old.outside.items)
 IsPlaced h (Outside o) old new =
-  (new.sections.items ≡ old.sections.items) × (new.kept.items ≡ old.kept.items) × (new.outside.items ≡ old.outside.items ++ o ∷ [])
+    (new.sections.items ≡ old.sections.items) × (new.kept.items ≡ old.kept.items) × (new.outside.items ≡ old.outside.items ++ o ∷ [])
 
 abbrev pub FitsHeight : Height → Part → Type 0
 FitsHeight h (Inside y s kept) = is_section_of h y ≡ true

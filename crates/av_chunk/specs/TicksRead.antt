@@ -31,7 +31,7 @@ pub record AreBadTicks (c : ChunkPos) (h : Height) (rows : List (List NamedTag))
 -- of the sections and the ticks, the first fault that holds
 abbrev pub parts_judged : ChunkPos → Height → List (List NamedTag) → List (List NamedTag) → List BlockState → Option ℕ
 parts_judged c h rows ticks old =
-  least ((flat_map (section_faults h) rows ++ when (list_any (is_bad_tick c h) ticks) 16) ++ when (are_too_many old (flat_map (section_states h) rows)) 18)
+    least ((flat_map (section_faults h) rows ++ when (list_any (is_bad_tick c h) ticks) 16) ++ when (are_too_many old (flat_map (section_states h) rows)) 18)
 
 pub record ArePartsRefused (c : ChunkPos) (h : Height) (rows ticks : List (List NamedTag)) (old : List BlockState) (e : Fault) : Type 0 where
   pub first : e ≢ OutOfMemory → parts_judged c h rows ticks old ≡ Some (fault_number e)

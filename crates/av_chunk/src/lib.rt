@@ -3,8 +3,8 @@
 
 pub mod block;
 pub mod chunk;
-pub mod light;
 mod faults;
+pub mod light;
 mod pending;
 pub mod rest;
 mod sections;

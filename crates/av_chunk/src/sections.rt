@@ -26,7 +26,11 @@ use std::alloc::Global;
 #[derive(Drop)]
 pub(crate) enum Part {
     /// One in the height.
-    Inside { y: i8, section: Section, kept: SectionTags },
+    Inside {
+        y: i8,
+        section: Section,
+        kept: SectionTags,
+    },
     /// One out of the height.
     Outside(OutsideSection),
 }
@@ -40,7 +44,11 @@ fn blank(alloc: Global, name: &[u8]) -> Result<Named, Fault>
 }
 
 /// Leaves an empty place where the tag of a name stood, or last, and hands out the tag.
-pub(crate) fn emptied(alloc: Global, tags: &mut Vec<Named>, name: &[u8]) -> Result<Option<Tag>, Fault>
+pub(crate) fn emptied(
+    alloc: Global,
+    tags: &mut Vec<Named>,
+    name: &[u8],
+) -> Result<Option<Tag>, Fault>
     ensures place { OnOk result (named_views tags.new.items ≡ emptied name.now (named_views tags.old.items)) }
     ensures taken { IfOk result (λ t. option_map view t ≡ tag_of name.now (named_views tags.old.items)) }
     ensures err { IfErr result (λ e. e ≡ OutOfMemory) }

@@ -7,5 +7,5 @@ abbrev pub invariant-loop-entry : goal.invariant-loop-entry
 invariant-loop-entry l = record {
   count : length l.sections.items ≡ l.height.sections;
   inside : list_all (is_in_height l.height) (drop l.entry-index l.entries) ≡ true;
-  marked : MarksPending l.height (take l.entry-index l.entries) l.fn.sections.items l.sections.items
+  marked : MarksPending l.height (take l.entry-index l.entries) l.fn.sections.items l.sections.items;
 }

@@ -58,4 +58,4 @@ returns-clause-ok c =
     let read = rw c.in_ok-block_states.ensures.taken at c.in_ok-section.ensures.ok in
     let kept : named_views c.emptied-2.new.tags.items ≡ emptied (codes "BlockLight") (emptied (codes "block_states") ms) = rw c.in_ok-block_states.ensures.place at c.in_ok-emptied.ensures.place in
     rw is (inside_read c.args.height ms (states c.args.table.now) (states c.read_states.new.table) (to_z w8 (of_z w8 y)) c.in_ok-section.section
-      (record { tags = c.emptied-2.new.tags; states = c.in_ok-section.states }) (number ∙ ap Some (sym same)) within read kept)
+    (record { tags = c.emptied-2.new.tags; states = c.in_ok-section.states }) (number ∙ ap Some (sym same)) within read kept)

@@ -24,8 +24,8 @@ loop-section-preserved-in-Continue-branch-2 c =
       count = section_counts c.args.height c.in-Ok.part c.loop-section.read c.place.new.self placed inv.count;
       count_kept = kept_counts c.args.height c.in-Ok.part c.loop-section.read c.place.new.self placed inv.count_kept;
       so_far = rw (rows-push c.loop-section.yielded x)
-        (AreJudged-part c.args.height (opened (views c.loop-section.yielded)) (tags_in (view x)) (states c.args.table.now) (states c.loop-section.table) (states c.read_section.new.table)
-          c.in-Ok.part c.loop-section.read c.place.new.self c.loop-section.refused c.in-Ok.ensures.table c.in-Ok.ensures.ok placed inv.so_far)
+          (AreJudged-part c.args.height (opened (views c.loop-section.yielded)) (tags_in (view x)) (states c.args.table.now) (states c.loop-section.table) (states c.read_section.new.table)
+          c.in-Ok.part c.loop-section.read c.place.new.self c.loop-section.refused c.in-Ok.ensures.table c.in-Ok.ensures.ok placed inv.so_far);
     }
 
 pub loop-section-preserved : goal.loop-section-preserved
@@ -41,6 +41,6 @@ loop-section-preserved c =
       count = inv.count;
       count_kept = inv.count_kept;
       so_far = rw (rows-push c.loop-section.yielded x)
-        (AreJudged-refused c.args.height (opened (views c.loop-section.yielded)) (tags_in (view x)) (states c.args.table.now) (states c.loop-section.table) (states c.read_section.new.table)
-          c.loop-section.read c.loop-section.read c.loop-section.refused c.in-Err.fault c.lesser.result c.in-Err.ensures.err c.lesser.ensures inv.so_far)
+          (AreJudged-refused c.args.height (opened (views c.loop-section.yielded)) (tags_in (view x)) (states c.args.table.now) (states c.loop-section.table) (states c.read_section.new.table)
+          c.loop-section.read c.loop-section.read c.loop-section.refused c.in-Err.fault c.lesser.result c.in-Err.ensures.err c.lesser.ensures inv.so_far);
     }

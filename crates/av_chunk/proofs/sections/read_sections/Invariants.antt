@@ -15,5 +15,5 @@ invariant-loop-section l = record {
   grown : OnlyGrows (states l.fn.table) (states l.table);
   count : length l.read.sections.items ≡ l.height.sections;
   count_kept : length l.read.kept.items ≡ l.height.sections;
-  so_far : AreJudged l.height (opened (views l.yielded)) (states l.fn.table) (states l.table) l.read l.refused
+  so_far : AreJudged l.height (opened (views l.yielded)) (states l.fn.table) (states l.table) l.read l.refused;
 }

@@ -24,5 +24,5 @@ loop-tick-preserved c =
       foreign_are = rw pushed (foreign_step c.loop-tick.foreign.items t rest ms is none ∙ rw step at inv.foreign_are);
       good = good_step c.args.place c.args.height t rest ms is good ∙ rw step at inv.good;
       compounds = others_after t rest (rw step at inv.compounds);
-      kept = rw pushed (kept_step c.loop-tick.foreign.items t ms is inv.kept)
+      kept = rw pushed (kept_step c.loop-tick.foreign.items t ms is inv.kept);
     }

@@ -9,5 +9,5 @@ invariant-loop l = record {
   count : length l.sections.items ≡ l.counter;
   count_kept : length l.kept.items ≡ l.counter;
   filled : (i : ℕ) → i < l.counter → SlotIsFilled (get_or l.sections.items i None);
-  empty : (i : ℕ) → get_or l.kept.items i None ≡ None
+  empty : (i : ℕ) → get_or l.kept.items i None ≡ None;
 }

@@ -1,0 +1,225 @@
+-- A chunk that was read, put together.
+use Rattle.std.proofs.Common.{◌≡◌, ℕ, ◌<◌, ◌≤◌, ℤ, Bool, true, false, true≢false, ◌&&◌, ◌||◌, Option, Some, None, IsSome, List, [], ◌∷◌, ◌++◌, length, get_or, slice_get, refl, sym, ap, ◌∙◌, arith, min, if◌then◌else◌, codes, Decides, nat_lt}
+use Rattle.std.proofs.lemmas.Bool.Decides.{Decides-int_eq, nat_tests}
+use Rattle.std.proofs.Math.Bool.{or-true}
+use Rattle.std.specs.List.{list_any, flat_map}
+use Rattle.std.specs.Ordering.{int_eq}
+use Rattle.av_types.specs.Division.{divided}
+use Rattle.av_types.specs.Faults.{fault_number, least, lesser}
+use Rattle.av_types.specs.Places.{is_section_of, place_of}
+use Rattle.av_types.specs.declared.place.Pos.{Pos}
+use Rattle.av_types.specs.declared.place.ChunkPos.{ChunkPos}
+use Rattle.av_types.specs.declared.place.Height.{Height}
+use Rattle.av_types.specs.declared.tick.Entry.{Entry}
+use Rattle.av_types.specs.declared.fault.Fault.{Fault}
+use Rattle.av_nbt.specs.Nbt.{NamedTag, Document, members_of}
+use Rattle.av_nbt.specs.Place.{emptied}
+use Rattle.av_nbt.specs.Shape.{members_in, or_else}
+use Rattle.av_nbt.specs.View.{views, named_views}
+use Rattle.av_state.specs.BlockState.{BlockState}
+use Rattle.av_state.specs.StateList.{with_states, most_states}
+use Rattle.av_ticks.specs.Entries.{is_pending}
+use Rattle.av_ticks.specs.Ticks.{entries}
+use Rattle.av_section.specs.BlockStates.{when}
+use Rattle.av_section.specs.Section.{number_at}
+use Rattle.av_section.specs.Section as section
+use Rattle.av_section.specs.declared.section.Section.{Section}
+use Rattle.av_document.specs.Ticks.{lies_in, is_bad_tick, with_water, foreign}
+use Rattle.av_document.specs.Chunk.{root_tags, sections, ticks, sections_of, section_number, is_number, is_bad_at, with_number, are_bad_sections, is_bad_list, numbered, section_faults, section_states, first_fault, DenotesChunk, block_cell, block_states_of, tags_at, cell_of}
+use Rattle.av_document.proofs.Positions.{within_from, place_of-lt}
+use Rattle.av_chunk.specs.declared.chunk.Chunk.{Chunk}
+use Rattle.av_chunk.specs.declared.rest.ChunkRest.{ChunkRest}
+use Rattle.av_chunk.specs.declared.sections.Sections.{Sections}
+use Rattle.av_chunk.specs.declared.water.Ticks.{Ticks}
+use Rattle.av_chunk.specs.Views.{offset_of, section_in, state_in, cells_of, pending_in, rest_of, first_some, found_outside, opened}
+use Rattle.av_chunk.specs.Reading.{IsLoaded}
+use Rattle.av_chunk.specs.Pending.{SlotAdds, is_entry_at, MarksPending}
+use Rattle.av_chunk.specs.TicksRead.{AreTicks, parts_judged}
+use Rattle.av_chunk.specs.SectionsRead.{are_too_many, SlotHas, or_missing, if_numbered, last_numbered, AreRead}
+use Rattle.av_chunk.proofs.Admitted.{IsAdmitted, first_loaded, good_list}
+use Rattle.av_chunk.proofs.WaterIn.{water_in, pending_at}
+
+pub members_in-of : (ms : List NamedTag) → members_in (members_of ms) ≡ ms
+members_in-of [] = refl
+members_in-of (m ∷ ms) = ap (λ xs. m ∷ xs) (members_in-of ms)
+
+-- ---- no number comes twice
+
+or_left : (a b : Bool) → a || b ≡ false → a ≡ false
+or_left true b e = e
+or_left false b e = refl
+
+or_right : (a b : Bool) → a || b ≡ false → b ≡ false
+or_right true b e = cc
+or_right false b e = e
+
+other_number : (y z : ℤ) (before : List ℤ) → list_any (int_eq y) before ≡ true → list_any (int_eq z) before ≡ false → (b : Bool) → Decides b (y ≡ z) → b ≡ false
+other_number y z before s t true d = let e : y ≡ z = d.0 refl in absurd (true≢false (sym s ∙ (ap (λ v. list_any (int_eq v) before) e ∙ t)))
+other_number y z before s t false d = refl
+
+-- the numbers of a list that has one more in front
+here_too : (y z : ℤ) (before : List ℤ) → list_any (int_eq y) before ≡ true → int_eq y z ≡ false → list_any (int_eq y) (z ∷ before) ≡ true
+here_too y z before s e = rw (e, s) refl
+
+none_at : (h : Height) (y : ℤ) (before : List ℤ) (ms : List NamedTag) (rows : List (List NamedTag)) → list_any (int_eq y) before ≡ true
+    → ((z : ℤ) → are_bad_sections h (z ∷ before) rows ≡ false → list_any (int_eq y) (z ∷ before) ≡ true → last_numbered y rows ≡ None)
+    → (n : Option ℤ) → section_number ms ≡ n → is_bad_at h before ms n || are_bad_sections h (with_number before n) rows ≡ false
+    → first_some (last_numbered y rows) (if_numbered y ms) ≡ None
+none_at h y before ms rows s later None is bad = absurd (true≢false bad)
+none_at h y before ms rows s later (Some z) is bad =
+    let new : list_any (int_eq z) before ≡ false = or_left (list_any (int_eq z) before) _ (or_left (is_bad_at h before ms (Some z)) (are_bad_sections h (z ∷ before) rows) bad) in
+    let apart : int_eq y z ≡ false = other_number y z before s new (int_eq y z) (Decides-int_eq y z) in
+    let none : last_numbered y rows ≡ None = later z (or_right (is_bad_at h before ms (Some z)) (are_bad_sections h (z ∷ before) rows) bad) (here_too y z before s apart) in
+    rw (none, is, apart) refl
+
+none_later : (h : Height) (y : ℤ) (before : List ℤ) (rows : List (List NamedTag)) → are_bad_sections h before rows ≡ false → list_any (int_eq y) before ≡ true → last_numbered y rows ≡ None
+none_later h y before [] e s = refl
+none_later h y before (ms ∷ rows) e s = none_at h y before ms rows s (λ z bad here. none_later h y (z ∷ before) rows bad here) (section_number ms) refl e
+
+first_none : {A : Type 0} (o : Option A) → first_some o None ≡ o
+first_none None = refl
+first_none (Some x) = refl
+
+last_at : (h : Height) (y z : ℤ) (before : List ℤ) (ms : List NamedTag) (rows : List (List NamedTag)) → section_number ms ≡ Some z → are_bad_sections h (z ∷ before) rows ≡ false
+    → last_numbered y rows ≡ numbered y rows → (b : Bool) → int_eq y z ≡ b → last_numbered y (ms ∷ rows) ≡ numbered y (ms ∷ rows)
+last_at h y z before ms rows is bad later true same =
+    let here : list_any (int_eq y) (z ∷ before) ≡ true = rw same refl in
+    let none : last_numbered y rows ≡ None = none_later h y (z ∷ before) rows bad here in
+    rw (is, same, none) refl
+last_at h y z before ms rows is bad later false same = rw (is, same) (first_none (last_numbered y rows) ∙ later)
+
+last_of : (h : Height) (y : ℤ) (before : List ℤ) (ms : List NamedTag) (rows : List (List NamedTag))
+    → ((z : ℤ) → are_bad_sections h (z ∷ before) rows ≡ false → last_numbered y rows ≡ numbered y rows)
+    → (n : Option ℤ) → section_number ms ≡ n → is_bad_at h before ms n || are_bad_sections h (with_number before n) rows ≡ false → last_numbered y (ms ∷ rows) ≡ numbered y (ms ∷ rows)
+last_of h y before ms rows later None is bad = absurd (true≢false bad)
+last_of h y before ms rows later (Some z) is bad =
+    let rest : are_bad_sections h (z ∷ before) rows ≡ false = or_right (is_bad_at h before ms (Some z)) (are_bad_sections h (z ∷ before) rows) bad in
+    last_at h y z before ms rows is rest (later z rest) (int_eq y z) refl
+
+pub last_is_first : (h : Height) (y : ℤ) (before : List ℤ) (rows : List (List NamedTag)) → are_bad_sections h before rows ≡ false → last_numbered y rows ≡ numbered y rows
+last_is_first h y before [] e = refl
+last_is_first h y before (ms ∷ rows) e = last_of h y before ms rows (λ z bad. last_is_first h y (z ∷ before) rows bad) (section_number ms) refl e
+
+good_rows : (h : Height) (o : Option (List (List NamedTag))) → is_bad_list h o ≡ false → are_bad_sections h [] (or_else [] o) ≡ false
+good_rows h None e = refl
+good_rows h (Some rows) e = e
+
+-- ---- a slot after its places were made pending
+
+pub record Filled (table : List BlockState) (cell : ℕ → BlockState) (test : ℕ → Bool) (now : Option Section) : Type 0 where
+  pub value : Section
+  pub is : now ≡ Some value
+  pub numbers : (i : ℕ) → i < 4096 → slice_get table (number_at value i) ≡ Some (cell i)
+  pub pending : (i : ℕ) → section.is_pending value i ≡ test i
+
+filled : (table : List BlockState) (cell : ℕ → BlockState) (test : ℕ → Bool) (old now : Option Section) → SlotHas table cell old → SlotAdds old now test → Filled table cell test now
+filled table cell test None now s a = absurd s
+filled table cell test (Some x) None s a = absurd a
+filled table cell test (Some x) (Some v) s a = record {
+  value = v;
+  is = refl;
+  numbers = λ i p. rw (a.numbers i) (s.numbers i p);
+  pending = λ i. a.pending i ∙ ap (λ b. b || test i) (s.pending i);
+}
+
+-- ---- the whole
+
+few_states : (table more : List BlockState) (new : List BlockState) → new ≡ with_states table more → length new ≤ most_states → are_too_many table more ≡ false
+few_states table more new e p = let q : length (with_states table more) ≤ most_states = rw e at p in grind (arith, nat_tests)
+
+pub record Parts (c : ChunkPos) (h : Height) (root : List NamedTag) (old new : List BlockState) (read : Sections) (t : Ticks) (chunk : Chunk) (rest : ChunkRest) : Type 0 where
+  pub admitted : IsAdmitted h c root
+  pub read_are : AreRead h (sections root) old new read
+  pub ticks_are : AreTicks c h (ticks root) t
+  pub few : length new ≤ most_states
+  pub water : entries chunk.ticks ≡ entries t.water
+  pub marked : MarksPending h (entries t.water) read.sections.items chunk.sections.items
+  pub place_is : rest.place ≡ c
+  pub height_is : rest.height ≡ h
+  pub tags : named_views rest.tags.items ≡ emptied (codes "fluid_ticks") (emptied (codes "sections") root)
+  pub foreign_are : rest.foreign.items ≡ t.foreign.items
+  pub kept : rest.sections.items ≡ read.kept.items
+  pub outside : rest.outside.items ≡ read.outside.items
+
+slot_of : (c : ChunkPos) (h : Height) (root : List NamedTag) (old new : List BlockState) (read : Sections) (t : Ticks) (chunk : Chunk) (rest : ChunkRest)
+    → Parts c h root old new read t chunk rest → (y : ℤ) → is_section_of h y ≡ true
+    → Filled new (block_cell (block_states_of (tags_at y root))) (λ i. list_any (is_entry_at h (offset_of h y) i) (entries t.water)) (section_in h chunk y)
+slot_of c h root old new read t chunk rest p y s =
+    let same = last_is_first h y [] (sections root) (good_rows h (sections_of root) (good_list h root p.admitted.shape)) in
+    rw (← same) (filled new _ _ (get_or read.sections.items (offset_of h y) None) (section_in h chunk y) (p.read_are.held.cells y s) (p.marked.slots (offset_of h y)))
+
+state_of : (c : ChunkPos) (h : Height) (root : List NamedTag) (old new : List BlockState) (read : Sections) (t : Ticks) (chunk : Chunk) (rest : ChunkRest)
+    → Parts c h root old new read t chunk rest → (q : Pos) → lies_in c h q ≡ true → state_in new h chunk q ≡ Some (cell_of root q)
+state_of c h root old new read t chunk rest p q s =
+    let f = slot_of c h root old new read t chunk rest p (divided q.y 16) (within_from c h q s).height in
+    rw f.is (f.numbers (place_of q) (place_of-lt q))
+
+no_faults : (c : ChunkPos) (h : Height) (root : List NamedTag) (old new : List BlockState) (read : Sections) (t : Ticks) (chunk : Chunk) (rest : ChunkRest)
+    → Parts c h root old new read t chunk rest → first_fault h c old root ≡ None
+no_faults c h root old new read t chunk rest p =
+    let few = few_states old (flat_map (section_states h) (sections root)) new p.read_are.states p.few in
+    first_loaded h c root old p.admitted ∙ rw (p.read_are.no_fault, p.ticks_are.good, few) refl
+
+denotes : (c : ChunkPos) (h : Height) (d : Document) (root : List NamedTag) (old new : List BlockState) (read : Sections) (t : Ticks) (chunk : Chunk) (rest : ChunkRest)
+    → Parts c h root old new read t chunk rest → root_tags d ≡ root → rest.name.items ≡ d.name → DenotesChunk c h d (cells_of new h chunk) (entries chunk.ticks) (rest_of rest)
+denotes c h d root old new read t chunk rest p e n =
+    let a = p.admitted in
+    let same = λ (y : ℤ). last_is_first h y [] (sections root) (good_rows h (sections_of root) (good_list h root a.shape)) in
+    record {
+      no_fault = rw (e, a.level, a.status, a.full, a.shape, a.place, p.read_are.no_fault, p.ticks_are.good) refl;
+      full = rw e a.full;
+      cells_are = λ q s. rw (e, state_of c h root old new read t chunk rest p q s) refl;
+      water_is = rw e (p.water ∙ p.ticks_are.water);
+      name_is = n;
+      tags_are = rw e p.tags;
+      foreign_are = rw e (ap (λ xs. opened (views xs)) p.foreign_are ∙ p.ticks_are.foreign_are);
+      outside_is = λ y. rw (e, p.height_is, p.outside) (outside_of y (is_section_of h y) refl);
+      section_is = λ y s. rw (e, p.height_is, p.kept, ← same y) (p.read_are.held.rests y s);
+    }
+  where
+    outside_of : (y : ℤ) (b : Bool) → is_section_of h y ≡ b → (if b then None else found_outside y read.outside.items) ≡ (if b then None else numbered y (sections root))
+    outside_of y true s = refl
+    outside_of y false s = p.read_are.held.others y s ∙ last_is_first h y [] (sections root) (good_rows h (sections_of root) (good_list h root p.admitted.shape))
+
+pub loaded : (c : ChunkPos) (h : Height) (d : Document) (root : List NamedTag) (old new : List BlockState) (read : Sections) (t : Ticks) (chunk : Chunk) (rest : ChunkRest)
+    → Parts c h root old new read t chunk rest → root_tags d ≡ root → rest.name.items ≡ d.name → IsLoaded c h d old new chunk rest
+loaded c h d root old new read t chunk rest p e n =
+    let slot = slot_of c h root old new read t chunk rest p in
+    let within = water_in c h [] (ticks root) p.ticks_are.good refl in
+    record {
+      no_fault = rw e (no_faults c h root old new read t chunk rest p);
+      denotes = denotes c h d root old new read t chunk rest p e n;
+      numbered = λ q s. rw (state_of c h root old new read t chunk rest p q s) refl;
+      whole = record { count = p.marked.count ∙ p.read_are.held.count; each_there = λ y s. rw ((slot y s).is) refl };
+      pending = λ q s.
+          let f = slot (divided q.y 16) (within_from c h q s).height in
+          rw f.is (f.pending (place_of q) ∙ (pending_at c h q (entries t.water) s (rw (← p.ticks_are.water) at within) ∙ ap (is_pending q) (sym p.water)));
+      place_is = p.place_is;
+      height_is = p.height_is;
+      states = rw e p.read_are.states;
+    }
+
+-- ---- a fault of the ticks beside one of the sections
+
+abbrev meet : Option ℕ → Option ℕ → Option ℕ
+meet None o = o
+meet (Some a) o = Some (lesser a o)
+
+meet_assoc : (a : ℕ) (m o : Option ℕ) → Some (lesser a (meet m o)) ≡ meet (Some (lesser a m)) o
+meet_assoc a None o = refl
+meet_assoc a (Some b) None = refl
+meet_assoc a (Some b) (Some d) = ap Some (omega arith)
+
+least-append : (xs ys : List ℕ) → least (xs ++ ys) ≡ meet (least xs) (least ys)
+least-append [] ys = refl
+least-append (x ∷ xs) ys = rw (least-append xs ys) (meet_assoc x (least xs) (least ys))
+
+beside : (a : Option ℕ) (t : Bool) (n : ℕ) → meet a (least (when t 18)) ≡ Some n → meet (meet a (Some 16)) (least (when t 18)) ≡ Some (min n 16)
+beside None true n e = let i : 18 ≡ n = cc in ap Some (omega arith)
+beside None false n e = cc
+beside (Some a) true n e = let i : min a 18 ≡ n = cc in ap Some (omega arith)
+beside (Some a) false n e = let i : a ≡ n = cc in ap Some (omega arith)
+
+pub ticks_beside : (xs : List ℕ) (t : Bool) (n : ℕ) → least (xs ++ when t 18) ≡ Some n → least ((xs ++ 16 ∷ []) ++ when t 18) ≡ Some (min n 16)
+ticks_beside xs t n e =
+    least-append (xs ++ 16 ∷ []) (when t 18) ∙ (ap (λ m. meet m (least (when t 18))) (least-append xs (16 ∷ [])) ∙ beside (least xs) t n (sym (least-append xs (when t 18)) ∙ e))

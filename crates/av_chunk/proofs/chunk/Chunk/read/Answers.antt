@@ -1,0 +1,109 @@
+use Rattle.std.proofs.Common.{[], ◌≡◌, Ok, Err, true, false, Some, refl, sym, ◌∙◌, ap, rules, codes, option_map}
+use Rattle.av_types.specs.declared.fault.Fault.{Fault}
+use Rattle.av_nbt.specs.Nbt.{NamedTag}
+use Rattle.av_nbt.specs.Place.{tag_of, blank, emptied}
+use Rattle.av_nbt.specs.View.{view, views, named_views, document}
+use Rattle.av_state.specs.Table.{states}
+use Rattle.av_ticks.specs.Ticks.{entries}
+use Rattle.av_document.specs.Chunk.{sections, ticks, first_fault}
+use Rattle.av_document.proofs.Tags.{tag_of-place_other}
+use Rattle.av_chunk.specs.Working.{admitted}
+use Rattle.av_chunk.specs.Views.{opened}
+use Rattle.av_chunk.specs.Reading.{IsRefusal}
+use Rattle.av_chunk.specs.TicksRead.{parts_judged, AreTicks}
+use Rattle.av_chunk.specs.SectionsRead.{AreRead}
+use Rattle.av_chunk.proofs.Rows.{items_good}
+use Rattle.av_chunk.proofs.WaterIn.{in_height, water_in}
+use Rattle.av_chunk.proofs.Assembly.{loaded, members_in-of}
+use Rattle.av_chunk.proofs.Admitted.{IsAdmitted, admitted_true, admitted_false, admitted_fault, good_sections, good_ticks, good_list, first_loaded}
+use Rattle.av_chunk.proofs.chunk.Chunk.read.Goals as goal
+
+pub returns-in_err-admitted-clause-err : goal.returns-in_err-admitted-clause-err
+returns-in_err-admitted-clause-err c =
+    let root = named_views c.args.root.tags.items in
+    let e = c.in_err-admitted.field-0.0 in
+    let is : admitted c.args.height c.args.place root ≡ Err e = rw c.deref.ensures.value at (sym c.admitted.ensures) ∙ c.in_err-admitted.was in
+    let fact : IsRefusal c.args.place c.args.height (document c.args.root) (states c.args.table.now) e =
+    record { first = λ ne. rw (members_in-of root) (admitted_fault c.args.height c.args.place root (states c.args.table.now) e is) } in
+    search (rules, fact)
+
+pub returns-then-not-branch-clause-ok : goal.returns-then-not-branch-clause-ok
+returns-then-not-branch-clause-ok c =
+    let root = named_views c.args.root.tags.items in
+    let is : admitted c.args.height c.args.place root ≡ Ok false = rw c.deref.ensures.value at (sym c.admitted.ensures) ∙ (c.in_ok-admitted.was ∙ ap Ok c.if-not-branch.true) in
+    let kept = admitted_false c.args.height c.args.place root (states c.args.table.now) is in
+    record { no_fault = rw (members_in-of root) kept.0; not_full = rw (members_in-of root) kept.1; states = refl }
+
+pub items-requires : goal.items-requires
+items-requires c =
+    let root = named_views c.args.root.tags.items in
+    let is : admitted c.args.height c.args.place root ≡ Ok true = rw c.deref.ensures.value at (sym c.admitted.ensures) ∙ (c.in_ok-admitted.was ∙ ap Ok c.if-not-branch.false) in
+    let a = admitted_true c.args.height c.args.place root is in
+    rw c.in_ok-sections.ensures.taken (good_sections c.args.height root a.shape)
+
+pub items-requires-2 : goal.items-requires-2
+items-requires-2 c =
+    let root = named_views c.args.root.tags.items in
+    let is : admitted c.args.height c.args.place root ≡ Ok true = rw c.deref.ensures.value at (sym c.admitted.ensures) ∙ (c.in_ok-admitted.was ∙ ap Ok c.if-not-branch.false) in
+    let a = admitted_true c.args.height c.args.place root is in
+    let taken : option_map view c.in_ok-ticks.ticks ≡ tag_of (codes "fluid_ticks") root =
+    rw c.in_ok-sections.ensures.place at c.in_ok-ticks.ensures.taken ∙ tag_of-place_other (codes "fluid_ticks") (codes "sections") blank root refl in
+    rw taken (good_ticks c.args.height root a.shape)
+
+pub read_parts-requires-clause-numbers : goal.read_parts-requires-clause-numbers
+read_parts-requires-clause-numbers c =
+    let root = named_views c.args.root.tags.items in
+    let is : admitted c.args.height c.args.place root ≡ Ok true = rw c.deref.ensures.value at (sym c.admitted.ensures) ∙ (c.in_ok-admitted.was ∙ ap Ok c.if-not-branch.false) in
+    let a = admitted_true c.args.height c.args.place root is in
+    rw (c.items.ensures.items, c.in_ok-sections.ensures.taken) (items_good c.args.height (tag_of (codes "sections") root) (good_list c.args.height root a.shape))
+
+pub returns-in_err-read-clause-err : goal.returns-in_err-read-clause-err
+returns-in_err-read-clause-err c =
+    let root = named_views c.args.root.tags.items in
+    let is : admitted c.args.height c.args.place root ≡ Ok true = rw c.deref.ensures.value at (sym c.admitted.ensures) ∙ (c.in_ok-admitted.was ∙ ap Ok c.if-not-branch.false) in
+    let a = admitted_true c.args.height c.args.place root is in
+    let e = c.in_err-read.field-0.0 in
+    let rows : opened (views c.items.result.items) ≡ sections root = rw c.in_ok-sections.ensures.taken at c.items.ensures.rows in
+    let taken : option_map view c.in_ok-ticks.ticks ≡ tag_of (codes "fluid_ticks") root =
+    rw c.in_ok-sections.ensures.place at c.in_ok-ticks.ensures.taken ∙ tag_of-place_other (codes "fluid_ticks") (codes "sections") blank root refl in
+    let water : opened (views c.items-2.result.items) ≡ ticks root = rw taken at c.items-2.ensures.rows in
+    let refused = rw (rows, water) at c.in_err-read.ensures.err in
+    let fact : IsRefusal c.args.place c.args.height (document c.args.root) (states c.args.table.now) e =
+    record { first = λ ne. rw (members_in-of root) (first_loaded c.args.height c.args.place root (states c.args.table.now) a ∙ refused.first ne) } in
+    search (rules, fact)
+
+pub mark_pending-requires-clause-inside : goal.mark_pending-requires-clause-inside
+mark_pending-requires-clause-inside c =
+    let t = c.in_ok-read.ensures.ticks in
+    rw (c.as_slice.ensures, t.water) (in_height c.args.place c.args.height _ (water_in c.args.place c.args.height [] (opened (views c.items-2.result.items)) t.good refl))
+
+pub returns-clause-ok : goal.returns-clause-ok
+returns-clause-ok c =
+    let root = named_views c.args.root.tags.items in
+    let is : admitted c.args.height c.args.place root ≡ Ok true = rw c.deref.ensures.value at (sym c.admitted.ensures) ∙ (c.in_ok-admitted.was ∙ ap Ok c.if-not-branch.false) in
+    let a = admitted_true c.args.height c.args.place root is in
+    let rows : opened (views c.items.result.items) ≡ sections root = rw c.in_ok-sections.ensures.taken at c.items.ensures.rows in
+    let taken : option_map view c.in_ok-ticks.ticks ≡ tag_of (codes "fluid_ticks") root =
+    rw c.in_ok-sections.ensures.place at c.in_ok-ticks.ensures.taken ∙ tag_of-place_other (codes "fluid_ticks") (codes "sections") blank root refl in
+    let water : opened (views c.items-2.result.items) ≡ ticks root = rw taken at c.items-2.ensures.rows in
+    let read : AreRead c.args.height (sections root) (states c.args.table.now) (states c.read_parts.new.table) c.in_ok-read.read = rw rows at c.in_ok-read.ensures.sections in
+    let turns : AreTicks c.args.place c.args.height (ticks root) c.in_ok-read.ticks = rw water at c.in_ok-read.ensures.ticks in
+    let tags : named_views c.emptied-2.new.tags.items ≡ emptied (codes "fluid_ticks") (emptied (codes "sections") root) = rw c.in_ok-sections.ensures.place at c.in_ok-ticks.ensures.place in
+    loaded c.args.place c.args.height (document c.args.root) root (states c.args.table.now) (states c.read_parts.new.table) c.in_ok-read.read c.in_ok-read.ticks
+    (record { sections = c.mark_pending.new.sections; ticks = c.in_ok-read.ticks.water })
+    (record { place = c.args.place; height = c.args.height; name = c.args.root.name; tags = c.emptied-2.new.tags; foreign = c.in_ok-read.ticks.foreign; sections = c.in_ok-read.read.kept; outside = c.in_ok-read.read.outside })
+    (record {
+      admitted = a;
+      read_are = read;
+      ticks_are = turns;
+      few = c.read_parts.new.table.numbered.bounded;
+      water = refl;
+      marked = rw (← c.as_slice.ensures) c.mark_pending.ensures;
+      place_is = refl;
+      height_is = refl;
+      tags = tags;
+      foreign_are = refl;
+      kept = refl;
+      outside = refl;
+    })
+    (members_in-of root) refl

@@ -1,0 +1,32 @@
+use Rattle.std.proofs.Common.{◌≡◌, ◌<◌, pos, None, length, take, drop, get_or, sym, ◌∙◌, ap, arith, rules, w32, FitsSigned, to_z-of_z, suc, add-one, drop-cons, length-set}
+use Rattle.std.proofs.Math.Seq.{take-suc}
+use Rattle.av_types.specs.Division.{divided}
+use Rattle.av_types.specs.Places.{place_of}
+use Rattle.av_types.specs.declared.tick.Entry.{Entry}
+use Rattle.av_chunk.specs.Views.{offset_of}
+use Rattle.av_chunk.specs.Pending.{SlotPending}
+use Rattle.av_chunk.proofs.Marking.{MarksPending-step, same_default}
+use Rattle.av_chunk.proofs.WaterIn.{and_right}
+use Rattle.av_chunk.proofs.pending.mark_pending.Goals as goal
+
+pub loop-entry-preserved : goal.loop-entry-preserved
+loop-entry-preserved c =
+    let inv = c.loop-entry.invariant in
+    let h = c.args.height in
+    let es = c.args.entries.now in
+    let n = c.loop-entry.entry-index in
+    let k = c.index_of_block-index.result in
+    let xs = c.loop-entry.sections.items in
+    let none : Entry = record { pos = record { x = pos 0; y = pos 0; z = pos 0 }; due = pos 0; priority = pos 0 } in
+    let e : Entry = get_or es n none in
+    let fits : FitsSigned w32 e.pos.y = search rules in
+    let is : offset_of h (divided e.pos.y 16) ≡ k = sym (rw (to_z-of_z fits) at c.index_of_block-index.ensures.value) in
+    let within : n < length es = omega arith in
+    let bound : k < length xs = omega arith in
+    let value : get_or xs k None ≡ c.index_mut.result.now = same_default xs k None c.index_mut.result.now bound ∙ sym c.index_mut.ensures.value in
+    let slot : SlotPending (get_or xs k None) c.set_pending.new.slot (place_of e.pos) = rw (value, ← c.place.ensures) c.set_pending.ensures in
+    record {
+      count = length-set xs k c.set_pending.new.slot ∙ inv.count;
+      inside = rw add-one (and_right _ _ (rw (drop-cons es n none) at inv.inside));
+      marked = rw (add-one, take-suc es n none) (MarksPending-step h (take n es) e c.args.sections.now.items xs c.set_pending.new.slot k is bound slot inv.marked);
+    }
