@@ -67,6 +67,23 @@ fn decode(path: &str, rounds: u32) -> Result<String, Box<dyn Error>> {
     ))
 }
 
+/// Decodes every chunk of a region, and writes a region of what was decoded.
+fn recode(input: &str, output: &str) -> Result<String, Box<dyn Error>> {
+    let bytes = fs::read(input)?;
+    let region = Region::read(&bytes)?;
+    let mut payloads = Vec::with_capacity(CHUNKS);
+    for index in 0..CHUNKS {
+        let payload = region.payload(index)?;
+        let root = payload.map(nbt::decode).transpose()?;
+        payloads.push(root.map(|root| nbt::encode(&root)));
+    }
+    let stamps: Vec<u32> = (0..CHUNKS).map(|index| region.stamp(index)).collect();
+    let written = region::write(&payloads, &stamps);
+    fs::write(output, &written)?;
+    let chunks = payloads.iter().flatten().count();
+    Ok(format!("chunks {chunks} bytes {}", written.len()))
+}
+
 enum Slot {
     Absent,
     Kept(Vec<u8>),
@@ -108,9 +125,13 @@ fn run(words: &[&str]) -> Result<String, Box<dyn Error>> {
     match words {
         ["block", path, x, y, z] => block(path, x.parse()?, y.parse()?, z.parse()?),
         ["decode", path, rounds] => decode(path, rounds.parse()?),
+        ["recode", input, output] => recode(input, output),
         ["rewrite", input, output] => rewrite(input, output),
         ["turn", turns] => Ok(format!("amounts {}", water::run(turns.parse()?))),
-        _ => Err("plain block FILE X Y Z | decode FILE ROUNDS | rewrite IN OUT | turn N".into()),
+        _ => Err(
+            "plain block FILE X Y Z | decode FILE ROUNDS | recode IN OUT | rewrite IN OUT | turn N"
+                .into(),
+        ),
     }
 }
 

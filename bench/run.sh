@@ -1,0 +1,19 @@
+#!/usr/bin/env bash
+# Times the proved code beside the plain program, both over one full region of 1,024 chunks, in one run.
+#   bench/run.sh [TIMES]    how often each command runs, 7 by default; the best time counts
+set -eu
+top=$(cd "$(dirname "$0")/.." && pwd)
+times=${1:-7}
+work=$(mktemp -d)
+trap 'rm -rf "$work"' EXIT
+
+"$top/scripts/make_samples.py" --bench "$work/r.0.0.mca"
+rustc --edition 2024 -O "$top/bench/plain/main.rs" -o "$work/plain"
+(cd "$top/crates/av_bench" && rt run </dev/null >"$work/log" 2>&1) || true
+proved=$top/crates/av_bench/out/av_bench
+[ -x "$proved" ] || { cat "$work/log"; exit 1; }
+"$top/anvilwater" >/dev/null 2>&1 || true
+
+measure() { "$top/bench/measure.py" "$@"; }
+measure block "$times" "$top/crates/av_main/out/av_main" block "$work/r.0.0.mca" 300 20 300 -- "$work/plain" block "$work/r.0.0.mca" 300 20 300
+measure decode "$times" "$proved" decode "$work/r.0.0.mca" 5 -- "$work/plain" decode "$work/r.0.0.mca" 5
