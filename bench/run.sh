@@ -17,3 +17,5 @@ proved=$top/crates/av_bench/out/av_bench
 measure() { "$top/bench/measure.py" "$@"; }
 measure block "$times" "$top/crates/av_main/out/av_main" block "$work/r.0.0.mca" 300 20 300 -- "$work/plain" block "$work/r.0.0.mca" 300 20 300
 measure decode "$times" "$proved" decode "$work/r.0.0.mca" 5 -- "$work/plain" decode "$work/r.0.0.mca" 5
+measure recode "$times" "$proved" recode "$work/r.0.0.mca" "$work/proved.mca" -- "$work/plain" recode "$work/r.0.0.mca" "$work/plain.mca"
+cmp "$work/proved.mca" "$work/plain.mca"

@@ -80,8 +80,7 @@ fn recode(input: &str, output: &str) -> Result<String, Box<dyn Error>> {
     let stamps: Vec<u32> = (0..CHUNKS).map(|index| region.stamp(index)).collect();
     let written = region::write(&payloads, &stamps);
     fs::write(output, &written)?;
-    let chunks = payloads.iter().flatten().count();
-    Ok(format!("chunks {chunks} bytes {}", written.len()))
+    Ok(format!("bytes {}", written.len()))
 }
 
 enum Slot {

@@ -2,6 +2,7 @@
 #![tactic(auto)]
 
 pub mod decoding;
+pub mod recoding;
 pub mod tally;
 
 use anyhow::{Result, bail};
@@ -18,7 +19,14 @@ fn run<R: Env + Files + AllocGlobal>(rt: &R, words: &[&str]) -> Result<String> {
             let rounds: u32 = rounds.parse()?;
             Ok(decoding::decode_rounds(alloc, bytes.as_slice(), rounds)?)
         }
-        _ => bail!("av_bench decode FILE ROUNDS"),
+        ["recode", input, output] => {
+            let bytes = fs::read(rt, *input)?;
+            let written = recoding::recode(alloc, bytes.as_slice())?;
+            fs::write(rt, *output, written.as_slice())?;
+            let size = written.len();
+            Ok(format!(in alloc; "bytes {size}")?)
+        }
+        _ => bail!("av_bench decode FILE ROUNDS | recode IN OUT"),
     }
 }
 
