@@ -1,12 +1,13 @@
-//! The rule of water on a small flat world: one chunk of 16 by 16, a floor, and five layers of air above it.
-use std::collections::{HashSet, VecDeque};
+//! The rule of water on a small flat world: five layers of air in one chunk. The world ends below them, which is floor.
+use std::collections::VecDeque;
 
 const SIDE: i32 = 16;
-const LAYERS: i32 = 6;
+const LAYERS: i32 = 5;
 
 #[derive(Clone, Copy, PartialEq)]
 enum Cell {
-    Stone,
+    /// Beyond the world's ends: shut, and a floor.
+    Outside,
     Air,
     Source,
     Flow(u8),
@@ -27,7 +28,7 @@ impl Cell {
         match self {
             Cell::Source | Cell::Falling => 8,
             Cell::Flow(amount) => amount,
-            Cell::Stone | Cell::Air => 0,
+            Cell::Outside | Cell::Air => 0,
         }
     }
 }
@@ -46,23 +47,17 @@ fn above((x, y, z): Pos) -> Pos {
 
 pub struct World {
     cells: Vec<Cell>,
-    pending: HashSet<Pos>,
+    /// Which cells have an entry that waits, by index.
+    pending: Vec<bool>,
     entries: VecDeque<Pos>,
 }
 
 impl World {
     pub fn flat() -> World {
-        let cell = |index| {
-            if index < SIDE * SIDE {
-                Cell::Stone
-            } else {
-                Cell::Air
-            }
-        };
-        let cells = (0..LAYERS * SIDE * SIDE).map(cell).collect();
+        let cells = vec![Cell::Air; (LAYERS * SIDE * SIDE) as usize];
         World {
+            pending: vec![false; cells.len()],
             cells,
-            pending: HashSet::new(),
             entries: VecDeque::new(),
         }
     }
@@ -72,13 +67,12 @@ impl World {
         inside.then_some((SIDE * (SIDE * y + z) + x) as usize)
     }
 
-    /// Stone where nothing is loaded, as that is dry, shut and floor.
     fn at(&self, pos: Pos) -> Cell {
-        World::index(pos).map_or(Cell::Stone, |index| self.cells[index])
+        World::index(pos).map_or(Cell::Outside, |index| self.cells[index])
     }
 
     fn has_hole(&self, pos: Pos) -> bool {
-        self.at(below(pos)) != Cell::Stone
+        self.at(below(pos)) != Cell::Outside
     }
 
     fn sources(&self, pos: Pos) -> usize {
@@ -90,7 +84,7 @@ impl World {
 
     fn incoming(&self, pos: Pos) -> Cell {
         let under = self.at(below(pos));
-        if self.sources(pos) >= 2 && (under == Cell::Stone || under == Cell::Source) {
+        if self.sources(pos) >= 2 && (under == Cell::Outside || under == Cell::Source) {
             return Cell::Source;
         }
         if self.at(above(pos)).is_wet() {
@@ -121,33 +115,48 @@ impl World {
     }
 
     fn wake(&mut self, pos: Pos) {
-        if self.at(pos).is_wet() && self.pending.insert(pos) {
+        let Some(index) = World::index(pos) else {
+            return;
+        };
+        if self.cells[index].is_wet() && !self.pending[index] {
+            self.pending[index] = true;
             self.entries.push_back(pos);
         }
     }
 
+    /// Takes the first entry out.
+    fn take_first(&mut self) -> Option<Pos> {
+        let pos = self.entries.pop_front()?;
+        if let Some(index) = World::index(pos) {
+            self.pending[index] = false;
+        }
+        Some(pos)
+    }
+
     /// The length of the shortest walk from the cell in that direction to a hole, at most 4.
     fn drop_distance(&self, pos: Pos, direction: (i32, i32)) -> Option<u8> {
-        let walkable = |pos| !matches!(self.at(pos), Cell::Stone | Cell::Source);
         let first = beside(pos, direction);
-        let mut seen = [[false; 9]; 9];
-        let mut ring = vec![first];
-        for distance in 0..=4 {
-            let mut next = Vec::new();
-            for at in ring.into_iter().filter(|at| walkable(*at)) {
-                if self.has_hole(at) {
-                    return Some(distance);
-                }
-                for direction in DIRECTIONS {
-                    let (x, y, z) = beside(at, direction);
-                    let (dx, dz) = (x - first.0 + 4, z - first.2 + 4);
-                    if distance < 4 && !std::mem::replace(&mut seen[dx as usize][dz as usize], true)
-                    {
-                        next.push((x, y, z));
-                    }
+        let bit = |(x, _, z): Pos| 1u128 << (9 * (z - first.2 + 4) + x - first.0 + 4);
+        // The cells within four steps of the first are 41.
+        let mut queue = [(first, 0); 41];
+        let (mut next, mut end, mut seen) = (0, 1, bit(first));
+        while next < end {
+            let (at, distance) = queue[next];
+            next += 1;
+            if matches!(self.at(at), Cell::Outside | Cell::Source) {
+                continue;
+            }
+            if self.has_hole(at) {
+                return Some(distance);
+            }
+            for direction in DIRECTIONS.iter().filter(|_| distance < 4) {
+                let beyond = beside(at, *direction);
+                if seen & bit(beyond) == 0 {
+                    seen |= bit(beyond);
+                    queue[end] = (beyond, distance + 1);
+                    end += 1;
                 }
             }
-            ring = next;
         }
         None
     }
@@ -210,10 +219,9 @@ pub fn run(turns: u64) -> u64 {
         if world.entries.is_empty() {
             sum += world.level_sum();
             world = World::flat();
-            world.set((8, 3, 8), Cell::Source);
+            world.set((8, 2, 8), Cell::Source);
         }
-        if let Some(pos) = world.entries.pop_front() {
-            world.pending.remove(&pos);
+        if let Some(pos) = world.take_first() {
             world.turn(pos);
         }
     }
