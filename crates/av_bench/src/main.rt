@@ -2,6 +2,7 @@
 #![tactic(auto)]
 
 pub mod decoding;
+pub mod flowing;
 pub mod recoding;
 pub mod tally;
 
@@ -26,7 +27,12 @@ fn run<R: Env + Files + AllocGlobal>(rt: &R, words: &[&str]) -> Result<String> {
             let size = written.len();
             Ok(format!(in alloc; "bytes {size}")?)
         }
-        _ => bail!("av_bench decode FILE ROUNDS | recode IN OUT"),
+        ["turn", turns] => {
+            let turns: u64 = turns.parse()?;
+            let amounts = flowing::run_turns(alloc, turns)?;
+            Ok(format!(in alloc; "amounts {amounts}")?)
+        }
+        _ => bail!("av_bench decode FILE ROUNDS | recode IN OUT | turn N"),
     }
 }
 

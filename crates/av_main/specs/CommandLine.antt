@@ -1,8 +1,10 @@
 -- The command line: what `clap` is told of it, and what a command holds of the words.
-use Rattle.std.specs.Prelude.{◌≡◌, ℤ, List, [], Some, pos, negsuc, codes, true, option_map, FitsSigned}
+use Rattle.std.specs.Prelude.{◌≡◌, ◌⊎◌, ℤ, List, [], Some, pos, negsuc, codes, true, option_map, FitsSigned}
 use Rattle.std.specs.Int.{w32}
 use Rattle.std.specs.Str.Parse.{IsNumeral, signed_digits_value, without_leading_sign}
-use Rattle.clap.specs.Words.{App, Row, Rule, Shape, Text, first_of, new_app, new_rule, one_of, subcommand_of, with_rule, with_subcommand}
+use Rattle.clap.specs.declared.error.Error.{Error}
+use Rattle.clap.specs.declared.error.kind.ErrorKind.TheVariants.{OutOfMemory}
+use Rattle.clap.specs.Words.{App, Row, Rule, Shape, Text, first_of, kind_of, takes, new_app, new_rule, one_of, subcommand_of, with_rule, with_subcommand}
 use Rattle.clap.specs.declared.builder.value_parser.ValueParser.TheVariants.{Signed}
 use Rattle.av_main.specs.declared.command_line.commands.Words.{Words}
 use Rattle.av_main.specs.declared.command_line.commands.Words.TheVariants.{Block}
@@ -64,3 +66,7 @@ pub record IsReadFrom (words : List Text) (command : Words) : Type 0 where
   pub rows : List Row
   pub named : subcommand_of anvilwater words ≡ Some (name_of command, rows)
   pub values : HasValues rows command
+
+-- Why words are refused: `clap` does not take them, or memory runs out, or they give no command with all its values.
+pub record IsRefusal (words : List Text) (e : Error) : Type 0 where
+  pub cause : takes anvilwater words ≡ true → (kind_of e ≡ OutOfMemory) ⊎ ((command : Words) → IsReadFrom words command → ⊥)

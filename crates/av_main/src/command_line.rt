@@ -1,8 +1,9 @@
 //! The words of the command line, read by `clap`.
-ghost use Rattle.std.specs.Prelude.{◌≡◌, IfOk, IfSome, List, Some, false, map};
+ghost use Rattle.std.specs.Prelude.{◌≡◌, IfErr, IfNone, IfOk, IfSome, List, Some, false, map, ℤ};
 ghost use Rattle.clap.specs.declared.builder.command.Command.TheViews.{out-Command};
-ghost use Rattle.clap.specs.Words.{app_of, found_of, new_app, rows_of, rule_of, subcommand_rows_of, Row};
-ghost use Rattle.av_main.specs.CommandLine.{HasNumber, HasValues, IsReadFrom, anvilwater, block_app, file_rule, name_of, number_rule};
+ghost use Rattle.clap.specs.Words.{app_of, found_of, kind_of, new_app, rows_of, rule_of, subcommand_rows_of, Row};
+ghost use Rattle.av_main.specs.declared.command_line.commands.Words.{Words};
+ghost use Rattle.av_main.specs.CommandLine.{HasNumber, HasValues, IsReadFrom, IsRefusal, anvilwater, block_app, file_rule, name_of, number_rule};
 
 use av_types::Pos;
 use clap::error::ErrorKind;
@@ -43,6 +44,7 @@ fn command<'a>(alloc: Global, name: &'a str, about: &'a str) -> Command<'a>
 fn block_command<'a>(alloc: Global) -> Result<Command<'a>, Error>
     ensures app { IfOk result (λ c. app_of c ≡ block_app) }
     ensures local { IfOk result (λ c. (out-Command c).has_globals ≡ false) }
+    ensures memory { IfErr result (λ e. kind_of e ≡ ErrorKind.OutOfMemory) }
 {
     let table = Arg::new(alloc, "table").long("table");
     let about = "Prints the block state at a position of a region file";
@@ -57,7 +59,8 @@ fn block_command<'a>(alloc: Global) -> Result<Command<'a>, Error>
 
 /// The program's command line.
 fn program<'a>(alloc: Global) -> Result<Command<'a>, Error>
-    ensures { IfOk result (λ c. app_of c ≡ anvilwater) }
+    ensures app { IfOk result (λ c. app_of c ≡ anvilwater) }
+    ensures memory { IfErr result (λ e. kind_of e ≡ ErrorKind.OutOfMemory) }
 {
     let block = block_command(alloc)?;
     let program = command(alloc, "anvilwater", "Reads Minecraft region files")
@@ -68,14 +71,16 @@ fn program<'a>(alloc: Global) -> Result<Command<'a>, Error>
 
 /// The number of an argument.
 fn number(matches: &ArgMatches<'_>, name: &str) -> Option<i32>
-    ensures { IfSome result (HasNumber (rows_of (found_of matches.now)) name.now) }
+    ensures value { IfSome result (HasNumber (rows_of (found_of matches.now)) name.now) }
+    ensures none { IfNone result ((n : ℤ) → HasNumber (rows_of (found_of matches.now)) name.now n → ⊥) }
 {
     matches.get_one::<i32>(name)
 }
 
 /// The values of `block`, where each was given.
 fn block_words<'a>(matches: &ArgMatches<'a>) -> Option<Words<'a>>
-    ensures { IfSome result (HasValues (rows_of (found_of matches.now))) }
+    ensures values { IfSome result (HasValues (rows_of (found_of matches.now))) }
+    ensures none { IfNone result ((w : Words) → HasValues (rows_of (found_of matches.now)) w → ⊥) }
 {
     let file = matches.get_str("FILE")?;
     let x = number(matches, "X")?;
@@ -91,8 +96,10 @@ fn block_words<'a>(matches: &ArgMatches<'a>) -> Option<Words<'a>>
 
 /// The command, where one was given with its values.
 fn command_of<'a>(matches: &ArgMatches<'a>) -> Option<Words<'a>>
-    ensures { IfSome result (λ w. (rows : List Row)
+    ensures read { IfSome result (λ w. (rows : List Row)
         × (subcommand_rows_of matches.now ≡ Some (name_of w, rows)) × HasValues rows w) }
+    ensures none { IfNone result ((w : Words) (rows : List Row)
+        → subcommand_rows_of matches.now ≡ Some (name_of w, rows) → HasValues rows w → ⊥) }
 {
     block_words(matches.subcommand_matches("block")?)
 }
@@ -100,9 +107,11 @@ fn command_of<'a>(matches: &ArgMatches<'a>) -> Option<Words<'a>>
 /// Reads the words that follow the program's name. The answer is the command that `clap` reads of them, with its
 /// values. Negative numbers stand behind `--`.
 ///
-/// Errors: words that are refused and calls for help, each with its text, and want of memory.
+/// Errors: words that are refused and calls for help, each with its text, and want of memory. Words that `clap` takes
+/// are refused only where they give no command all its values.
 pub fn words<'a>(alloc: Global, given: &'a [&'a str]) -> Result<Words<'a>, Error>
-    ensures { IfOk result (IsReadFrom (map (λ s. s.now) given.now)) }
+    ensures read { IfOk result (IsReadFrom (map (λ s. s.now) given.now)) }
+    ensures refused { IfErr result (IsRefusal (map (λ s. s.now) given.now)) }
 {
     let matches = program(alloc)?.try_get_matches_from(given)?;
     if let Some(command) = command_of(&matches) {

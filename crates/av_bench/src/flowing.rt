@@ -1,0 +1,122 @@
+//! Turns of water on a small flat world.
+ghost use Rattle.std.specs.Prelude.{◌≡◌, ◌<◌, IfOk, OnOk};
+ghost use Rattle.av_rules.specs.Kinds.{kind_count};
+ghost use Rattle.av_cells.specs.Rule.{HasKinds};
+ghost use Rattle.av_column.specs.Columns.{world_of};
+
+use av_cells::{Cells, set_awake};
+use av_column::Column;
+use av_rules::{Kinds, Rules};
+use av_state::StateTable;
+use av_types::{Fault, Pos};
+use av_water::turn;
+use std::alloc::Global;
+
+/// How many layers of air the world has. It ends below them, which is floor.
+const LAYERS: u32 = 5;
+
+/// The number of air.
+const AIR: u16 = 0;
+
+/// The number of water of level 0.
+const SOURCE: u16 = 1;
+
+/// Where the water comes from.
+const SPRING: Pos = Pos { x: 8, y: 2, z: 8 };
+
+/// Air, water, and no other state.
+fn water_kinds(alloc: Global) -> Result<Kinds, Fault> {
+    let rules = Rules::read(alloc, b"version = 1")?;
+    Kinds::new(alloc, StateTable::new(alloc)?, &rules)
+}
+
+/// Sets a block to a source, where it is loaded.
+fn set_source<C: Cells>(cells: &mut C, kinds: &Kinds, pos: Pos) -> Result<(), Fault>
+    requires source { 1 < kind_count kinds.now }
+    requires kinds { HasKinds (kind_count kinds.now) (C.world cells.old) }
+    ensures { HasKinds (kind_count kinds.now) (C.world cells.new) }
+{
+    if cells.loaded(pos) {
+        cells.prepare_set(pos, SOURCE)?;
+        set_awake(cells, kinds, 1, pos, SOURCE);
+    }
+    Ok(())
+}
+
+/// Turns a block, where it is loaded.
+fn turn_loaded<C: Cells>(cells: &mut C, kinds: &Kinds, pos: Pos) -> Result<(), Fault>
+    requires { HasKinds (kind_count kinds.now) (C.world cells.old) }
+    ensures { HasKinds (kind_count kinds.now) (C.world cells.new) }
+{
+    if cells.loaded(pos) {
+        cells.prepare(pos)?;
+        turn(cells, kinds, 1, pos);
+    }
+    Ok(())
+}
+
+/// The amount of water of a block.
+fn amount_at<C: Cells>(cells: &C, kinds: &Kinds, pos: Pos) -> u64
+    requires { HasKinds (kind_count kinds.now) (C.world cells.now) }
+{
+    if cells.loaded(pos) {
+        kinds.wet(cells.number(pos)).amount() as u64
+    } else {
+        0
+    }
+}
+
+/// The sum of all amounts of water.
+fn amounts<C: Cells>(cells: &C, kinds: &Kinds) -> u64
+    requires { HasKinds (kind_count kinds.now) (C.world cells.now) }
+{
+    let mut sum = 0u64;
+    for x in 0..16 {
+        for y in 0..5 {
+            for z in 0..16 {
+                sum = sum.wrapping_add(amount_at(cells, kinds, Pos { x, y, z }));
+            }
+        }
+    }
+    sum
+}
+
+/// A world of air with a source in it.
+fn watered(alloc: Global, kinds: &Kinds) -> Result<Column, Fault>
+    requires { 1 < kind_count kinds.now }
+    ensures { IfOk result (λ c. HasKinds (kind_count kinds.now) (world_of c.bottom c.layers c.numbers.items c.waiting.items)) }
+{
+    let mut column = Column::filled(alloc, 0, LAYERS, AIR)?;
+    set_source(&mut column, kinds, SPRING)?;
+    Ok(column)
+}
+
+/// Turns the first entry, if there is one.
+fn turn_first(column: &mut Column, kinds: &Kinds) -> Result<(), Fault>
+    requires { HasKinds (kind_count kinds.now) (world_of column.old.bottom column.old.layers column.old.numbers.items column.old.waiting.items) }
+    ensures { HasKinds (kind_count kinds.now) (world_of column.new.bottom column.new.layers column.new.numbers.items column.new.waiting.items) }
+{
+    match column.take_first() {
+        Some(entry) => turn_loaded(column, kinds, entry.pos),
+        None => Ok(()),
+    }
+}
+
+/// So many turns: a source spreads until the water rests, and then the same again in a fresh world. The answer is the
+/// sum of all amounts, of each world at its end.
+pub fn run_turns(alloc: Global, turns: u64) -> Result<u64, Fault> {
+    let kinds = water_kinds(alloc)?;
+    if kinds.count() < 2 {
+        return Ok(0);
+    }
+    let mut column = watered(alloc, &kinds)?;
+    let mut sum = 0u64;
+    for _ in 0..turns {
+        if column.entries().is_empty() {
+            sum = sum.wrapping_add(amounts(&column, &kinds));
+            column = watered(alloc, &kinds)?;
+        }
+        turn_first(&mut column, &kinds)?;
+    }
+    Ok(sum.wrapping_add(amounts(&column, &kinds)))
+}
