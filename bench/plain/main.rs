@@ -126,9 +126,12 @@ fn run(words: &[&str]) -> Result<String, Box<dyn Error>> {
         ["decode", path, rounds] => decode(path, rounds.parse()?),
         ["recode", input, output] => recode(input, output),
         ["rewrite", input, output] => rewrite(input, output),
-        ["turn", turns] => Ok(format!("amounts {}", water::run(turns.parse()?))),
+        ["turn", worlds] => {
+            let (turns, amounts) = water::run(worlds.parse()?);
+            Ok(format!("turns {turns} amounts {amounts}"))
+        }
         _ => Err(
-            "plain block FILE X Y Z | decode FILE ROUNDS | recode IN OUT | rewrite IN OUT | turn N"
+            "plain block FILE X Y Z | decode FILE ROUNDS | recode IN OUT | rewrite IN OUT | turn WORLDS"
                 .into(),
         ),
     }

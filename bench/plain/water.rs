@@ -1,6 +1,4 @@
 //! The rule of water on a small flat world: five layers of air in one chunk. The world ends below them, which is floor.
-use std::collections::VecDeque;
-
 const SIDE: i32 = 16;
 const LAYERS: i32 = 5;
 
@@ -49,7 +47,7 @@ pub struct World {
     cells: Vec<Cell>,
     /// Which cells have an entry that waits, by index.
     pending: Vec<bool>,
-    entries: VecDeque<Pos>,
+    entries: Vec<Pos>,
 }
 
 impl World {
@@ -58,7 +56,7 @@ impl World {
         World {
             pending: vec![false; cells.len()],
             cells,
-            entries: VecDeque::new(),
+            entries: Vec::new(),
         }
     }
 
@@ -120,17 +118,8 @@ impl World {
         };
         if self.cells[index].is_wet() && !self.pending[index] {
             self.pending[index] = true;
-            self.entries.push_back(pos);
+            self.entries.push(pos);
         }
-    }
-
-    /// Takes the first entry out.
-    fn take_first(&mut self) -> Option<Pos> {
-        let pos = self.entries.pop_front()?;
-        if let Some(index) = World::index(pos) {
-            self.pending[index] = false;
-        }
-        Some(pos)
     }
 
     /// The length of the shortest walk from the cell in that direction to a hole, at most 4.
@@ -205,25 +194,25 @@ impl World {
         }
     }
 
-    fn level_sum(&self) -> u64 {
+    fn amounts(&self) -> u64 {
         self.cells.iter().map(|cell| u64::from(cell.amount())).sum()
     }
 }
 
-/// So many turns: a source above the floor spreads until it rests, and then the same again on a fresh world.
-/// The answer is the sum of all amounts, of each world at its end.
-pub fn run(turns: u64) -> u64 {
-    let mut world = World::flat();
-    let mut sum = 0;
-    for _ in 0..turns {
-        if world.entries.is_empty() {
-            sum += world.level_sum();
-            world = World::flat();
-            world.set((8, 2, 8), Cell::Source);
-        }
-        if let Some(pos) = world.take_first() {
+/// So many worlds, in each of which a source spreads and each cell that it wakes is turned once.
+/// The answer is the number of turns, and the sum of all amounts of each world at its end.
+pub fn run(worlds: u64) -> (u64, u64) {
+    let (mut turns, mut amounts) = (0, 0);
+    for _ in 0..worlds {
+        let mut world = World::flat();
+        world.set((8, 2, 8), Cell::Source);
+        let mut place = 0;
+        while let Some(pos) = world.entries.get(place).copied() {
             world.turn(pos);
+            place += 1;
         }
+        turns += place as u64;
+        amounts += world.amounts();
     }
-    sum + world.level_sum()
+    (turns, amounts)
 }

@@ -1,5 +1,5 @@
 //! Turns of water on a small flat world.
-ghost use Rattle.std.specs.Prelude.{◌≡◌, ◌<◌, IfOk, OnOk};
+ghost use Rattle.std.specs.Prelude.{◌<◌, IfOk, IfSome};
 ghost use Rattle.av_rules.specs.Kinds.{kind_count};
 ghost use Rattle.av_cells.specs.Rule.{HasKinds};
 ghost use Rattle.av_column.specs.Columns.{world_of};
@@ -14,6 +14,9 @@ use std::alloc::Global;
 
 /// How many layers of air the world has. It ends below them, which is floor.
 const LAYERS: u32 = 5;
+
+/// More than the entries that a world gets.
+const MOST_ENTRIES: usize = 512;
 
 /// The number of air.
 const AIR: u16 = 0;
@@ -81,42 +84,67 @@ fn amounts<C: Cells>(cells: &C, kinds: &Kinds) -> u64
     sum
 }
 
-/// A world of air with a source in it.
-fn watered(alloc: Global, kinds: &Kinds) -> Result<Column, Fault>
+/// A world of air with a source in it, or None where a state has no kind.
+fn watered(alloc: Global, kinds: &Kinds) -> Result<Option<Column>, Fault>
     requires { 1 < kind_count kinds.now }
-    ensures { IfOk result (λ c. HasKinds (kind_count kinds.now) (world_of c.bottom c.layers c.numbers.items c.waiting.items)) }
+    ensures { IfOk result (λ o. IfSome o (λ c. HasKinds (kind_count kinds.now) (world_of c.bottom c.layers c.numbers.items c.waiting.items))) }
 {
     let mut column = Column::filled(alloc, 0, LAYERS, AIR)?;
+    if !column.has_kinds(kinds) {
+        return Ok(None);
+    }
     set_source(&mut column, kinds, SPRING)?;
-    Ok(column)
+    Ok(Some(column))
 }
 
-/// Turns the first entry, if there is one.
-fn turn_first(column: &mut Column, kinds: &Kinds) -> Result<(), Fault>
+/// Turns the entry of a place in the list, where there is one, and says whether there was.
+fn turn_entry(column: &mut Column, kinds: &Kinds, place: usize) -> Result<bool, Fault>
     requires { HasKinds (kind_count kinds.now) (world_of column.old.bottom column.old.layers column.old.numbers.items column.old.waiting.items) }
     ensures { HasKinds (kind_count kinds.now) (world_of column.new.bottom column.new.layers column.new.numbers.items column.new.waiting.items) }
 {
-    match column.take_first() {
-        Some(entry) => turn_loaded(column, kinds, entry.pos),
-        None => Ok(()),
+    let entry = column.entries().get(place).copied();
+    match entry {
+        Some(entry) => {
+            turn_loaded(column, kinds, entry.pos)?;
+            Ok(true)
+        }
+        None => Ok(false),
     }
 }
 
-/// So many turns: a source spreads until the water rests, and then the same again in a fresh world. The answer is the
-/// sum of all amounts, of each world at its end.
-pub fn run_turns(alloc: Global, turns: u64) -> Result<u64, Fault> {
-    let kinds = water_kinds(alloc)?;
-    if kinds.count() < 2 {
-        return Ok(0);
-    }
-    let mut column = watered(alloc, &kinds)?;
-    let mut sum = 0u64;
-    for _ in 0..turns {
-        if column.entries().is_empty() {
-            sum = sum.wrapping_add(amounts(&column, &kinds));
-            column = watered(alloc, &kinds)?;
+/// How many turns were made, and the sum of all amounts of water of each world at its end.
+#[derive(Clone, Copy, Default)]
+struct Play {
+    turns: u64,
+    amounts: u64,
+}
+
+/// Turns each entry of a fresh world once, in order, until none is left.
+fn play_world(alloc: Global, kinds: &Kinds, play: &mut Play) -> Result<(), Fault>
+    requires { 1 < kind_count kinds.now }
+{
+    let Some(mut column) = watered(alloc, kinds)? else {
+        return Ok(());
+    };
+    for place in 0..MOST_ENTRIES {
+        if !turn_entry(&mut column, kinds, place)? {
+            break;
         }
-        turn_first(&mut column, &kinds)?;
+        play.turns = play.turns.wrapping_add(1);
     }
-    Ok(sum.wrapping_add(amounts(&column, &kinds)))
+    play.amounts = play.amounts.wrapping_add(amounts(&column, kinds));
+    Ok(())
+}
+
+/// So many worlds, in each of which a source spreads and each block that it wakes is turned once.
+pub fn play_worlds(alloc: Global, worlds: u64) -> Result<String, Fault> {
+    let kinds = water_kinds(alloc)?;
+    let mut play = Play::default();
+    if 1 < kinds.count() {
+        for _ in 0..worlds {
+            play_world(alloc, &kinds, &mut play)?;
+        }
+    }
+    let Play { turns, amounts } = play;
+    Ok(format!(in alloc; "turns {turns} amounts {amounts}")?)
 }

@@ -27,12 +27,11 @@ fn run<R: Env + Files + AllocGlobal>(rt: &R, words: &[&str]) -> Result<String> {
             let size = written.len();
             Ok(format!(in alloc; "bytes {size}")?)
         }
-        ["turn", turns] => {
-            let turns: u64 = turns.parse()?;
-            let amounts = flowing::run_turns(alloc, turns)?;
-            Ok(format!(in alloc; "amounts {amounts}")?)
+        ["turn", worlds] => {
+            let worlds: u64 = worlds.parse()?;
+            Ok(flowing::play_worlds(alloc, worlds)?)
         }
-        _ => bail!("av_bench decode FILE ROUNDS | recode IN OUT | turn N"),
+        _ => bail!("av_bench decode FILE ROUNDS | recode IN OUT | turn WORLDS"),
     }
 }
 

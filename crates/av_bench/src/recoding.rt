@@ -45,5 +45,10 @@ pub fn recode(alloc: Global, bytes: &[u8]) -> Result<Vec<u8>, Fault> {
     let region = Region::read(bytes)?;
     let payloads = recode_chunks(alloc, &region)?;
     let stamps = stamps_of(alloc, &region)?;
-    write(alloc, RegionPos { x: 0, z: 0 }, payloads.as_slice(), stamps.as_slice())
+    write(
+        alloc,
+        RegionPos { x: 0, z: 0 },
+        payloads.as_slice(),
+        stamps.as_slice(),
+    )
 }

@@ -1,8 +1,0 @@
-use Rattle.std.proofs.Common.{◌<◌}
-use Rattle.av_rules.specs.Kinds.{kind_count}
-use Rattle.av_cells.specs.Rule.{HasKinds}
-use Rattle.av_column.specs.Columns.{world_of}
-use Rattle.av_bench.proofs.flowing.run_turns.Given as goal
-
-abbrev pub invariant-loop : goal.invariant-loop
-invariant-loop l = HasKinds (kind_count l.kinds) (world_of l.column.bottom l.column.layers l.column.numbers.items l.column.waiting.items)
