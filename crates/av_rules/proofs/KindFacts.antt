@@ -64,6 +64,7 @@ are_kinds k =
     λ n h. sym (at_take 10 n (wets_in k) Dry h) ∙ ap (λ (xs : List Wet). get_or xs n Dry) l.wets_begin in
     let lit : (n : ℕ) → is_lit_properly (row_at k n) ≡ true = λ n. passes is_lit_properly (rows_in k) n shut_row l.lit_properly refl in
     record {
+      counted = l.a_row_each;
       at_least_ten = omega (arith, length-take 10 (rows_in k));
       bounded = omega (arith, k.table.numbered.bounded);
       air = row 0 (omega arith);

@@ -4,6 +4,7 @@ use Rattle.av_types.specs.declared.water.Wet.{Wet}
 use Rattle.av_types.specs.declared.water.Wet.TheVariants.{Dry, Source, Flow, Falling}
 use Rattle.av_types.specs.Water.{IsProper}
 use Rattle.av_state.specs.declared.table.StateTable.{StateTable}
+use Rattle.av_state.specs.Table.{states}
 use Rattle.av_rules.specs.declared.row.Row.{Row}
 use Rattle.av_rules.specs.declared.kinds.Kinds.{Kinds}
 use Rattle.av_rules.specs.Rows.{air_row, water_row, shut_row}
@@ -31,6 +32,7 @@ wet_at k n = slice_index_or (wets_in k) n Dry
 
 -- What every Kinds keeps.
 pub record AreKinds (k : Kinds) : Type 0 where
+  pub counted : kind_count k ≡ length (states (table_in k))
   pub at_least_ten : 10 ≤ kind_count k
   pub bounded : kind_count k ≤ 65535
   pub air : row_at k 0 ≡ air_row

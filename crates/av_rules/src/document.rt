@@ -1,5 +1,5 @@
 //! Reading a table from a TOML document.
-ghost use Rattle.std.specs.Prelude.{◌≡◌, ◌≤◌, Some, None, IfSome, IfOk, option_and_then, option_map, option_copied, map, codes};
+ghost use Rattle.std.specs.Prelude.{◌≡◌, ◌≤◌, Some, None, IfSome, IfOk, option_and_then, option_map, map, codes};
 ghost use Rattle.av_state.specs.Views.{property_of, properties_of};
 ghost use Rattle.av_rules.specs.Document.{text_at, flag_at, whole_at, level_at, half_byte, flag_or_false, texts_of, properties_or_none, is_among, has_only, version_of, soaks_in, document_keys, row_keys, row_in, is_built_in, name_in, table_row_in, table_rows_in, blocks_or_none, span_of, span_in, table_in_version, table_in};
 ghost use Rattle.av_rules.specs.Reads.{Reads, span_view};
@@ -188,7 +188,8 @@ fn texts(alloc: Global, table: &Table) -> Result<Vec<Property>, Fault>
 
 /// The properties that a row asks for.
 fn properties_at(alloc: Global, table: &Table, key: &str) -> Result<Vec<Property>, Fault>
-    ensures { Reads (λ v. properties_of v.items) (properties_or_none (get_member key.now (table_view table.now))) result }
+    ensures { Reads (λ v. properties_of v.items)
+        (properties_or_none (get_member key.now (table_view table.now))) result }
 {
     let Some(value) = value_at(table, key) else {
         return Ok(Vec::new(alloc));
@@ -283,7 +284,8 @@ fn table_rows_in(alloc: Global, version: Version, blocks: &Array) -> Result<Vec<
 
 /// The rows of a document.
 fn blocks_in(alloc: Global, version: Version, table: &Table) -> Result<Vec<TableRow>, Fault>
-    ensures { Reads (λ v. table_rows_of v.items) (blocks_or_none version (get_member (codes "block") (table_view table.now))) result }
+    ensures { Reads (λ v. table_rows_of v.items)
+        (blocks_or_none version (get_member (codes "block") (table_view table.now))) result }
 {
     let Some(value) = value_at(table, "block") else {
         return Ok(Vec::new(alloc));

@@ -22,7 +22,7 @@ pub struct Kinds {
 }
 
 impl Kinds {
-    ghost use Rattle.std.specs.Prelude.{◌<◌, IfOk, IfErr, slice_get, Some};
+    ghost use Rattle.std.specs.Prelude.{◌<◌, IfOk, IfErr};
     ghost use Rattle.av_types.specs.declared.fault.Fault.TheVariants.{OutOfMemory};
     ghost use Rattle.av_types.specs.Water.{IsProper};
     ghost use Rattle.av_rules.specs.Rows.{row_of, wet_in};

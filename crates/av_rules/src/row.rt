@@ -1,9 +1,8 @@
 //! What water and light ask of a block state.
-ghost use Rattle.std.specs.Prelude.{◌≡◌, ◌≤◌, ◌&&◌, map};
-ghost use Rattle.std.specs.Str.{bytes_eq};
-ghost use Rattle.av_state.specs.Views.{property_of, properties_of};
+ghost use Rattle.std.specs.Prelude.{◌≡◌, ◌≤◌, ◌&&◌};
+ghost use Rattle.av_state.specs.Views.{properties_of};
 ghost use Rattle.av_state.specs.States.{state_of};
-ghost use Rattle.av_rules.specs.Rows.{has_property, has_properties, air_row, water_row, shut_row};
+ghost use Rattle.av_rules.specs.Rows.{has_property, has_properties};
 
 use av_state::{Property, State};
 

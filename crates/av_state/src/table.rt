@@ -23,7 +23,7 @@ pub struct StateTable {
 }
 
 impl StateTable {
-    ghost use Rattle.std.specs.Prelude.{◌<◌, ◌≤◌, ◌↔◌, ◌≢◌, ◌⊎◌, ◌+◌, length, IfOk, IfErr, IfSome, OnErr, slice_get, option_and_then, Some, None, false};
+    ghost use Rattle.std.specs.Prelude.{◌<◌, ◌↔◌, ◌≢◌, length, IfOk, IfErr, IfSome, OnErr, slice_get, option_and_then, Some, None, false};
     ghost use Rattle.av_types.specs.declared.fault.Fault.TheVariants.{OutOfMemory, BadWaterLevel, TooManyStates};
     ghost use Rattle.av_state.specs.BlockState.{meant, wet_of};
     ghost use Rattle.av_state.specs.StateList.{first_states, most_states, number_in, Numbers, IsOneTooMany};
