@@ -10,7 +10,7 @@ use Rattle.av_types.specs.declared.place.Height.{Height}
 use Rattle.av_types.specs.declared.tick.Entry.{Entry}
 use Rattle.av_nbt.specs.Nbt.{Document}
 use Rattle.av_nbt.specs.Spelling.{SpellsDocument}
-use Rattle.av_nbt.specs.Writing.{IsWellFormed}
+use Rattle.av_nbt.specs.Writing.{IsWellFormed, written_document}
 use Rattle.av_state.specs.BlockState.{BlockState, meant, is_in_order}
 use Rattle.av_ticks.specs.Entries.{are_apart}
 use Rattle.av_document.specs.Ticks.{lies_in}
@@ -72,3 +72,17 @@ WrittenIsWellFormed = (c : ChunkPos) (h : Height) (d : Document) (bytes : List �
     → SpellsDocument d bytes → length bytes ≤ 1044475 → DenotesChunk c h d cells water rest → IsLawful c h now then
     → ((p : Pos) → lies_in c h p ≡ true → HasShortTexts (now p)) → AllByRecursion (HasInts n) then → ((y : ℤ) → is_section_of h y ≡ true → length (light y) ≡ 2048)
     → IsWellFormed (chunk_layout c h now then sources rest light n)
+
+-- bytes that spell a document of a loaded chunk
+pub record SpellsChunk (c : ChunkPos) (h : Height) (bytes : List ℕ) (cells : Pos → BlockState) (water : List Entry) (rest : Rest) : Type 0 where
+  pub read : Document
+  pub spelled : SpellsDocument read bytes
+  pub denotes : DenotesChunk c h read cells water rest
+
+-- From bytes to values and back: the bytes that are written for a rest that was read from bytes spell the same rest, with the
+-- cells of now, and the entries of now sooner by the ticks that were run.
+abbrev pub WrittenComesBack : Type 0
+WrittenComesBack = (c : ChunkPos) (h : Height) (bytes : List ℕ) (cells now : Pos → BlockState) (water then : List Entry) (sources : Pos → Bool) (rest : Rest) (light : ℤ → List ℕ) (n : ℕ)
+    → SpellsChunk c h bytes cells water rest → length bytes ≤ 1044475 → IsLawful c h now then
+    → ((p : Pos) → lies_in c h p ≡ true → HasShortTexts (now p)) → AllByRecursion (HasInts n) then → ((y : ℤ) → is_section_of h y ≡ true → length (light y) ≡ 2048)
+    → SpellsChunk c h (written_document (chunk_layout c h now then sources rest light n)) now (map (sooner n) then) rest

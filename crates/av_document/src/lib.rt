@@ -2,7 +2,7 @@
 //! (<https://minecraft.wiki/w/Chunk_format>): definitions, and the law that ties them.
 #![tactic(auto)]
 
-ghost use Rattle.av_document.specs.Law.{WrittenDenotes, WrittenIsWellFormed, DenotesOne};
+ghost use Rattle.av_document.specs.Law.{WrittenDenotes, WrittenIsWellFormed, WrittenComesBack, DenotesOne};
 
 /// A law of the definitions: what is written of a chunk denotes the same cells and rest, and the
 /// same water entries, sooner by the ticks that were run. There is nothing to do.
@@ -14,6 +14,13 @@ pub fn written_denotes()
 /// 1,044,475 bytes has a spelling, so that it can be encoded. There is nothing to do.
 pub fn written_is_well_formed()
     ensures { WrittenIsWellFormed }
+{}
+
+/// A law of the definitions, from bytes to values and back: the bytes that are written for a chunk
+/// whose rest was read from bytes spell the same rest, with the chunk's cells, and its water entries
+/// sooner by the ticks that were run. There is nothing to do.
+pub fn written_comes_back()
+    ensures { WrittenComesBack }
 {}
 
 /// A law of the definitions: a document denotes one chunk at most. There is nothing to do.
