@@ -5,8 +5,9 @@ use Rattle.std.specs.Int.{Width, w32, w64, to_be_bytes}
 use Rattle.std.specs.Int.RustNames.{FitsSigned}
 use Rattle.av_nbt.specs.Nbt.{Nbt, byte, int16, int, int64, bits32, bits64, byte_array, text, list, compound, int_array, long_array, Items, no_items, item, Members, no_members, member, Document, items_of, item_count}
 use Rattle.av_nbt.specs.Spelling.{Spells, SpellsItems, SpellsMembers, SpellsNumber, SpellsNumbers, SpellsText, count_of}
-use Rattle.av_nbt.specs.Writing.{signed_bytes, text_bytes, written, written_items, written_members, IsWellFormed, Fits, FitItems, FitMembers}
-use Rattle.av_nbt.specs.Laws.{WrittenSpells}
+use Rattle.av_nbt.specs.Writing.{written_document, signed_bytes, text_bytes, written, written_items, written_members, IsWellFormed, Fits, FitItems, FitMembers}
+use Rattle.av_nbt.specs.Laws.{WrittenSpells, WrittenReadsBack}
+use Rattle.av_nbt.proofs.LawProofs.{one_document}
 use Rattle.av_nbt.specs.View.{views}
 use Rattle.av_nbt.specs.declared.tag.Tag.{Tag}
 
@@ -98,3 +99,6 @@ written_document_spells d h = record {
   tags = (h.spelled.tags.0, written_members_spell d.members h.spelled.body h.spelled.tags.1);
   shallow = h.spelled.shallow;
 }
+
+pub written_reads_back : WrittenReadsBack
+written_reads_back d e h spelled = (one_document e d (written_document d) (written_document d) [] [] spelled (written_document_spells d h) refl).0

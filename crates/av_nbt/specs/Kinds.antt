@@ -1,4 +1,4 @@
--- The numbers of the kinds.
+-- The numbers of the kinds (minecraft.wiki, "NBT format").
 use Rattle.std.specs.Prelude.{ℕ, List, [], ◌∷◌, Option, slice_get, Bool, true, false}
 use Rattle.av_nbt.specs.declared.tag.Kind.{Kind}
 use Rattle.av_nbt.specs.declared.tag.Kind.TheVariants as kind

@@ -12,6 +12,10 @@ OneTag = (t u : Nbt) (a b x y : List ℕ) → kind_of t ≡ kind_of u → Spells
 abbrev pub OneDocument : Type 0
 OneDocument = (d e : Document) (a b x y : List ℕ) → SpellsDocument d a → SpellsDocument e b → a ++ x ≡ b ++ y → (d ≡ e) × (a ≡ b)
 
--- What is written is a spelling.
+-- What is written of a document that has a spelling spells it.
 abbrev pub WrittenSpells : Type 0
 WrittenSpells = (d : Document) → IsWellFormed d → SpellsDocument d (written_document d)
+
+-- So what is written is read as the same document.
+abbrev pub WrittenReadsBack : Type 0
+WrittenReadsBack = (d e : Document) → IsWellFormed d → SpellsDocument e (written_document d) → e ≡ d

@@ -1,4 +1,5 @@
--- What a tag is, apart from where it lies in memory.
+-- What a tag is (minecraft.wiki, "NBT format"), apart from where it lies in memory.
+-- Texts are bytes, a Float is a number of 32 bits and a Double one of 64.
 use Rattle.std.specs.Prelude.{◌≡◌, ◌≢◌, ℕ, suc, max, ℤ, List, [], ◌∷◌}
 use Rattle.av_nbt.specs.declared.tag.Kind.{Kind}
 use Rattle.av_nbt.specs.declared.tag.Kind.TheVariants as kind

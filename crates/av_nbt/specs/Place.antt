@@ -17,12 +17,12 @@ place n t (m ∷ ms) = if bytes_eq n m.name then record { name = n; tag = t } �
 abbrev pub IsPlaced : NamedTag → List NamedTag → List NamedTag → Type 0
 IsPlaced m old new = new ≡ place m.name m.tag old
 
--- the others
+-- the tags of other names
 abbrev pub without : List ℕ → List NamedTag → List NamedTag
 without n [] = []
 without n (m ∷ ms) = if bytes_eq n m.name then without n ms else m ∷ without n ms
 
--- what stands in an empty place
+-- what stands in an empty place, and means nothing
 abbrev pub blank : Nbt
 blank = byte (pos 0)
 

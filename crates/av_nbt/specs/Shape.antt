@@ -1,5 +1,5 @@
 -- What a tag holds, where it is of the kind that is wanted.
-use Rattle.std.specs.Prelude.{ℕ, ℤ, List, [], ◌∷◌, Option, Some, None, Bool, true, false}
+use Rattle.std.specs.Prelude.{ℕ, ℤ, List, [], ◌∷◌, Option, Some, None, Bool, true, false, not}
 use Rattle.av_nbt.specs.Nbt.{Nbt, byte, int, text, list, compound, long_array, Items, no_items, item, Members, no_members, member, NamedTag}
 
 abbrev pub members_in : Members → List NamedTag
@@ -63,4 +63,4 @@ or_else d (Some x) = x
 -- where the tag is there, it has the shape
 abbrev pub if_there : {A : Type 0} → (Nbt → Option A) → Option Nbt → Bool
 if_there f None = true
-if_there f (Some t) = elim (lacks (f t)) [ true ↦ false | false ↦ true ]
+if_there f (Some t) = not (lacks (f t))

@@ -1,4 +1,5 @@
--- The bytes that a tag is spelled by.
+-- The bytes that a tag is spelled by (minecraft.wiki, "NBT format").
+-- An empty List has several spellings: its length may be 0 or negative, and its kind any.
 use Rattle.std.specs.Prelude.{◌≡◌, ℕ, ◌<◌, ◌≤◌, ◌^◌, ℤ, pos, negsuc, List, [], ◌∷◌, ◌++◌, length}
 use Rattle.std.specs.Int.{Width, w8, w16, w32, w64, to_be_bytes, cast_unsigned}
 use mir.Val.{bits}

@@ -1,4 +1,4 @@
--- The bytes that a tag is written as: of its spellings, the one whose empty lists have length 0.
+-- The bytes that a tag is written as (minecraft.wiki, "NBT format"): of its spellings, the one whose empty Lists have length 0.
 use Rattle.std.specs.Prelude.{ℕ, ◌<◌, ◌^◌, ℤ, List, [], ◌∷◌, ◌++◌, length}
 use Rattle.std.specs.List.{flat_map}
 use Rattle.std.specs.Int.{Width, w8, w16, w32, w64, to_be_bytes, cast_unsigned}

@@ -6,7 +6,7 @@ ghost use Rattle.av_types.specs.declared.fault.Fault.TheVariants.{OutOfMemory};
 ghost use Rattle.av_nbt.specs.Nbt.{list, items_of, members_of, kind_of};
 ghost use Rattle.av_nbt.specs.Kinds.{kind_number};
 ghost use Rattle.av_nbt.specs.View.{document, view, views, named_view, named_views};
-ghost use Rattle.av_nbt.specs.Laws.{WrittenSpells};
+ghost use Rattle.av_nbt.specs.Laws.{WrittenSpells, WrittenReadsBack};
 ghost use Rattle.av_nbt.specs.Appending.{Writes};
 ghost use Rattle.av_nbt.specs.Writing.{signed_bytes, text_bytes, written, written_items, written_members, written_named, written_document, IsWellFormed, Fits, FitItems, FitMembers};
 
@@ -183,7 +183,8 @@ pub fn encode(alloc: Global, root: &Root) -> Result<Vec<u8>, Fault>
     Ok(out)
 }
 
-/// What is written of a document that has a spelling spells it. A law of the format, which takes no value.
+/// What is written of a document that has a spelling spells it, and no other. A law of the format, which takes no value.
 pub fn written_is_spelling()
-    ensures { WrittenSpells }
+    ensures spells { WrittenSpells }
+    ensures reads_back { WrittenReadsBack }
 {}
