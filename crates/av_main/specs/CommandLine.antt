@@ -22,7 +22,7 @@ number_rule name = record (new_rule name) {
 
 -- `--table FILE`
 abbrev pub table_rule : Rule
-table_rule = record (new_rule (codes "table")) { long = Some (codes "table") }
+table_rule = record (new_rule (codes "table")) { long = Some (codes "table"); value_names = 1 }
 
 -- `block [--table FILE] FILE X Y Z`
 abbrev pub block_app : App

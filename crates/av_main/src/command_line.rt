@@ -3,7 +3,7 @@ ghost use Rattle.std.specs.Prelude.{◌≡◌, IfErr, IfNone, IfOk, IfSome, List
 ghost use Rattle.clap.specs.declared.builder.command.Command.TheViews.{out-Command};
 ghost use Rattle.clap.specs.Words.{app_of, found_of, kind_of, new_app, rows_of, rule_of, subcommand_rows_of, Row};
 ghost use Rattle.av_main.specs.declared.command_line.commands.Words.{Words};
-ghost use Rattle.av_main.specs.CommandLine.{HasNumber, HasValues, IsReadFrom, IsRefusal, anvilwater, block_app, file_rule, name_of, number_rule};
+ghost use Rattle.av_main.specs.CommandLine.{HasNumber, HasValues, IsReadFrom, IsRefusal, anvilwater, block_app, file_rule, name_of, number_rule, table_rule};
 
 use av_types::Pos;
 use clap::error::ErrorKind;
@@ -15,29 +15,41 @@ pub mod commands;
 use commands::Words;
 
 /// A file that has to be named.
-fn file<'a>(alloc: Global, name: &'a str) -> Arg<'a>
+fn file<'a>(alloc: Global, name: &'a str, help: &'a str) -> Arg<'a>
     ensures rule { rule_of result ≡ file_rule name.entry.now }
     ensures local { result.global ≡ false }
 {
-    Arg::new(alloc, name).required(true)
+    Arg::new(alloc, name).required(true).help(help)
 }
 
 /// A coordinate, a number of 32 bits.
-fn coordinate<'a>(alloc: Global, name: &'a str) -> Arg<'a>
+fn coordinate<'a>(alloc: Global, name: &'a str, help: &'a str) -> Arg<'a>
     ensures rule { rule_of result ≡ number_rule name.entry.now }
     ensures local { result.global ≡ false }
 {
     Arg::new(alloc, name)
         .required(true)
         .value_parser(value_parser!(i32))
+        .help(help)
+}
+
+/// `--table FILE`.
+fn table<'a>(alloc: Global) -> Arg<'a>
+    ensures rule { rule_of result ≡ table_rule }
+    ensures local { result.global ≡ false }
+{
+    Arg::new(alloc, "table")
+        .long("table")
+        .value_name("FILE")
+        .help("A block table, whose height the world has; without one it has the game's")
 }
 
 /// A command without arguments yet.
-fn command<'a>(alloc: Global, name: &'a str, about: &'a str) -> Command<'a>
+fn command<'a>(alloc: Global, name: &'a str, about: &'a str, usage: &'a str) -> Command<'a>
     ensures app { app_of result ≡ new_app name.entry.now }
     ensures local { (out-Command result).has_globals ≡ false }
 {
-    Command::new(alloc, name).about(about)
+    Command::new(alloc, name).about(about).override_usage(usage)
 }
 
 /// `block [--table FILE] FILE X Y Z`.
@@ -46,14 +58,14 @@ fn block_command<'a>(alloc: Global) -> Result<Command<'a>, Error>
     ensures local { IfOk result (λ c. (out-Command c).has_globals ≡ false) }
     ensures memory { IfErr result (λ e. kind_of e ≡ ErrorKind.OutOfMemory) }
 {
-    let table = Arg::new(alloc, "table").long("table");
-    let about = "Prints the block state at a position of a region file";
-    let block = command(alloc, "block", about)
-        .arg(file(alloc, "FILE"))?
-        .arg(coordinate(alloc, "X"))?
-        .arg(coordinate(alloc, "Y"))?
-        .arg(coordinate(alloc, "Z"))?
-        .arg(table)?;
+    let about = "Prints the block state at a position of a region file, or unloaded";
+    let usage = "anvilwater block [--table FILE] [--] FILE X Y Z, negative numbers behind --";
+    let block = command(alloc, "block", about, usage)
+        .arg(file(alloc, "FILE", "The region file, r.X.Z.mca"))?
+        .arg(coordinate(alloc, "X", "The block's position to the east"))?
+        .arg(coordinate(alloc, "Y", "Its height"))?
+        .arg(coordinate(alloc, "Z", "Its position to the south"))?
+        .arg(table(alloc))?;
     Ok(block)
 }
 
@@ -63,9 +75,14 @@ fn program<'a>(alloc: Global) -> Result<Command<'a>, Error>
     ensures memory { IfErr result (λ e. kind_of e ≡ ErrorKind.OutOfMemory) }
 {
     let block = block_command(alloc)?;
-    let program = command(alloc, "anvilwater", "Reads Minecraft region files")
-        .no_binary_name(true)
-        .subcommand_required(true);
+    let program = command(
+        alloc,
+        "anvilwater",
+        "Reads Minecraft region files",
+        "anvilwater COMMAND",
+    )
+    .no_binary_name(true)
+    .subcommand_required(true);
     Ok(program.subcommand(block)?)
 }
 
