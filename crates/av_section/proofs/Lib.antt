@@ -5,6 +5,9 @@ pub mod FromLongs
 pub mod Keeps
 pub mod Numbers
 pub mod Once
+pub mod FirstPlaces
 pub mod PackedLemmas
 pub mod PlaceBits
 pub mod Refusals
+pub mod Written
+pub mod WrittenStates

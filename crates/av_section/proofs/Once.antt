@@ -18,8 +18,8 @@ any_at [] n k low e = absurd (omega arith)
 any_at (x ∷ ks) n zero low e = rw (eq-eqb n x (sym e)) refl
 any_at (x ∷ ks) n (suc k) low e = rw (any_at ks n k (omega arith) e) (or_true (nat_eq n x))
 
-not_there : (ks : List ℕ) (n : ℕ) → list_any (nat_eq n) ks ≡ false → Contains ks n → ⊥
-not_there ks n h c = true≢false (sym (any_at ks n c.0 c.1 c.2) ∙ h)
+pub not_among : (ks : List ℕ) (n : ℕ) → list_any (nat_eq n) ks ≡ false → Contains ks n → ⊥
+not_among ks n h c = true≢false (sym (any_at ks n c.0 c.1 c.2) ∙ h)
 
 once_or_not : (numbers once : List ℕ) (n : ℕ) (b : Bool) → list_any (nat_eq n) once ≡ b → n < 65536 → AreDistinct numbers once → AreDistinct (numbers ++ n ∷ []) (if b then once else once ++ n ∷ [])
 once_or_not numbers once n true e small a = record {
@@ -30,7 +30,7 @@ once_or_not numbers once n true e small a = record {
   same = λ q. absurd (omega (arith, length-append numbers (n ∷ []), a.short, q));
 }
 once_or_not numbers once n false e small a = record {
-  distinct = Distinct-push once n a.distinct (not_there once n e);
+  distinct = Distinct-push once n a.distinct (not_among once n e);
   small = All-push (λ x. x < 65536) once n a.small small;
   there = All-push (Contains (once ++ n ∷ [])) numbers n (All-weaker (Contains once) (Contains (once ++ n ∷ [])) (λ x c. Contains-append_left once (n ∷ []) x c) numbers a.there) (Contains-push once n);
   short = omega (arith, length-append numbers (n ∷ []), length-append once (n ∷ []), a.short);

@@ -76,8 +76,11 @@ palette_tag states = states_tag (palette_states states)
 abbrev pub index_of : List BlockState → BlockState → ℕ
 index_of palette state = or_else 0 (number_in palette state)
 
--- no indices for a palette of one state
+-- no indices for a palette of one entry
+abbrev pub indices_tag : ℕ → List ℕ → Option Nbt
+indices_tag count indices = if nat_lt 1 count then Some (long_array (packed (bits_for count) indices)) else None
+
 abbrev pub data_tag : List BlockState → Option Nbt
 data_tag states =
     let palette = palette_states states in
-    if nat_lt 1 (length palette) then Some (long_array (packed (bits_for (length palette)) (map (index_of palette) states))) else None
+    indices_tag (length palette) (map (index_of palette) states)

@@ -4,6 +4,7 @@ pub mod Places
 pub mod Packed
 pub mod Judged
 pub mod Numbered
+pub mod WrittenPalette
 pub mod Distinct
 pub mod Section
 pub mod Indexed

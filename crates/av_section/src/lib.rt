@@ -4,8 +4,10 @@
 
 mod indices;
 mod numbering;
+mod order;
 mod palette;
 pub mod places;
 pub mod section;
+mod writing;
 
 pub use section::Section;

@@ -16,9 +16,9 @@ use av_types::Fault;
 use std::alloc::Global;
 
 /// The name of a palette entry's name.
-const NAME: &[u8] = b"Name";
+pub(crate) const NAME: &[u8] = b"Name";
 /// The name of a palette entry's properties.
-const PROPERTIES: &[u8] = b"Properties";
+pub(crate) const PROPERTIES: &[u8] = b"Properties";
 /// The most entries that a palette in a file has.
 const MOST_ENTRIES: usize = 4096;
 

@@ -7,8 +7,10 @@ ghost use Rattle.std.proofs.Props.{props};
 
 use crate::indices::{data_longs, distinct, index_of, longs_indices, mapped, places_in};
 use crate::numbering::number_states;
+use crate::order::written_order;
 use crate::palette::palette_states;
 use crate::places::PlaceSet;
+use crate::writing::{indices_tag, palette_tag};
 use av_nbt::Tag;
 use av_pack::{bits_for, get_at, pack, set_at, unpack};
 use av_state::{State, StateTable};
@@ -314,9 +316,10 @@ impl Section {
         ensures longs { IfOk result (λ tags. option_map view tags.1 ≡ data_tag (section_states (states table.now) self.now)) }
         ensures err { IfErr result (λ e. e ≡ OutOfMemory) }
     {
-        let _ = alloc;
-        let _ = table.len();
-        let _ = self;
-        Err(Fault::OutOfMemory)
+        let indices = unpack(alloc, self.longs.as_slice(), self.bits)?;
+        let order = written_order(alloc, self.palette.as_slice(), indices.as_slice())?;
+        let palette = palette_tag(alloc, table, order.numbers.as_slice())?;
+        let longs = indices_tag(alloc, order.indices.as_slice(), order.numbers.len())?;
+        Ok((palette, longs))
     }
 }

@@ -1,0 +1,14 @@
+-- The entries, as a List of Compounds.
+use Rattle.std.proofs.Common.{◌∙◌, sym, ap}
+use Rattle.std.specs.Prelude.{slice_index_or}
+use Rattle.av_nbt.specs.declared.tag.Kind.TheVariants as kind
+use Rattle.av_nbt.specs.Nbt.{list, items_of}
+use Rattle.av_state.specs.BlockState.{air}
+use Rattle.av_state.specs.Table.{states}
+use Rattle.av_section.specs.Palette.{state_tag}
+use Rattle.av_section.proofs.Written.{map_map}
+use Rattle.av_section.proofs.writing.palette_tag.Goals as goal
+
+pub returns-clause-ok : goal.returns-clause-ok
+returns-clause-ok c =
+    c.list.ensures ∙ ap (λ ts. list kind.Compound (items_of ts)) (c.in_ok-tags.ensures.ok ∙ sym (map_map state_tag (λ n. slice_index_or (states c.args.table.now) n air) c.args.numbers.now))
