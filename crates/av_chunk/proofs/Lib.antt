@@ -8,3 +8,4 @@ pub mod Admitted
 pub mod Marking
 pub mod WaterIn
 pub mod Assembly
+pub mod Found

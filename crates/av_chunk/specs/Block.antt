@@ -1,5 +1,5 @@
 -- The block at a position, as a region file has it.
-use Rattle.std.specs.Prelude.{◌≡◌, ◌&&◌, ℕ, List, Option, Some, None, Bool, true, false, if◌then◌else◌}
+use Rattle.std.specs.Prelude.{◌≡◌, ◌&&◌, ℕ, List, Option, Some, None, IsSome, Bool, true, false, if◌then◌else◌}
 use Rattle.std.specs.Ordering.{int_eq}
 use Rattle.av_types.specs.Faults.{fault_number}
 use Rattle.av_types.specs.Places.{chunk_of, region_of, index_of, is_block_of}
@@ -15,6 +15,8 @@ use Rattle.av_region.specs.Region.{IsShort, IsAbsent, Holds, IsChunkFault}
 use Rattle.av_state.specs.BlockState.{BlockState}
 use Rattle.av_state.specs.StateList.{first_states}
 use Rattle.av_document.specs.Chunk.{root_tags, is_full, first_fault, cell_of}
+use Rattle.av_chunk.specs.declared.chunk.Chunk.{Chunk}
+use Rattle.av_chunk.specs.Views.{state_in}
 
 -- the position's chunk is one of the region
 abbrev pub is_of_region : RegionPos → Pos → Bool
@@ -49,3 +51,23 @@ pub data IsBlockRefused (file : List ℕ) (r : RegionPos) (h : Height) (p : Pos)
   spelling : ¬ IsShort file → is_of_region r p ≡ true → e ≡ BadNbt → (payload : List ℕ) → Holds file (index_at p) payload → SpellsNone payload → IsBlockRefused file r h p e
   document : ¬ IsShort file → is_of_region r p ≡ true → (payload : List ℕ) (d : Document) → Holds file (index_at p) payload → SpellsDocument d payload
       → fault_in h (root_tags d) p ≡ Some (fault_number e) → IsBlockRefused file r h p e
+
+-- ---- working definitions of one payload and one chunk
+
+pub record IsDenoted (payload : List ℕ) (h : Height) (p : Pos) (found : Option BlockState) : Type 0 where
+  pub document : Document
+  pub spelled : SpellsDocument document payload
+  pub no_fault : fault_in h (root_tags document) p ≡ None
+  pub found_is : found ≡ block_in h (root_tags document) p
+
+pub data IsPayloadRefused (payload : List ℕ) (h : Height) (p : Pos) (e : Fault) : Type 0 where
+  no_memory : e ≡ OutOfMemory → IsPayloadRefused payload h p e
+  no_spelling : e ≡ BadNbt → SpellsNone payload → IsPayloadRefused payload h p e
+  bad_document : (d : Document) → SpellsDocument d payload → fault_in h (root_tags d) p ≡ Some (fault_number e) → IsPayloadRefused payload h p e
+
+-- the state of a block of a chunk in memory, where it is in the height
+abbrev pub found_in : List BlockState → Height → Chunk → Pos → Option BlockState
+found_in table h chunk p = if is_block_of h p.y then state_in table h chunk p else None
+
+abbrev pub IsNumbered : List BlockState → Height → Chunk → Pos → Type 0
+IsNumbered table h chunk p = is_block_of h p.y ≡ true → IsSome (state_in table h chunk p)
