@@ -9,3 +9,5 @@ pub mod Marking
 pub mod WaterIn
 pub mod Assembly
 pub mod Found
+pub mod Written
+pub mod WrittenDocument

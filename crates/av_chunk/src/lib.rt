@@ -2,6 +2,7 @@
 #![tactic(auto)]
 
 pub mod block;
+mod build;
 pub mod chunk;
 mod faults;
 pub mod light;
@@ -11,6 +12,9 @@ mod sections;
 mod shape;
 mod tags;
 mod water;
+mod write_section;
+mod write_sections;
+mod write_ticks;
 pub mod writing;
 
 pub use block::block_at;

@@ -4,10 +4,13 @@ ghost use Rattle.av_types.specs.declared.fault.Fault.TheVariants.{OutOfMemory};
 ghost use Rattle.av_nbt.specs.View.{document};
 ghost use Rattle.av_chunk.specs.Writing.{CanWrite, written};
 
+use crate::build::{compounds, placed};
 use crate::chunk::Chunk;
 use crate::light::ChunkLight;
 use crate::rest::ChunkRest;
-use av_nbt::Root;
+use crate::write_sections::all_sections;
+use crate::write_ticks::all_ticks;
+use av_nbt::{Root, copy_tags};
 use av_rules::Kinds;
 use av_types::Fault;
 use std::alloc::Global;
@@ -28,14 +31,12 @@ impl Chunk {
         ensures ok { IfOk result (λ root. document root ≡ written self.now rest.now kinds.now light.now elapsed) }
         ensures err { IfErr result (λ e. e ≡ OutOfMemory) }
     {
-        let _ = alloc;
-        let _ = (
-            rest.sections.len(),
-            kinds.table().len(),
-            light.len(),
-            elapsed,
-        );
-        let _ = self.sections.len();
-        Err(Fault::OutOfMemory)
+        let sections = all_sections(alloc, self, rest, kinds, light)?;
+        let ticks = all_ticks(alloc, self, rest, kinds, elapsed)?;
+        let tags = copy_tags(alloc, rest.tags.as_slice())?;
+        let tags = placed(alloc, tags, b"sections", compounds(sections))?;
+        let tags = placed(alloc, tags, b"fluid_ticks", compounds(ticks))?;
+        let name = Vec::from_slice(alloc, rest.name.as_slice())?;
+        Ok(Root { name, tags })
     }
 }
