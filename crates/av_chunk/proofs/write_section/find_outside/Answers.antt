@@ -1,4 +1,4 @@
-use Rattle.std.proofs.Common.{rules, ◌≡◌, ◌∙◌, ap, arith, ◌<◌, Option, List, length, drop, suc, drop-cons, add-one, sym, to_z, of_z, w8, ◌∷◌}
+use Rattle.std.proofs.Common.{◌≡◌, ◌∙◌, arith, ◌<◌, Option, List, length, drop, suc, drop-cons, add-one, to_z, of_z, w8, ◌∷◌}
 use Rattle.std.specs.Prelude.{option_map}
 use Rattle.std.specs.Option.{option_copied}
 use Rattle.av_nbt.specs.Nbt.{NamedTag}
