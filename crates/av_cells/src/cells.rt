@@ -54,7 +54,8 @@ pub trait Cells {
         requires prepared { 0 < room self.old entry.pos }
         ensures added { result ≡ not ((world self.old).pending entry.pos) }
         ensures changed { world self.new ≡ with_entry (world self.old) entry }
-        ensures lists { lists self.new ≡ listed_if (not ((world self.old).pending entry.pos)) (lists self.old) entry }
+        ensures lists { lists self.new
+            ≡ listed_if (not ((world self.old).pending entry.pos)) (lists self.old) entry }
         ensures room { (q : Pos) → room self.old q ≤ room self.new q + 1 }
         ensures prepared { (q : Pos) (n : ℕ) → can_set self.old q n → can_set self.new q n };
 

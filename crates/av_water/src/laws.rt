@@ -19,7 +19,8 @@ pub fn turn_reads_its_reach()
 /// A turn writes nothing but loaded blocks of its reach: every other block keeps its state and whether it is
 /// pending, and no block is loaded or unloaded.
 pub fn turn_writes_its_loaded_reach()
-    ensures { (k : ℕ → Kind) (now : ℕ) (p : Pos) (w : World) → Kept (InLoadedReach w p) w (turn k now p w).world }
+    ensures { (k : ℕ → Kind) (now : ℕ) (p : Pos) (w : World)
+        → Kept (InLoadedReach w p) w (turn k now p w).world }
 {}
 
 /// Each entry that a turn makes is of a loaded block in its reach, due five ticks later, with priority 0.
@@ -36,5 +37,6 @@ pub fn apart_turns_commute()
 /// The directions to which a block spreads are those that can be entered and whose drop is the least among them, or,
 /// where none of them has a drop, all that can be entered.
 pub fn chosen_directions_are_nearest()
-    ensures { (k : ℕ → Kind) (w : World) (p : Pos) (d : Direction) → IsTrue (is_chosen k w p d) ↔ IsChosen k w p d }
+    ensures { (k : ℕ → Kind) (w : World) (p : Pos) (d : Direction)
+        → IsTrue (is_chosen k w p d) ↔ IsChosen k w p d }
 {}

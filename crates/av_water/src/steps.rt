@@ -24,15 +24,18 @@ pub(crate) fn set_itself<C: Cells>(
     wet: Wet,
     made: &mut ArrayVec<Entry, 42>,
 )
-    requires ready { IsReady (kind_count kinds.now) (C.world cells.old) (C.room cells.old) (C.can_set cells.old) made.old.items pos 7 }
+    requires ready { IsReady (kind_count kinds.now) (C.world cells.old) (C.room cells.old)
+        (C.can_set cells.old) made.old.items pos 7 }
     requires proper { IsProper wet }
     ensures changed { change (C.world cells.new) made.new.items
         ≡ set_awake (kinds_of kinds.now) now pos (number_of_wet wet) (change (C.world cells.old) made.old.items) }
     ensures listed { Appends made.old.items made.new.items (C.lists cells.old) (C.lists cells.new) }
     ensures loaded { (C.world cells.new).loaded ≡ (C.world cells.old).loaded }
     ensures ready { (adds : ℕ)
-        → IsReady (kind_count kinds.now) (C.world cells.old) (C.room cells.old) (C.can_set cells.old) made.old.items pos (adds + 7)
-        → IsReady (kind_count kinds.now) (C.world cells.new) (C.room cells.new) (C.can_set cells.new) made.new.items pos adds }
+        → IsReady (kind_count kinds.now) (C.world cells.old) (C.room cells.old)
+        (C.can_set cells.old) made.old.items pos (adds + 7)
+        → IsReady (kind_count kinds.now) (C.world cells.new) (C.room cells.new)
+        (C.can_set cells.new) made.new.items pos adds }
 {
     set_awake_onto(cells, kinds, now, pos, number_of_wet(wet), made);
 }
@@ -46,7 +49,8 @@ pub(crate) fn set_below<C: Cells>(
     wet: Wet,
     made: &mut ArrayVec<Entry, 42>,
 )
-    requires ready { IsReady (kind_count kinds.now) (C.world cells.old) (C.room cells.old) (C.can_set cells.old) made.old.items pos 7 }
+    requires ready { IsReady (kind_count kinds.now) (C.world cells.old) (C.room cells.old)
+        (C.can_set cells.old) made.old.items pos 7 }
     requires there { IsTrue ((C.world cells.old).loaded (below pos)) }
     requires proper { IsProper wet }
     ensures changed { change (C.world cells.new) made.new.items
@@ -54,8 +58,10 @@ pub(crate) fn set_below<C: Cells>(
     ensures listed { Appends made.old.items made.new.items (C.lists cells.old) (C.lists cells.new) }
     ensures loaded { (C.world cells.new).loaded ≡ (C.world cells.old).loaded }
     ensures ready { (adds : ℕ)
-        → IsReady (kind_count kinds.now) (C.world cells.old) (C.room cells.old) (C.can_set cells.old) made.old.items pos (adds + 7)
-        → IsReady (kind_count kinds.now) (C.world cells.new) (C.room cells.new) (C.can_set cells.new) made.new.items pos adds }
+        → IsReady (kind_count kinds.now) (C.world cells.old) (C.room cells.old)
+        (C.can_set cells.old) made.old.items pos (adds + 7)
+        → IsReady (kind_count kinds.now) (C.world cells.new) (C.room cells.new)
+        (C.can_set cells.new) made.new.items pos adds }
 {
     set_awake_onto(cells, kinds, now, below(pos), number_of_wet(wet), made);
 }
@@ -70,7 +76,8 @@ fn set_side<C: Cells>(
     number: u16,
     made: &mut ArrayVec<Entry, 42>,
 )
-    requires ready { IsReady (kind_count kinds.now) (C.world cells.old) (C.room cells.old) (C.can_set cells.old) made.old.items pos 7 }
+    requires ready { IsReady (kind_count kinds.now) (C.world cells.old) (C.room cells.old)
+        (C.can_set cells.old) made.old.items pos 7 }
     requires there { IsTrue ((C.world cells.old).loaded (step pos direction)) }
     requires water { number < 10 }
     ensures changed { change (C.world cells.new) made.new.items
@@ -78,8 +85,10 @@ fn set_side<C: Cells>(
     ensures listed { Appends made.old.items made.new.items (C.lists cells.old) (C.lists cells.new) }
     ensures loaded { (C.world cells.new).loaded ≡ (C.world cells.old).loaded }
     ensures ready { (adds : ℕ)
-        → IsReady (kind_count kinds.now) (C.world cells.old) (C.room cells.old) (C.can_set cells.old) made.old.items pos (adds + 7)
-        → IsReady (kind_count kinds.now) (C.world cells.new) (C.room cells.new) (C.can_set cells.new) made.new.items pos adds }
+        → IsReady (kind_count kinds.now) (C.world cells.old) (C.room cells.old)
+        (C.can_set cells.old) made.old.items pos (adds + 7)
+        → IsReady (kind_count kinds.now) (C.world cells.new) (C.room cells.new)
+        (C.can_set cells.new) made.new.items pos adds }
 {
     set_awake_onto(cells, kinds, now, step(pos, direction), number, made);
 }
@@ -94,7 +103,8 @@ fn set_planned_side<C: Cells>(
     plan: Option<u16>,
     made: &mut ArrayVec<Entry, 42>,
 )
-    requires ready { IsReady (kind_count kinds.now) (C.world cells.old) (C.room cells.old) (C.can_set cells.old) made.old.items pos 7 }
+    requires ready { IsReady (kind_count kinds.now) (C.world cells.old) (C.room cells.old)
+        (C.can_set cells.old) made.old.items pos 7 }
     requires there { (n : ℕ) → plan ≡ Some n → IsTrue ((C.world cells.old).loaded (step pos direction)) }
     requires water { (n : ℕ) → plan ≡ Some n → n < 10 }
     ensures changed { change (C.world cells.new) made.new.items
@@ -102,8 +112,10 @@ fn set_planned_side<C: Cells>(
     ensures listed { Appends made.old.items made.new.items (C.lists cells.old) (C.lists cells.new) }
     ensures loaded { (C.world cells.new).loaded ≡ (C.world cells.old).loaded }
     ensures ready { (adds : ℕ)
-        → IsReady (kind_count kinds.now) (C.world cells.old) (C.room cells.old) (C.can_set cells.old) made.old.items pos (adds + 7)
-        → IsReady (kind_count kinds.now) (C.world cells.new) (C.room cells.new) (C.can_set cells.new) made.new.items pos adds }
+        → IsReady (kind_count kinds.now) (C.world cells.old) (C.room cells.old)
+        (C.can_set cells.old) made.old.items pos (adds + 7)
+        → IsReady (kind_count kinds.now) (C.world cells.new) (C.room cells.new)
+        (C.can_set cells.new) made.new.items pos adds }
 {
     if let Some(number) = plan {
         set_side(cells, kinds, now, pos, direction, number, made);
@@ -119,7 +131,8 @@ pub(crate) fn set_sides<C: Cells>(
     plan: Plan,
     made: &mut ArrayVec<Entry, 42>,
 )
-    requires ready { IsReady (kind_count kinds.now) (C.world cells.old) (C.room cells.old) (C.can_set cells.old) made.old.items pos 28 }
+    requires ready { IsReady (kind_count kinds.now) (C.world cells.old) (C.room cells.old)
+        (C.can_set cells.old) made.old.items pos 28 }
     requires north { IsPlanFor (kinds_of kinds.now) (C.world cells.old) pos North plan.north }
     requires south { IsPlanFor (kinds_of kinds.now) (C.world cells.old) pos South plan.south }
     requires west { IsPlanFor (kinds_of kinds.now) (C.world cells.old) pos West plan.west }
@@ -132,7 +145,8 @@ pub(crate) fn set_sides<C: Cells>(
         (change (C.world cells.old) made.old.items)))) }
     ensures listed { Appends made.old.items made.new.items (C.lists cells.old) (C.lists cells.new) }
     ensures loaded { (C.world cells.new).loaded ≡ (C.world cells.old).loaded }
-    ensures ready { IsReady (kind_count kinds.now) (C.world cells.new) (C.room cells.new) (C.can_set cells.new) made.new.items pos 0 }
+    ensures ready { IsReady (kind_count kinds.now) (C.world cells.new) (C.room cells.new)
+        (C.can_set cells.new) made.new.items pos 0 }
 {
     set_planned_side(cells, kinds, now, pos, Direction::North, plan.north, made);
     set_planned_side(cells, kinds, now, pos, Direction::South, plan.south, made);

@@ -27,7 +27,8 @@ fn spread<C: Cells>(
     pos: Pos,
     made: &mut ArrayVec<Entry, 42>,
 )
-    requires ready { IsReady (kind_count kinds.now) (C.world cells.old) (C.room cells.old) (C.can_set cells.old) made.old.items pos 28 }
+    requires ready { IsReady (kind_count kinds.now) (C.world cells.old) (C.room cells.old)
+        (C.can_set cells.old) made.old.items pos 28 }
     ensures changed { change (C.world cells.new) made.new.items
         ≡ spread (kinds_of kinds.now) now pos (change (C.world cells.old) made.old.items) }
     ensures listed { Appends made.old.items made.new.items (C.lists cells.old) (C.lists cells.new) }
@@ -44,7 +45,8 @@ fn spread<C: Cells>(
 /// spreads.
 #[tactic(auto, using(crate::proofs::Plans::enterable_is_loaded), unfolding(av_cells::specs::Turn::onward))]
 fn fall<C: Cells>(cells: &mut C, kinds: &Kinds, now: u32, pos: Pos, made: &mut ArrayVec<Entry, 42>)
-    requires ready { IsReady (kind_count kinds.now) (C.world cells.old) (C.room cells.old) (C.can_set cells.old) made.old.items pos 35 }
+    requires ready { IsReady (kind_count kinds.now) (C.world cells.old) (C.room cells.old)
+        (C.can_set cells.old) made.old.items pos 35 }
     requires open { IsTrue (can_enter (kinds_of kinds.now) (C.world cells.old) (below pos)) }
     ensures changed { change (C.world cells.new) made.new.items
         ≡ onward (kinds_of kinds.now) now pos (change (C.world cells.old) made.old.items) }
@@ -63,7 +65,8 @@ fn fall<C: Cells>(cells: &mut C, kinds: &Kinds, now: u32, pos: Pos, made: &mut A
 /// Goes on from a wet block that is up to date: down, and to the sides.
 #[tactic(auto, unfolding(av_cells::specs::Turn::onward))]
 fn go_on<C: Cells>(cells: &mut C, kinds: &Kinds, now: u32, pos: Pos, made: &mut ArrayVec<Entry, 42>)
-    requires ready { IsReady (kind_count kinds.now) (C.world cells.old) (C.room cells.old) (C.can_set cells.old) made.old.items pos 35 }
+    requires ready { IsReady (kind_count kinds.now) (C.world cells.old) (C.room cells.old)
+        (C.can_set cells.old) made.old.items pos 35 }
     ensures changed { change (C.world cells.new) made.new.items
         ≡ onward (kinds_of kinds.now) now pos (change (C.world cells.old) made.old.items) }
     ensures listed { Appends made.old.items made.new.items (C.lists cells.old) (C.lists cells.new) }
@@ -87,7 +90,8 @@ fn is_same(a: Wet, b: Wet) -> bool
 /// Brings a wet block up to date, unless it is a source, and goes on unless it dried.
 #[tactic(auto, unfolding(av_cells::specs::Turn::renewed))]
 fn renew<C: Cells>(cells: &mut C, kinds: &Kinds, now: u32, pos: Pos, made: &mut ArrayVec<Entry, 42>)
-    requires ready { IsReady (kind_count kinds.now) (C.world cells.old) (C.room cells.old) (C.can_set cells.old) made.old.items pos 42 }
+    requires ready { IsReady (kind_count kinds.now) (C.world cells.old) (C.room cells.old)
+        (C.can_set cells.old) made.old.items pos 42 }
     ensures changed { change (C.world cells.new) made.new.items
         ≡ renewed (kinds_of kinds.now) now pos (change (C.world cells.old) made.old.items) }
     ensures listed { Appends made.old.items made.new.items (C.lists cells.old) (C.lists cells.new) }
@@ -122,10 +126,13 @@ fn renew<C: Cells>(cells: &mut C, kinds: &Kinds, now: u32, pos: Pos, made: &mut 
 #[tactic(auto, unfolding(av_cells::specs::Turn::turn))]
 pub fn turn<C: Cells>(cells: &mut C, kinds: &Kinds, now: u32, pos: Pos) -> ArrayVec<Entry, 42>
     requires loaded { IsTrue ((C.world cells.old).loaded pos) }
-    requires room { (q : Pos) → InReach pos q → IsTrue ((C.world cells.old).loaded q) → 42 ≤ C.room cells.old q }
-    requires prepared { ForTurned (λ q. IsTrue ((C.world cells.old).loaded q) → (n : ℕ) → n < 10 → C.can_set cells.old q n) pos }
+    requires room { (q : Pos) → InReach pos q → IsTrue ((C.world cells.old).loaded q)
+        → 42 ≤ C.room cells.old q }
+    requires prepared { ForTurned (λ q. IsTrue ((C.world cells.old).loaded q)
+        → (n : ℕ) → n < 10 → C.can_set cells.old q n) pos }
     requires kinds { HasKinds (kind_count kinds.now) (C.world cells.old) }
-    ensures changed { change (C.world cells.new) result.items ≡ turn (kinds_of kinds.now) now pos (C.world cells.old) }
+    ensures changed { change (C.world cells.new) result.items
+        ≡ turn (kinds_of kinds.now) now pos (C.world cells.old) }
     ensures listed { C.lists cells.new ≡ listed_all (C.lists cells.old) result.items }
     ensures loaded { (C.world cells.new).loaded ≡ (C.world cells.old).loaded }
     ensures kinds { HasKinds (kind_count kinds.now) (C.world cells.new) }
