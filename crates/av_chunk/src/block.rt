@@ -115,3 +115,6 @@ pub fn block_at(
         Some(payload) => block_in_payload(alloc, payload, pos, height),
     }
 }
+
+#[cfg(test)]
+mod tests;
