@@ -1,5 +1,5 @@
 //! Some layers of the chunk at x 0 and z 0.
-ghost use Rattle.std.specs.Prelude.{◌≡◌, ◌<◌, ◌≤◌, ◌+◌, ◌*◌, ◌-◌, ℕ, ◌+ℤ◌, ◌-ℤ◌, ◌≤ℤ◌, ◌<ℤ◌, pos, negsuc, nat_abs, length, vec_len, [], IsTrue, Some, None, IfOk, IfErr, if◌then◌else◌, true, false};
+ghost use Rattle.std.specs.Prelude.{◌≡◌, ◌<◌, ◌≤◌, ◌+◌, ◌*◌, ◌-◌, ℕ, ◌+ℤ◌, ◌-ℤ◌, ◌≤ℤ◌, ◌<ℤ◌, pos, negsuc, nat_abs, length, vec_len, [], replicate, drop, slice_get, IsTrue, Some, None, IfOk, IfErr, if◌then◌else◌, true, false};
 ghost use Rattle.arrayvec.specs.ArrayVec.{array_vec_len};
 ghost use Rattle.av_rules.specs.Kinds.{kind_count};
 ghost use Rattle.av_cells.specs.Rule.{HasKinds};
@@ -78,6 +78,9 @@ impl Column {
         ensures fault { IfErr result (λ e. e ≡ OutOfMemory) }
         ensures bottom { IfOk result (λ c. c.bottom ≡ bottom) }
         ensures layers { IfOk result (λ c. c.layers ≡ layers) }
+        ensures numbers { IfOk result (λ c. c.numbers.items ≡ replicate (256 * layers) number) }
+        ensures waiting { IfOk result (λ c. c.waiting.items ≡ replicate (256 * layers) false) }
+        ensures entries { IfOk result (λ c. c.entries.items ≡ []) }
         ensures kinds { IfOk result (λ c. (k : ℕ) → number < k
             → HasKinds k (world_of c.bottom c.layers c.numbers.items c.waiting.items)) }
     {
@@ -117,6 +120,8 @@ impl Column {
 
     /// Takes the first entry out, if there is one. Its block is pending no longer, and keeps its state.
     pub fn take_first(&mut self) -> Option<Entry>
+        ensures first { result ≡ slice_get self.old.entries.items 0 }
+        ensures rest { self.new.entries.items ≡ drop 1 self.old.entries.items }
         ensures states { SameStates
             (world_of self.old.bottom self.old.layers self.old.numbers.items self.old.waiting.items)
             (world_of self.new.bottom self.new.layers self.new.numbers.items self.new.waiting.items) }
