@@ -1,6 +1,5 @@
-use Rattle.std.proofs.Common.{rules, ◌≡◌, ◌∙◌, ap₂}
-use Rattle.clap.specs.Words.{rule_of, with_rule}
-use Rattle.av_main.specs.CommandLine.{table_rule}
+use Rattle.std.proofs.Common.{◌∙◌, ap₂}
+use Rattle.clap.specs.Words.{with_rule}
 use Rattle.av_main.proofs.command_line.block_command.Goals as goal
 
 pub returns-clause-app : goal.returns-clause-app

@@ -1,9 +1,9 @@
 use Rattle.std.proofs.Common.{◌≡◌, ◌∙◌, ap, inl, inr, sym, subst, map, List, Bor, Result, Ok, Err, IfErr}
-use Rattle.std.specs.Prelude.{IsErrAnd, ℕ}
+use Rattle.std.specs.Prelude.{IsErrAnd}
 use Rattle.clap.specs.declared.error.Error.{Error}
 use Rattle.clap.specs.declared.error.kind.ErrorKind.TheVariants.{OutOfMemory}
-use Rattle.clap.specs.Words.{App, Text, app_of, kind_of, is_simple, subcommand_of, takes}
-use Rattle.av_main.specs.CommandLine.{IsRefusal, anvilwater}
+use Rattle.clap.specs.Words.{App, Text, kind_of, is_simple, subcommand_of, takes}
+use Rattle.av_main.specs.CommandLine.{IsRefusal}
 use Rattle.av_main.proofs.command_line.words.Goals as goal
 
 texts : List (Bor Text) → List Text
