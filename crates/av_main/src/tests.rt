@@ -120,6 +120,42 @@ fn the_high_bits_of_a_long(rt: HostRuntime) -> Result<(), Fail> {
 }
 
 #[test]
+fn files_that_are_cut(rt: HostRuntime) -> Result<(), Fail> {
+    let alloc = rt.alloc();
+    let sector = stone_sector(alloc)?;
+    let bytes = region(alloc, 4092, sector.as_slice())?;
+    // the length field of the one chunk is 2,202
+    for (len, out, err) in [
+        (0, b"unloaded\n".as_slice(), b"".as_slice()),
+        (1, b"".as_slice(), b"fault 04: ShortHeader\n".as_slice()),
+        (8191, b"".as_slice(), b"fault 04: ShortHeader\n".as_slice()),
+        (
+            8192,
+            b"".as_slice(),
+            b"fault 06: TruncatedChunk\n".as_slice(),
+        ),
+        (
+            10397,
+            b"".as_slice(),
+            b"fault 06: TruncatedChunk\n".as_slice(),
+        ),
+        (10398, b"minecraft:stone\n".as_slice(), b"".as_slice()),
+        (12287, b"minecraft:stone\n".as_slice(), b"".as_slice()),
+    ] {
+        let cut = bytes.as_slice().get(..len).unwrap_or_default();
+        let pos = Pos {
+            x: -1,
+            y: 64,
+            z: -1,
+        };
+        let outcome = asked(alloc, "r.-1.-1.mca", cut, pos);
+        assert_eq!(rt; outcome.out.as_slice(), out, "cut to {len}");
+        assert_eq!(rt; outcome.err.as_slice(), err, "cut to {len}");
+    }
+    Ok(())
+}
+
+#[test]
 fn the_first_bytes_of_a_sector(rt: HostRuntime) -> Result<(), Fail> {
     let alloc = rt.alloc();
     for (sector, want) in [
