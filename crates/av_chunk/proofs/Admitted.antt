@@ -1,14 +1,14 @@
 -- What was judged before a chunk is taken apart, and the first fault.
-use Rattle.std.proofs.Common.{◌≡◌, ◌≢◌, ℕ, ◌≤◌, Bool, true, false, true≢false, not, ◌&&◌, ◌||◌, Option, Some, None, Result, Ok, Err, List, [], ◌∷◌, ◌++◌, length, refl, sym, ap, ◌∙◌, arith, min, lit≤, if◌then◌else◌, codes}
+use Rattle.std.proofs.Common.{◌≡◌, ℕ, ◌≤◌, Bool, true, false, true≢false, not, ◌&&◌, ◌||◌, Option, Some, None, Result, Ok, Err, List, [], ◌∷◌, ◌++◌, refl, sym, ap, arith, lit≤, if◌then◌else◌, codes}
 use Rattle.std.specs.List.{flat_map, list_any}
 use Rattle.av_types.specs.Faults.{fault_number, least, lesser}
 use Rattle.av_types.specs.declared.place.ChunkPos.{ChunkPos}
 use Rattle.av_types.specs.declared.place.Height.{Height}
 use Rattle.av_types.specs.declared.fault.Fault.{Fault}
-use Rattle.av_types.specs.declared.fault.Fault.TheVariants.{OutOfMemory, OldLayout, BadChunk, WrongPlace}
+use Rattle.av_types.specs.declared.fault.Fault.TheVariants.{OldLayout, BadChunk, WrongPlace}
 use Rattle.av_nbt.specs.Nbt.{Nbt, NamedTag}
 use Rattle.av_nbt.specs.Place.{tag_of}
-use Rattle.av_nbt.specs.Shape.{◌>>=◌, compounds_of, lacks, or_else}
+use Rattle.av_nbt.specs.Shape.{◌>>=◌, compounds_of, lacks}
 use Rattle.av_state.specs.BlockState.{BlockState}
 use Rattle.av_section.specs.BlockStates.{when}
 use Rattle.av_document.specs.Ticks.{is_bad_tick, int_at}

@@ -1,17 +1,14 @@
 -- A chunk that was read, put together.
-use Rattle.std.proofs.Common.{◌≡◌, ℕ, ◌<◌, ◌≤◌, ℤ, Bool, true, false, true≢false, ◌&&◌, ◌||◌, Option, Some, None, IsSome, List, [], ◌∷◌, ◌++◌, length, get_or, slice_get, refl, sym, ap, ◌∙◌, arith, min, if◌then◌else◌, codes, Decides, nat_lt}
+use Rattle.std.proofs.Common.{◌≡◌, ℕ, ◌<◌, ◌≤◌, ℤ, Bool, true, false, true≢false, ◌||◌, Option, Some, None, List, [], ◌∷◌, ◌++◌, length, get_or, slice_get, refl, sym, ap, ◌∙◌, arith, min, if◌then◌else◌, codes, Decides}
 use Rattle.std.proofs.lemmas.Bool.Decides.{Decides-int_eq, nat_tests}
-use Rattle.std.proofs.Math.Bool.{or-true}
 use Rattle.std.specs.List.{list_any, flat_map}
 use Rattle.std.specs.Ordering.{int_eq}
 use Rattle.av_types.specs.Division.{divided}
-use Rattle.av_types.specs.Faults.{fault_number, least, lesser}
+use Rattle.av_types.specs.Faults.{least, lesser}
 use Rattle.av_types.specs.Places.{is_section_of, place_of}
 use Rattle.av_types.specs.declared.place.Pos.{Pos}
 use Rattle.av_types.specs.declared.place.ChunkPos.{ChunkPos}
 use Rattle.av_types.specs.declared.place.Height.{Height}
-use Rattle.av_types.specs.declared.tick.Entry.{Entry}
-use Rattle.av_types.specs.declared.fault.Fault.{Fault}
 use Rattle.av_nbt.specs.Nbt.{NamedTag, Document, members_of}
 use Rattle.av_nbt.specs.Place.{emptied}
 use Rattle.av_nbt.specs.Shape.{members_in, or_else}
@@ -24,18 +21,18 @@ use Rattle.av_section.specs.BlockStates.{when}
 use Rattle.av_section.specs.Section.{number_at}
 use Rattle.av_section.specs.Section as section
 use Rattle.av_section.specs.declared.section.Section.{Section}
-use Rattle.av_document.specs.Ticks.{lies_in, is_bad_tick, with_water, foreign}
-use Rattle.av_document.specs.Chunk.{root_tags, sections, ticks, sections_of, section_number, is_number, is_bad_at, with_number, are_bad_sections, is_bad_list, numbered, section_faults, section_states, first_fault, DenotesChunk, block_cell, block_states_of, tags_at, cell_of}
+use Rattle.av_document.specs.Ticks.{lies_in}
+use Rattle.av_document.specs.Chunk.{root_tags, sections, ticks, sections_of, section_number, is_bad_at, with_number, are_bad_sections, is_bad_list, numbered, section_states, first_fault, DenotesChunk, block_cell, block_states_of, tags_at, cell_of}
 use Rattle.av_document.proofs.Positions.{within_from, place_of-lt}
 use Rattle.av_chunk.specs.declared.chunk.Chunk.{Chunk}
 use Rattle.av_chunk.specs.declared.rest.ChunkRest.{ChunkRest}
 use Rattle.av_chunk.specs.declared.sections.Sections.{Sections}
 use Rattle.av_chunk.specs.declared.water.Ticks.{Ticks}
-use Rattle.av_chunk.specs.Views.{offset_of, section_in, state_in, cells_of, pending_in, rest_of, first_some, found_outside, opened}
+use Rattle.av_chunk.specs.Views.{offset_of, section_in, state_in, cells_of, rest_of, first_some, found_outside, opened}
 use Rattle.av_chunk.specs.Reading.{IsLoaded}
 use Rattle.av_chunk.specs.Pending.{SlotAdds, is_entry_at, MarksPending}
-use Rattle.av_chunk.specs.TicksRead.{AreTicks, parts_judged}
-use Rattle.av_chunk.specs.SectionsRead.{are_too_many, SlotHas, or_missing, if_numbered, last_numbered, AreRead}
+use Rattle.av_chunk.specs.TicksRead.{AreTicks}
+use Rattle.av_chunk.specs.SectionsRead.{are_too_many, SlotHas, if_numbered, last_numbered, AreRead}
 use Rattle.av_chunk.proofs.Admitted.{IsAdmitted, first_loaded, good_list}
 use Rattle.av_chunk.proofs.WaterIn.{water_in, pending_at}
 

@@ -1,16 +1,16 @@
 -- What is found of a block.
-use Rattle.std.proofs.Common.{◌≡◌, ◌≢◌, ℕ, ◌<◌, ◌≤◌, Bool, true, false, true≢false, ◌&&◌, Option, Some, None, IsSome, List, length, slice_get, Result, Ok, Err, IfOk, IfErr, subst, refl, sym, ap, ◌∙◌, arith, if◌then◌else◌}
+use Rattle.std.proofs.Common.{◌≡◌, ◌≢◌, ℕ, ◌<◌, Bool, true, false, true≢false, ◌&&◌, Option, Some, None, IsSome, List, length, slice_get, Result, Ok, Err, IfOk, IfErr, subst, refl, sym, ap, ◌∙◌, if◌then◌else◌}
 use Rattle.std.proofs.lemmas.Option.{slice_get_within}
 use Rattle.std.specs.Result.{IsErrAnd}
 use Rattle.av_types.specs.Division.{divided}
 use Rattle.av_types.specs.Faults.{fault_number}
-use Rattle.av_types.specs.Places.{chunk_of, is_block_of, place_of}
+use Rattle.av_types.specs.Places.{chunk_of, is_block_of}
 use Rattle.av_types.specs.declared.place.Pos.{Pos}
 use Rattle.av_types.specs.declared.place.RegionPos.{RegionPos}
 use Rattle.av_types.specs.declared.place.Height.{Height}
 use Rattle.av_types.specs.declared.fault.Fault.{Fault}
 use Rattle.av_types.specs.declared.fault.Fault.TheVariants.{OutOfMemory}
-use Rattle.av_nbt.specs.Nbt.{NamedTag, Document}
+use Rattle.av_nbt.specs.Nbt.{Document}
 use Rattle.av_nbt.specs.Spelling.{SpellsDocument}
 use Rattle.av_region.specs.Region.{IsShort, Holds}
 use Rattle.av_nbt.specs.Shape.{or_else}
@@ -21,9 +21,9 @@ use Rattle.av_document.specs.Chunk.{root_tags, is_full, cell_of}
 use Rattle.av_document.proofs.Rows.{int_eq-refl}
 use Rattle.av_chunk.specs.declared.chunk.Chunk.{Chunk}
 use Rattle.av_chunk.specs.declared.rest.ChunkRest.{ChunkRest}
-use Rattle.av_chunk.specs.Views.{number_in, state_in, cells_of}
+use Rattle.av_chunk.specs.Views.{number_in, state_in}
 use Rattle.av_chunk.specs.Reading.{IsLoaded}
-use Rattle.av_chunk.specs.Block.{is_of_region, index_at, fault_in, block_in, found_in, IsNumbered, IsDenoted, IsPayloadRefused, no_memory, no_spelling, bad_document, IsFound, denoted, IsBlockRefused, memory, spelling, document}
+use Rattle.av_chunk.specs.Block.{is_of_region, index_at, fault_in, found_in, IsNumbered, IsDenoted, IsPayloadRefused, no_memory, no_spelling, bad_document, IsFound, denoted, IsBlockRefused, memory, spelling, document}
 
 -- a block in the height is one of the chunk that it lies in
 own_chunk : (h : Height) (p : Pos) → is_block_of h p.y ≡ true → lies_in (chunk_of p) h p ≡ true

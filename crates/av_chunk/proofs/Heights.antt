@@ -1,5 +1,5 @@
 -- The tests of a height, as the program makes them.
-use Rattle.std.proofs.Common.{◌≡◌, ℤ, Bool, true, false, true≢false, refl, sym, ◌↔◌, IsTrue, arith, ◌&&◌, ◌≤ℤ◌, ◌<ℤ◌, pos, negsuc, ◌<◌, ◌-ℤ◌, ◌+ℤ◌, ℕ}
+use Rattle.std.proofs.Common.{◌≡◌, ℤ, Bool, true, false, true≢false, refl, sym, ◌↔◌, IsTrue, arith, ◌&&◌, ◌≤ℤ◌, ◌<ℤ◌, pos, negsuc, ◌<◌, ◌-ℤ◌, ◌+ℤ◌}
 use Rattle.std.specs.Prelude.{int_le, int_lt}
 use Rattle.std.proofs.lemmas.Int.{ints}
 use Rattle.av_types.specs.Places.{IsSectionOf, is_section_of}

@@ -10,7 +10,7 @@ use Rattle.av_types.specs.declared.tick.Entry.{Entry}
 use Rattle.av_section.specs.Section.{is_pending}
 use Rattle.av_section.specs.declared.section.Section.{Section}
 use Rattle.av_chunk.specs.Views.{offset_of}
-use Rattle.av_chunk.specs.Pending.{SlotPending, SlotAdds, AddsPending, is_entry_at, MarksPending}
+use Rattle.av_chunk.specs.Pending.{SlotPending, SlotAdds, is_entry_at, MarksPending}
 
 same_number : (n : ℕ) → nat_eq n n ≡ true
 same_number n = (Decides-eqb n n).1 refl

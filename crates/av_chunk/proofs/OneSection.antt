@@ -1,5 +1,5 @@
 -- One section, taken apart.
-use Rattle.std.proofs.Common.{◌≡◌, ℕ, ℤ, Bool, true, false, true≢false, ◌&&◌, Option, Some, None, IsSome, List, [], ◌∷◌, refl, sym, ap, ◌∙◌, codes, if◌then◌else◌}
+use Rattle.std.proofs.Common.{◌≡◌, ℤ, Bool, true, false, true≢false, ◌&&◌, Some, None, IsSome, List, refl, sym, codes, if◌then◌else◌}
 use Rattle.av_types.specs.Places.{is_section_of}
 use Rattle.av_types.specs.declared.place.Height.{Height}
 use Rattle.av_types.specs.declared.fault.Fault.{Fault}
@@ -9,13 +9,12 @@ use Rattle.av_nbt.specs.Shape.{compound_of}
 use Rattle.av_nbt.specs.View.{named_views}
 use Rattle.av_state.specs.BlockState.{BlockState}
 use Rattle.av_section.specs.declared.section.Section.{Section}
-use Rattle.av_document.specs.Chunk.{section_number, is_other, block_states_of, section_rest}
+use Rattle.av_document.specs.Chunk.{section_number, is_other, block_states_of}
 use Rattle.av_chunk.specs.declared.rest.SectionTags.{SectionTags}
 use Rattle.av_chunk.specs.declared.rest.OutsideSection.{OutsideSection}
 use Rattle.av_chunk.specs.declared.sections.Part.TheVariants.{Inside, Outside}
-use Rattle.av_chunk.specs.Views.{tags_of}
-use Rattle.av_chunk.specs.Working.{checked_number, good_number}
-use Rattle.av_chunk.specs.SectionsRead.{AreStates, AreRefused, IsSectionRead, IsSectionRefused, IsOutside}
+use Rattle.av_chunk.specs.Working.{checked_number}
+use Rattle.av_chunk.specs.SectionsRead.{AreStates, AreRefused, IsSectionRead, IsSectionRefused}
 
 good_at : (y : ℤ) (within other : Bool) → IsSome (if within && other then None else Some y) → within ≡ true → other ≡ false
 good_at y true true h e = absurd (true≢false (sym h))

@@ -1,5 +1,5 @@
 -- Compounds of a List, opened one after the other.
-use Rattle.std.proofs.Common.{◌≡◌, ℕ, Bool, true, false, ◌||◌, not, Option, Some, None, List, [], ◌∷◌, ◌++◌, map, refl, sym, ap, ◌∙◌, arith, append_assoc, length, drop, subst}
+use Rattle.std.proofs.Common.{◌≡◌, Bool, true, false, ◌||◌, Option, Some, None, List, [], ◌∷◌, ◌++◌, refl, sym, ap, ◌∙◌, append_assoc}
 use Rattle.std.proofs.lemmas.List.{map-append}
 use Rattle.std.specs.List.{list_any}
 use Rattle.av_types.specs.declared.place.ChunkPos.{ChunkPos}
@@ -14,7 +14,7 @@ use Rattle.std.specs.Ordering.{int_eq}
 use Rattle.av_document.specs.Chunk.{with_number, is_bad_list}
 use Rattle.av_chunk.proofs.Numbers.{lacks-each, is_bad_list-each}
 use Rattle.av_nbt.specs.View.{view, views}
-use Rattle.av_document.specs.Ticks.{is_bad_tick, water_entry, with_entry, with_water, foreign}
+use Rattle.av_document.specs.Ticks.{is_bad_tick, water_entry, with_water, foreign}
 use Rattle.av_chunk.specs.Working.{has_other, tags_in, has_bad_number, checked_number, is_refused, are_bad_items, list_items}
 use Rattle.av_chunk.specs.Views.{opened}
 

@@ -1,5 +1,5 @@
 -- Sections put in their places.
-use Rattle.std.proofs.Common.{◌≡◌, ◌≢◌, ℕ, ◌<◌, ◌+◌, ℤ, Bool, true, false, true≢false, Option, Some, None, List, [], ◌∷◌, ◌++◌, length, get_or, slice_set, slice_get, refl, sym, ap, ◌∙◌, subst, arith, codes, if◌then◌else◌, Decides, get_or-set_same, get_or-set_other, length-set, zero, suc, below_more, option_map, take, append_assoc}
+use Rattle.std.proofs.Common.{◌≡◌, ◌≢◌, ℕ, ◌<◌, ◌+◌, ℤ, Bool, true, false, true≢false, Option, Some, None, List, [], ◌∷◌, ◌++◌, length, get_or, slice_set, slice_get, refl, sym, ap, ◌∙◌, arith, if◌then◌else◌, Decides, get_or-set_same, get_or-set_other, length-set, zero, suc, below_more, option_map, take, append_assoc}
 use Rattle.std.proofs.lemmas.Bool.Decides.{Decides-int_eq}
 use Rattle.std.proofs.lemmas.List.{get_or_append_left}
 use Rattle.std.proofs.Math.Seq.{get_or-append_seam}
@@ -11,23 +11,21 @@ use Rattle.av_types.specs.Faults.{fault_number, lesser}
 use Rattle.av_types.specs.Places.{is_section_of}
 use Rattle.av_types.specs.declared.place.Height.{Height}
 use Rattle.av_types.specs.declared.fault.Fault.{Fault}
-use Rattle.av_types.specs.declared.fault.Fault.TheVariants.{OutOfMemory}
-use Rattle.av_nbt.specs.Nbt.{NamedTag, byte}
-use Rattle.av_nbt.specs.Shape.{or_else}
+use Rattle.av_nbt.specs.Nbt.{NamedTag}
 use Rattle.av_nbt.specs.View.{named_views}
 use Rattle.av_state.specs.BlockState.{BlockState, air}
-use Rattle.av_state.specs.StateList.{with_states, first_states}
+use Rattle.av_state.specs.StateList.{first_states}
 use Rattle.av_section.specs.Section.{number_at, IsFilled}
 use Rattle.av_section.specs.Reading.{OnlyGrows}
 use Rattle.av_section.specs.declared.section.Section.{Section}
-use Rattle.av_document.specs.Chunk.{section_number, is_number, section_faults, section_states, section_rest, block_states_of, block_cell}
+use Rattle.av_document.specs.Chunk.{section_number, section_faults, section_states, section_rest, block_states_of, block_cell}
 use Rattle.av_chunk.specs.declared.rest.SectionTags.{SectionTags}
 use Rattle.av_chunk.specs.declared.rest.OutsideSection.{OutsideSection}
 use Rattle.av_chunk.specs.declared.sections.Part.{Part}
 use Rattle.av_chunk.specs.declared.sections.Part.TheVariants.{Inside, Outside}
 use Rattle.av_chunk.specs.declared.sections.Sections.{Sections}
 use Rattle.av_chunk.specs.Views.{offset_of, first_some, section_or_missing, found_outside}
-use Rattle.av_chunk.specs.SectionsRead.{HasCells, IsInside, IsOutside, IsPart, IsSectionRead, IsSectionRefused, or_missing, if_numbered, last_numbered, SlotHas, SlotIsFilled, HoldSections, AreMissing, IsPlaced, AreRead, AreRefusedBy, AreJudged, FitsHeight}
+use Rattle.av_chunk.specs.SectionsRead.{HasCells, IsInside, IsOutside, IsPart, IsSectionRead, IsSectionRefused, or_missing, if_numbered, last_numbered, SlotHas, SlotIsFilled, HoldSections, AreMissing, IsPlaced, AreRead, AreJudged, FitsHeight}
 use Rattle.av_chunk.proofs.Heights.{offset_below, offset_apart}
 use Rattle.av_chunk.proofs.Judging.{with_states-append, first_kept, first_of, first_lesser, memory_first, memory_before}
 

@@ -1,10 +1,8 @@
 -- Places that are made pending.
-use Rattle.std.specs.Prelude.{◌≡◌, ℕ, List, [], ◌∷◌, length, slice_index_or, Option, Some, None, Bool, true, false, ◌&&◌, ◌||◌, ◌==◌, not, if◌then◌else◌}
+use Rattle.std.specs.Prelude.{◌≡◌, ℕ, List, length, slice_index_or, Option, Some, None, Bool, true, ◌&&◌, ◌||◌, ◌==◌}
 use Rattle.std.specs.List.{list_any}
-use Rattle.std.specs.Ordering.{int_eq}
 use Rattle.av_types.specs.Division.{divided}
-use Rattle.av_types.specs.Places.{is_block_of, is_section_of, place_of}
-use Rattle.av_types.specs.declared.place.Pos.{Pos}
+use Rattle.av_types.specs.Places.{is_block_of, place_of}
 use Rattle.av_types.specs.declared.place.Height.{Height}
 use Rattle.av_types.specs.declared.tick.Entry.{Entry}
 use Rattle.av_section.specs.Section.{number_at, is_pending, SetsPending}

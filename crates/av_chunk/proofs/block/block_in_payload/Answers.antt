@@ -1,4 +1,4 @@
-use Rattle.std.proofs.Common.{◌≡◌, sym, ◌∙◌, rules, option_map}
+use Rattle.std.proofs.Common.{option_map}
 use Rattle.av_types.specs.Places.{chunk_of}
 use Rattle.av_nbt.specs.View.{document}
 use Rattle.av_state.specs.States.{state_of}

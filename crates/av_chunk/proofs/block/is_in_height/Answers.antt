@@ -1,4 +1,4 @@
-use Rattle.std.proofs.Common.{◌≡◌, rules, to_z-of_z, w32, FitsSigned}
+use Rattle.std.proofs.Common.{rules, to_z-of_z, w32, FitsSigned}
 use Rattle.av_chunk.proofs.Heights.{section_test}
 use Rattle.av_chunk.proofs.block.is_in_height.Goals as goal
 

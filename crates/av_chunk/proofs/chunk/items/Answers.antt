@@ -1,4 +1,4 @@
-use Rattle.std.proofs.Common.{◌≡◌, sym, ◌∙◌, ap, false, Some, option_map}
+use Rattle.std.proofs.Common.{◌≡◌, sym, false, Some}
 use Rattle.av_nbt.specs.Shape.{items_of_list, compounds_of, lacks}
 use Rattle.av_nbt.specs.View.{view, views}
 use Rattle.av_chunk.proofs.Rows.{list_compounds, list_opened}

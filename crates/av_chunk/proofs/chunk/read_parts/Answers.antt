@@ -1,10 +1,9 @@
-use Rattle.std.proofs.Common.{◌≡◌, ◌≢◌, ◌++◌, true, false, Some, sym, ◌∙◌, ap, min}
-use Rattle.std.specs.List.{flat_map, list_any}
+use Rattle.std.proofs.Common.{◌≡◌, ◌≢◌, Some, sym, ◌∙◌, ap, min}
+use Rattle.std.specs.List.{flat_map}
 use Rattle.av_types.specs.Faults.{fault_number}
-use Rattle.av_types.specs.declared.fault.Fault.TheVariants.{OutOfMemory, BadTick}
+use Rattle.av_types.specs.declared.fault.Fault.TheVariants.{OutOfMemory}
 use Rattle.av_nbt.specs.View.{views}
 use Rattle.av_state.specs.Table.{states}
-use Rattle.av_document.specs.Ticks.{is_bad_tick}
 use Rattle.av_document.specs.Chunk.{section_faults, section_states}
 use Rattle.av_chunk.specs.SectionsRead.{are_too_many}
 use Rattle.av_chunk.specs.Views.{opened}

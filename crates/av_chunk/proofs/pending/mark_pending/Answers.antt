@@ -1,4 +1,4 @@
-use Rattle.std.proofs.Common.{◌≡◌, ◌<◌, pos, None, length, take, drop, get_or, sym, ◌∙◌, ap, arith, rules, w32, FitsSigned, to_z-of_z, suc, add-one, drop-cons, length-set}
+use Rattle.std.proofs.Common.{◌≡◌, ◌<◌, pos, None, length, take, get_or, sym, ◌∙◌, arith, rules, w32, FitsSigned, to_z-of_z, add-one, drop-cons, length-set}
 use Rattle.std.proofs.Math.Seq.{take-suc}
 use Rattle.av_types.specs.Division.{divided}
 use Rattle.av_types.specs.Places.{place_of}

@@ -1,5 +1,5 @@
-use Rattle.std.proofs.Common.{◌≡◌, ℕ, true, None, length, take, drop, get_or}
-use Rattle.std.specs.List.{list_all, list_any}
+use Rattle.std.proofs.Common.{◌≡◌, true, length, take, drop}
+use Rattle.std.specs.List.{list_all}
 use Rattle.av_chunk.specs.Pending.{is_in_height, MarksPending}
 use Rattle.av_chunk.proofs.pending.mark_pending.Given as goal
 

@@ -1,4 +1,4 @@
-use Rattle.std.proofs.Common.{◌≡◌, ◌∙◌, ap, arith, rules, to_z-of_z, w32, FitsSigned}
+use Rattle.std.proofs.Common.{◌≡◌, ◌∙◌, ap, rules, to_z-of_z, w32, FitsSigned}
 use Rattle.av_types.specs.Places.{is_section_of}
 use Rattle.av_chunk.proofs.Heights.{section_test}
 use Rattle.av_chunk.proofs.sections.is_inside.Goals as goal

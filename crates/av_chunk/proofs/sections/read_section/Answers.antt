@@ -1,13 +1,12 @@
-use Rattle.std.proofs.Common.{◌≡◌, ℤ, ◌∙◌, refl, sym, ap, arith, rules, to_z, of_z, to_z-of_z, w8, FitsSigned, IsSome, Some, true, false, codes}
+use Rattle.std.proofs.Common.{◌≡◌, ◌∙◌, refl, sym, ap, rules, to_z, of_z, to_z-of_z, w8, FitsSigned, IsSome, Some, true, false, codes}
 use Rattle.av_types.specs.Places.{is_section_of}
-use Rattle.av_nbt.specs.Nbt.{NamedTag}
 use Rattle.av_nbt.specs.Place.{emptied}
 use Rattle.av_nbt.specs.Shape.{compound_of}
 use Rattle.av_nbt.specs.View.{view, named_views}
 use Rattle.av_state.specs.Table.{states}
 use Rattle.av_document.specs.Chunk.{section_number, block_states_of}
 use Rattle.av_chunk.specs.Working.{checked_number, tags_in}
-use Rattle.av_chunk.specs.SectionsRead.{AreStates, AreRefused, IsSectionRefused}
+use Rattle.av_chunk.specs.SectionsRead.{AreRefused, IsSectionRefused}
 use Rattle.av_chunk.proofs.OneSection.{good_states, outside_read, inside_read, inside_refused}
 use Rattle.av_chunk.proofs.sections.read_section.Goals as goal
 

@@ -1,6 +1,5 @@
-use Rattle.std.proofs.Common.{◌≡◌, ◌≢◌, List, [], ◌∷◌, ◌++◌, append_assoc, ap, sym, ◌∙◌, rules}
+use Rattle.std.proofs.Common.{◌≡◌, List, ◌∷◌, append_assoc}
 use Rattle.std.specs.Vec.Iter.{into_iter_items}
-use Rattle.av_types.specs.declared.fault.Fault.TheVariants.{OutOfMemory}
 use Rattle.av_nbt.specs.declared.tag.Tag.{Tag}
 use Rattle.av_nbt.specs.View.{view, views}
 use Rattle.av_state.specs.Table.{states}

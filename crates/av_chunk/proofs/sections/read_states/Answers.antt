@@ -1,4 +1,4 @@
-use Rattle.std.proofs.Common.{◌≡◌, sym, ◌∙◌, ap, Some, None, option_map, codes, rules}
+use Rattle.std.proofs.Common.{◌≡◌, sym, Some, option_map, codes, rules}
 use Rattle.std.specs.Option.{option_copied}
 use Rattle.av_nbt.specs.Place.{tag_of}
 use Rattle.av_nbt.specs.View.{view, named_views}

@@ -1,21 +1,18 @@
-use Rattle.std.proofs.Common.{[], ◌≡◌, Ok, Err, true, false, Some, refl, sym, ◌∙◌, ap, rules, codes, option_map}
-use Rattle.av_types.specs.declared.fault.Fault.{Fault}
-use Rattle.av_nbt.specs.Nbt.{NamedTag}
+use Rattle.std.proofs.Common.{[], ◌≡◌, Ok, Err, true, false, refl, sym, ◌∙◌, ap, rules, codes, option_map}
 use Rattle.av_nbt.specs.Place.{tag_of, blank, emptied}
 use Rattle.av_nbt.specs.View.{view, views, named_views, document}
 use Rattle.av_state.specs.Table.{states}
-use Rattle.av_ticks.specs.Ticks.{entries}
-use Rattle.av_document.specs.Chunk.{sections, ticks, first_fault}
+use Rattle.av_document.specs.Chunk.{sections, ticks}
 use Rattle.av_document.proofs.Tags.{tag_of-place_other}
 use Rattle.av_chunk.specs.Working.{admitted}
 use Rattle.av_chunk.specs.Views.{opened}
 use Rattle.av_chunk.specs.Reading.{IsRefusal}
-use Rattle.av_chunk.specs.TicksRead.{parts_judged, AreTicks}
+use Rattle.av_chunk.specs.TicksRead.{AreTicks}
 use Rattle.av_chunk.specs.SectionsRead.{AreRead}
 use Rattle.av_chunk.proofs.Rows.{items_good}
 use Rattle.av_chunk.proofs.WaterIn.{in_height, water_in}
 use Rattle.av_chunk.proofs.Assembly.{loaded, members_in-of}
-use Rattle.av_chunk.proofs.Admitted.{IsAdmitted, admitted_true, admitted_false, admitted_fault, good_sections, good_ticks, good_list, first_loaded}
+use Rattle.av_chunk.proofs.Admitted.{admitted_true, admitted_false, admitted_fault, good_sections, good_ticks, good_list, first_loaded}
 use Rattle.av_chunk.proofs.chunk.Chunk.read.Goals as goal
 
 pub returns-in_err-admitted-clause-err : goal.returns-in_err-admitted-clause-err
