@@ -1,3 +1,4 @@
+-- Working definitions. No public clause cites them.
 -- What a step of the encoder leaves.
 use Rattle.std.specs.Prelude.{◌≡◌, ℕ, List, ◌++◌, Result, Ok, Err}
 use Rattle.av_types.specs.declared.fault.Fault.{Fault}

@@ -1,3 +1,4 @@
+-- Working definitions. No public clause cites them.
 -- Names in the order of their bytes.
 use Rattle.std.specs.Prelude.{◌≡◌, ℕ, ◌+◌, ◌<◌, List, [], length, slice_index_or}
 use Rattle.std.specs.Cmp.Lexicographic.{slice_cmp}

@@ -1,4 +1,5 @@
--- Tags read from left to right, in the steps of the decoder. Its laws are tied to the spelling in proofs/.
+-- Working definitions. No public clause cites them.
+-- Tags read from left to right, in the steps of the decoder, which proofs/ ties to the spelling.
 use Rattle.std.specs.Prelude.{◌≡◌, ℕ, zero, suc, ◌*◌, ◌/◌, ℤ, pos, negsuc, List, [], ◌∷◌, ◌++◌, length, map, take, drop, Option, Some, None, Result, Ok, Err, Bool, true, false, nat_lt, ◌==◌, if◌then◌else◌}
 use Rattle.std.specs.Simd.{first_chunks}
 use Rattle.std.specs.Str.{bytes_eq}

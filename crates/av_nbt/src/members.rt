@@ -23,7 +23,7 @@ fn index_of(tags: &[Named], name: &[u8]) -> Option<usize>
     None
 }
 
-/// The first tag of a name.
+/// The first tag of a name, or `None` where no tag has it. Names are the same where their bytes are.
 pub fn find<'a>(tags: &'a [Named], name: &[u8]) -> Option<&'a Tag>
     ensures { option_map view (option_copied result) ≡ tag_of name.now (named_views tags.now) }
 {
@@ -35,8 +35,8 @@ pub fn find<'a>(tags: &'a [Named], name: &[u8]) -> Option<&'a Tag>
     None
 }
 
-/// Puts a tag where one of its name stood, or last where there was none, and hands out the one that stood there.
-/// Where memory runs out the tags are as before. A tag that takes another's place takes no memory.
+/// Puts a tag where the first of its name stood, or last where there was none, and hands out the one that stood there.
+/// Refuses with `OutOfMemory` alone, and then the tags are as before. A tag that takes another's place takes no memory.
 pub fn exchange(tags: &mut Vec<Named>, named: Named) -> Result<Option<Tag>, Fault>
     ensures placed { OnOk result (IsPlaced (named_view named) (named_views tags.old.items) (named_views tags.new.items)) }
     ensures before { IfOk result (λ t. option_map view t ≡ tag_of (named_view named).name (named_views tags.old.items)) }
@@ -57,8 +57,8 @@ pub fn exchange(tags: &mut Vec<Named>, named: Named) -> Result<Option<Tag>, Faul
     }
 }
 
-/// Puts a tag where one of its name stood, or last where there was none.
-/// Where memory runs out the tags are as before. A tag that takes another's place takes no memory.
+/// Puts a tag where the first of its name stood, or last where there was none.
+/// Refuses with `OutOfMemory` alone, and then the tags are as before. A tag that takes another's place takes no memory.
 pub fn place(tags: &mut Vec<Named>, named: Named) -> Result<(), Fault>
     ensures placed { OnOk result (IsPlaced (named_view named) (named_views tags.old.items) (named_views tags.new.items)) }
     ensures err { OnErr result (tags.new.items ≡ tags.old.items) }

@@ -1,4 +1,4 @@
-//! A tag tree in memory.
+//! A tag tree in memory (<https://minecraft.wiki/w/NBT_format>).
 
 /// The kinds of tags, by their numbers in a file.
 #[derive(Clone, Copy, Debug, PartialEq, Eq)]
@@ -27,9 +27,9 @@ pub enum Tag {
     Short(i16),
     Int(i32),
     Long(i64),
-    /// The 4 bytes of a float, as a number.
+    /// The 4 bytes of a float as a number, the highest first.
     Float(u32),
-    /// The 8 bytes of a double, as a number.
+    /// The 8 bytes of a double as a number, the highest first.
     Double(u64),
     ByteArray(Vec<u8>),
     /// The bytes of a text, which need not be UTF-8.
@@ -131,21 +131,21 @@ impl Tag {
         Tag::Int(number)
     }
 
-    /// A Text of these bytes.
+    /// A Text of these bytes, at most 65,535 for it to have a spelling.
     pub fn text(characters: Vec<u8>) -> Self
         ensures { view result ≡ text characters.items }
     {
         Tag::Text(characters)
     }
 
-    /// A List of tags of that kind.
+    /// A List of tags of that kind. Only one whose tags all are of it has a spelling.
     pub fn list(kind: Kind, items: Vec<Tag>) -> Self
         ensures { view result ≡ list kind (items_of (views items.items)) }
     {
         Tag::List(kind, items)
     }
 
-    /// A Compound.
+    /// A Compound. Only one in which no name stands twice has a spelling.
     pub fn compound(tags: Vec<Named>) -> Self
         ensures { view result ≡ compound (members_of (named_views tags.items)) }
     {
@@ -186,7 +186,7 @@ impl Tag {
         }
     }
 
-    /// The number of a Byte.
+    /// The number of a Byte, or `None` of a tag of another kind.
     pub fn as_byte(&self) -> Option<i8>
         ensures { result ≡ byte_of (view self.now) }
     {
@@ -196,7 +196,7 @@ impl Tag {
         }
     }
 
-    /// The number of an Int.
+    /// The number of an Int, or `None` of a tag of another kind.
     pub fn as_int(&self) -> Option<i32>
         ensures { result ≡ int_of (view self.now) }
     {
@@ -206,7 +206,7 @@ impl Tag {
         }
     }
 
-    /// The bytes of a Text.
+    /// The bytes of a Text, or `None` of a tag of another kind.
     pub fn as_text(&self) -> Option<&[u8]>
         ensures { option_copied result ≡ text_of (view self.now) }
     {
@@ -216,7 +216,7 @@ impl Tag {
         }
     }
 
-    /// The longs of a Long Array.
+    /// The longs of a Long Array, or `None` of a tag of another kind.
     pub fn as_longs(&self) -> Option<&[i64]>
         ensures { option_copied result ≡ longs_of (view self.now) }
     {
@@ -226,7 +226,7 @@ impl Tag {
         }
     }
 
-    /// The tags of a Compound.
+    /// The tags of a Compound, or `None` of a tag of another kind.
     pub fn as_members(&self) -> Option<&[Named]>
         ensures { option_map named_views (option_copied result) ≡ compound_of (view self.now) }
     {
@@ -236,7 +236,7 @@ impl Tag {
         }
     }
 
-    /// The tags of a List.
+    /// The tags of a List, or `None` of a tag of another kind.
     pub fn as_items(&self) -> Option<&[Tag]>
         ensures { option_map views (option_copied result) ≡ items_of_list (view self.now) }
     {
@@ -246,7 +246,7 @@ impl Tag {
         }
     }
 
-    /// The bytes of a Text, taken out of it.
+    /// The bytes of a Text, taken out of it, or `None` of a tag of another kind, which is dropped.
     pub fn into_text(self) -> Option<Vec<u8>>
         ensures { option_map (λ s. s.items) result ≡ text_of (view self) }
     {
@@ -256,7 +256,7 @@ impl Tag {
         }
     }
 
-    /// The longs of a Long Array, taken out of it.
+    /// The longs of a Long Array, taken out of it, or `None` of a tag of another kind, which is dropped.
     pub fn into_longs(self) -> Option<Vec<i64>>
         ensures { option_map (λ zs. zs.items) result ≡ longs_of (view self) }
     {
@@ -266,7 +266,7 @@ impl Tag {
         }
     }
 
-    /// The tags of a Compound, taken out of it.
+    /// The tags of a Compound, taken out of it, or `None` of a tag of another kind, which is dropped.
     pub fn into_members(self) -> Option<Vec<Named>>
         ensures { option_map (λ ms. named_views ms.items) result ≡ compound_of (view self) }
     {
@@ -276,7 +276,7 @@ impl Tag {
         }
     }
 
-    /// The tags of a List, taken out of it.
+    /// The tags of a List, taken out of it, or `None` of a tag of another kind, which is dropped.
     pub fn into_items(self) -> Option<Vec<Tag>>
         ensures { option_map (λ ts. views ts.items) result ≡ items_of_list (view self) }
     {

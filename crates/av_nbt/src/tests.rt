@@ -169,6 +169,101 @@ fn tags_by_name(rt: HostRuntime) -> Result<(), Fail> {
 }
 
 #[test]
+fn an_empty_list_of_a_negative_length(rt: HostRuntime) -> Result<(), Fail> {
+    let bytes = [10, 0, 0, 9, 0, 1, 97, 0, 255, 255, 255, 255, 0];
+    let root = decode(rt.alloc(), &bytes)?;
+    assert_eq!(rt; root.name.len(), 0);
+    assert_eq!(rt; root.tags.len(), 1);
+    assert_eq!(rt;
+        find(&root.tags, b"a"),
+        Some(&Tag::List(Kind::End, Vec::new(rt.alloc())))
+    );
+    Ok(())
+}
+
+/// Numbers and names of kinds, from the table of minecraft.wiki, "NBT format".
+#[test]
+fn kinds_by_number(rt: HostRuntime) {
+    let kinds = [
+        Kind::End,
+        Kind::Byte,
+        Kind::Short,
+        Kind::Int,
+        Kind::Long,
+        Kind::Float,
+        Kind::Double,
+        Kind::ByteArray,
+        Kind::Text,
+        Kind::List,
+        Kind::Compound,
+        Kind::IntArray,
+        Kind::LongArray,
+    ];
+    for number in 0..13u8 {
+        let kind = kinds[usize::from(number)];
+        assert_eq!(rt; kind.number(), number);
+        assert_eq!(rt; Kind::from_number(number), Some(kind));
+        assert_eq!(rt; kind.is_end(), number == 0);
+        assert_eq!(rt; kind.is_compound(), number == 10);
+    }
+    assert_eq!(rt; Kind::from_number(13), None);
+    assert_eq!(rt; Kind::from_number(255), None);
+}
+
+#[test]
+fn tags_that_are_made(rt: HostRuntime) -> Result<(), Fail> {
+    let alloc = rt.alloc();
+    assert_eq!(rt; Tag::byte(-7), Tag::Byte(-7));
+    assert_eq!(rt; Tag::int(70_000), Tag::Int(70_000));
+    let text = Tag::text(Vec::from_slice(alloc, b"stone")?);
+    assert_eq!(rt; text.as_text(), Some(b"stone".as_slice()));
+    let bytes = Tag::byte_array(Vec::from_slice(alloc, &[1, 255])?);
+    assert_eq!(rt; bytes.kind(), Kind::ByteArray);
+    assert_eq!(rt; bytes.as_text(), None);
+    let longs = Tag::long_array(Vec::from_slice(alloc, &[-1, 2])?);
+    assert_eq!(rt; longs.as_longs(), Some([-1, 2].as_slice()));
+    let items = vec![in alloc; Tag::byte(1), Tag::byte(2)]?;
+    let list = Tag::list(Kind::Byte, items);
+    assert_eq!(rt; list.kind(), Kind::List);
+    assert_eq!(rt;
+        list.as_items(),
+        Some([Tag::Byte(1), Tag::Byte(2)].as_slice())
+    );
+    let compound = Tag::compound(vec![in alloc; byte(alloc, b'a', 1)?]?);
+    assert_eq!(rt;
+        compound.as_members(),
+        Some([byte(alloc, b'a', 1)?].as_slice())
+    );
+    assert_eq!(rt; compound.as_items(), None);
+    Ok(())
+}
+
+#[test]
+fn values_that_are_taken_out(rt: HostRuntime) -> Result<(), Fail> {
+    let alloc = rt.alloc();
+    let text = Tag::text(Vec::from_slice(alloc, b"air")?);
+    assert_eq!(rt; text.into_text(), Some(Vec::from_slice(alloc, b"air")?));
+    assert_eq!(rt; Tag::byte(1).into_text(), None);
+    let longs = Tag::long_array(Vec::from_slice(alloc, &[3])?);
+    assert_eq!(rt; longs.into_longs(), Some(Vec::from_slice(alloc, &[3])?));
+    let items = vec![in alloc; Tag::int(4)]?;
+    assert_eq!(rt;
+        Tag::list(Kind::Int, items).into_items(),
+        Some(vec![in alloc; Tag::int(4)]?)
+    );
+    let tags = vec![in alloc; byte(alloc, b'x', 5)?]?;
+    assert_eq!(rt;
+        Tag::compound(tags).into_members(),
+        Some(vec![in alloc; byte(alloc, b'x', 5)?]?)
+    );
+    let named = byte(alloc, b'y', 6)?;
+    assert_eq!(rt; named.name(), b"y".as_slice());
+    assert_eq!(rt; named.tag(), &Tag::Byte(6));
+    assert_eq!(rt; named.into_tag(), Tag::Byte(6));
+    Ok(())
+}
+
+#[test]
 fn values_by_kind(rt: HostRuntime) -> Result<(), Fail> {
     let alloc = rt.alloc();
     let root = decode(alloc, &ALL_KINDS)?;

@@ -173,6 +173,10 @@ fn write_root(out: &mut Vec<u8>, root: &Root) -> Result<(), Fault>
 
 /// The written spelling of a document that has one: of its spellings, the one in which empty Lists have length 0.
 /// Their kinds stay. The only fault is `OutOfMemory`, where a growth was refused.
+///
+/// A document has a spelling where each List's tags are of its kind, no name stands twice in a Compound, names and
+/// Texts have at most 65,535 bytes, Lists and arrays fewer than 2^31 tags or numbers, and Lists and Compounds nest at
+/// most 512 deep, the root's own Compound among them. What `decode` answered has one.
 pub fn encode(alloc: Global, root: &Root) -> Result<Vec<u8>, Fault>
     requires { IsWellFormed (document root.now) }
     ensures written { IfOk result (λ bytes. bytes.items ≡ written_document (document root.now)) }

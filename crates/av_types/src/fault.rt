@@ -62,6 +62,45 @@ pub enum Fault {
     Broken,
 }
 
+impl Fault {
+    ghost use Rattle.std.specs.Prelude.{◌≡◌};
+    ghost use Rattle.av_types.specs.Faults.{fault_number};
+
+    /// The fault's number, from 1 to 26. Of several faults of one thing the one with the least number is answered.
+    pub fn number(&self) -> u8
+        ensures { result ≡ fault_number self.now }
+    {
+        match self {
+            Fault::OutOfMemory => 1,
+            Fault::RegionRange => 2,
+            Fault::RepeatedRegion => 3,
+            Fault::ShortHeader => 4,
+            Fault::BadLocation => 5,
+            Fault::TruncatedChunk => 6,
+            Fault::BadLength => 7,
+            Fault::ExternalChunk => 8,
+            Fault::Compression(_) => 9,
+            Fault::BadNbt => 10,
+            Fault::OldLayout => 11,
+            Fault::BadChunk => 12,
+            Fault::WrongPlace => 13,
+            Fault::BadPalette => 14,
+            Fault::BadPacked => 15,
+            Fault::BadTick => 16,
+            Fault::BadWaterLevel => 17,
+            Fault::TooManyStates => 18,
+            Fault::BadTable => 19,
+            Fault::BadEdit(_) => 20,
+            Fault::EditTick(_) => 21,
+            Fault::EditOutside(_) => 22,
+            Fault::BadCount => 23,
+            Fault::ChunkTooLarge(_) => 24,
+            Fault::Device(_) => 25,
+            Fault::Broken => 26,
+        }
+    }
+}
+
 impl fmt::Display for Fault {
     ghost use Rattle.std.specs.Prelude.{Some};
     ghost use Rattle.av_types.specs.Faults.{fault_text};

@@ -6,7 +6,8 @@
 ghost use Rattle.std.specs.Prelude.{◌≡◌, ◌<◌, ◌≤◌, ◌+◌, ◌*◌, ◌≤ℤ◌, ◌<ℤ◌, ◌+ℤ◌, ◌*ℤ◌, pos, negsuc, ℕ, IsTrue, ◌↔◌};
 ghost use Rattle.av_types.specs.Division.{divided, remainder};
 
-/// The position of a block, in blocks.
+/// The position of a block, in blocks: `x` grows to the east, `y` upwards, `z` to the south
+/// (<https://minecraft.wiki/w/Coordinates>).
 #[derive(Clone, Copy, Debug, Default, PartialEq, Eq)]
 pub struct Pos {
     pub x: i32,
@@ -43,7 +44,8 @@ pub struct Place {
     ghost in_range: { index < 4096 },
 }
 
-/// The range of section numbers that the world has, from `min_section` on.
+/// The range of section numbers that a world has, from `min_section` on. Section `n` has the blocks with `y` from
+/// `16 * n` to `16 * n + 15`.
 #[derive(Clone, Copy, Debug, PartialEq, Eq)]
 pub struct Height {
     /// The lowest section's number, from -64 to 63.
@@ -157,14 +159,15 @@ impl ChunkPos {
 impl RegionPos {
     ghost use Rattle.av_types.specs.Places.{IsInLimits, chunk_at};
 
-    /// Whether both coordinates lie from -60,000 to 60,000.
+    /// Whether both coordinates lie from -60,000 to 60,000, as those of every region that this project accepts.
+    /// Then no block of it has a coordinate beyond an `i32`.
     pub fn is_in_limits(self) -> bool
         ensures { IsTrue result ↔ IsInLimits self }
     {
         -60000 <= self.x && self.x <= 60000 && -60000 <= self.z && self.z <= 60000
     }
 
-    /// The chunk at an index of the region's header.
+    /// The chunk at an index of the region's header, 0 to 1,023. The region is within the limits.
     pub fn chunk_at(self, index: usize) -> ChunkPos
         requires limits { IsInLimits self }
         requires index { index < 1024 }
@@ -178,7 +181,7 @@ impl RegionPos {
 }
 
 impl Place {
-    /// The place of an index, if that is below 4,096.
+    /// The place of an index, which is below 4,096.
     pub fn new(index: u16) -> Self
         requires { index < 4096 }
         ensures { result.index ≡ index }
@@ -197,7 +200,7 @@ impl Height {
         self.min_section <= y && y < self.min_section + self.sections as i32
     }
 
-    /// Whether a block at that y is in the height.
+    /// Whether a block at that y, in blocks, is in the height.
     pub fn has_block(self, y: i32) -> bool
         ensures { IsTrue result ↔ IsBlockOf self y }
     {

@@ -41,6 +41,19 @@ fn the_game_is_384_blocks_high(rt: HostRuntime) {
 }
 
 #[test]
+fn another_height(rt: HostRuntime) {
+    let height = Height {
+        min_section: 0,
+        sections: 16,
+    };
+    for (y, inside) in [(-1, false), (0, true), (255, true), (256, false)] {
+        assert_eq!(rt; height.has_block(y), inside, "at {y}");
+    }
+    assert!(rt; !height.has_section(-1));
+    assert!(rt; height.has_section(15));
+}
+
+#[test]
 fn places_and_water(rt: HostRuntime) {
     assert_eq!(rt; crate::Place::new(4095).index, 4095);
     let cases = [
@@ -59,14 +72,42 @@ fn places_and_water(rt: HostRuntime) {
 
 #[test]
 fn faults_print_their_lines(rt: HostRuntime) -> Result<(), Fail> {
-    let line = Fault::Compression(2).to_string(rt.alloc())?;
-    assert_eq!(rt; line.as_str(), "fault 09: Compression 2");
-    let line = Fault::ChunkTooLarge(ChunkPos { x: -3, z: 40 }).to_string(rt.alloc())?;
-    assert_eq!(rt; line.as_str(), "fault 24: ChunkTooLarge -3 40");
-    let name = String::from_str(rt.alloc(), "r.0.0.mca")?;
-    let line = Fault::Device(name).to_string(rt.alloc())?;
-    assert_eq!(rt; line.as_str(), "fault 25: Device r.0.0.mca");
-    let line = Fault::EditOutside(17).to_string(rt.alloc())?;
-    assert_eq!(rt; line.as_str(), "fault 22: EditOutside 17");
+    let alloc = rt.alloc();
+    let place = ChunkPos { x: -3, z: 40 };
+    let device = String::from_str(alloc, "r.0.0.mca")?;
+    let lines = [
+        (Fault::OutOfMemory, "fault 01: OutOfMemory"),
+        (Fault::RegionRange, "fault 02: RegionRange"),
+        (Fault::RepeatedRegion, "fault 03: RepeatedRegion"),
+        (Fault::ShortHeader, "fault 04: ShortHeader"),
+        (Fault::BadLocation, "fault 05: BadLocation"),
+        (Fault::TruncatedChunk, "fault 06: TruncatedChunk"),
+        (Fault::BadLength, "fault 07: BadLength"),
+        (Fault::ExternalChunk, "fault 08: ExternalChunk"),
+        (Fault::Compression(2), "fault 09: Compression 2"),
+        (Fault::BadNbt, "fault 10: BadNbt"),
+        (Fault::OldLayout, "fault 11: OldLayout"),
+        (Fault::BadChunk, "fault 12: BadChunk"),
+        (Fault::WrongPlace, "fault 13: WrongPlace"),
+        (Fault::BadPalette, "fault 14: BadPalette"),
+        (Fault::BadPacked, "fault 15: BadPacked"),
+        (Fault::BadTick, "fault 16: BadTick"),
+        (Fault::BadWaterLevel, "fault 17: BadWaterLevel"),
+        (Fault::TooManyStates, "fault 18: TooManyStates"),
+        (Fault::BadTable, "fault 19: BadTable"),
+        (Fault::BadEdit(3), "fault 20: BadEdit 3"),
+        (Fault::EditTick(0), "fault 21: EditTick 0"),
+        (Fault::EditOutside(17), "fault 22: EditOutside 17"),
+        (Fault::BadCount, "fault 23: BadCount"),
+        (Fault::ChunkTooLarge(place), "fault 24: ChunkTooLarge -3 40"),
+        (Fault::Device(device), "fault 25: Device r.0.0.mca"),
+        (Fault::Broken, "fault 26: Broken"),
+    ];
+    let mut number = 0;
+    for (fault, line) in lines {
+        number += 1;
+        assert_eq!(rt; fault.number(), number);
+        assert_eq!(rt; fault.to_string(alloc)?.as_str(), line);
+    }
     Ok(())
 }

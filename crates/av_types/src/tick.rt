@@ -1,11 +1,11 @@
-//! Scheduled ticks (<https://minecraft.wiki/w/Tick#Scheduled_tick>).
+//! Scheduled ticks (<https://minecraft.wiki/w/Tick#Scheduled_tick>). Times are in ticks of the game, 20 a second.
 use crate::place::Pos;
 
 /// A scheduled tick of water: a block that is to be turned.
 #[derive(Clone, Copy, Debug, Default, PartialEq, Eq)]
 pub struct Entry {
     pub pos: Pos,
-    /// The tick in which it is due. One that is already past is overdue.
+    /// The tick in which it is due, counted from the moment at which the world was saved; 0 and below is overdue.
     pub due: i64,
     /// Among entries that are due at the same time, a lower priority goes first.
     pub priority: i32,
