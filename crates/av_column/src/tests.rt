@@ -26,11 +26,15 @@ fn bytes(alloc: Global, text: &str) -> Result<Vec<u8>, Fault> {
     Ok(Vec::from_slice(alloc, text.as_bytes())?)
 }
 
+fn state(alloc: Global, name: &str, properties: Vec<Property>) -> Result<State, Fault> {
+    State::new(bytes(alloc, name)?, properties)?.ok_or(Fault::BadPalette)
+}
+
 /// The kinds of air, water, stone and a soaked slab.
 fn kinds(alloc: Global, rt: &impl Abort) -> Result<Kinds, Fault> {
     let rules = Rules::read(alloc, b"version = 2")?;
     let mut table = StateTable::new(alloc)?;
-    let stone = State::new(bytes(alloc, "minecraft:stone")?, Vec::new(alloc))?;
+    let stone = state(alloc, "minecraft:stone", Vec::new(alloc))?;
     let mut properties = Vec::new(alloc);
     for (key, value) in [("type", "bottom"), ("waterlogged", "true")] {
         properties.push(Property {
@@ -38,7 +42,7 @@ fn kinds(alloc: Global, rt: &impl Abort) -> Result<Kinds, Fault> {
             value: bytes(alloc, value)?,
         })?;
     }
-    let slab = State::new(bytes(alloc, "minecraft:oak_slab")?, properties)?;
+    let slab = state(alloc, "minecraft:oak_slab", properties)?;
     assert_eq!(rt; table.intern(&stone), Ok(STONE));
     assert_eq!(rt; table.intern(&slab), Ok(SOAKED_SLAB));
     Kinds::new(alloc, table, &rules)

@@ -13,7 +13,7 @@ fn state(alloc: Global, name: &str, pairs: &[(&str, &str)]) -> Result<State, Fau
             value: Vec::from_slice(alloc, value.as_bytes())?,
         })?;
     }
-    State::new(Vec::from_slice(alloc, name.as_bytes())?, properties)
+    State::new(Vec::from_slice(alloc, name.as_bytes())?, properties)?.ok_or(Fault::BadPalette)
 }
 
 fn row(opens: bool, floor: bool, opacity: u8, emission: u8) -> Row {

@@ -2,3 +2,4 @@ pub mod Lists
 pub mod Numbering
 pub mod Keys
 pub mod Ordered
+pub mod Storable

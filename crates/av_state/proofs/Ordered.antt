@@ -8,7 +8,7 @@ use Rattle.std.specs.Ordering.{is_lt}
 use Rattle.std.proofs.lemmas.Bool.{and_parts, false≢true}
 use Rattle.std.proofs.lemmas.Cmp.{nat_list_cmp_total}
 use Rattle.std.proofs.lemmas.List.Sorted.{sorted_far, ranks_by}
-use Rattle.av_state.specs.BlockState.{Property, insert_property, in_order, starts_at_or_above, is_in_order}
+use Rattle.av_state.specs.BlockState.{Property, insert_property, in_order, starts_at_or_above, is_in_order, starts_above, keys_rise}
 
 flip_true : {b : Bool} → b ≡ false → not b ≡ true
 flip_true e = ap not e
@@ -200,3 +200,14 @@ in_order-again [] h = refl
 in_order-again (p ∷ ps) h =
     let (first, more) = and_parts (starts_at_or_above p.key ps) (is_in_order ps) h in
     ap (insert_property p) (in_order-again ps more) ∙ keep_step p ps first
+
+above_step : (k : List ℕ) (ps : List Property) → starts_above k ps ≡ true → starts_at_or_above k ps ≡ true
+above_step k [] h = refl
+above_step k (p ∷ ps) h = ap (λ b. cond b false true) ((key_below-weak (λ (x : Property). x)).one_way (record { key = k; value = [] }) p h)
+
+-- keys that rise are in order
+pub rise-in_order : (ps : List Property) → keys_rise ps ≡ true → is_in_order ps ≡ true
+rise-in_order [] h = refl
+rise-in_order (p ∷ ps) h =
+    let (first, more) = and_parts (starts_above p.key ps) (keys_rise ps) h in
+    both (above_step p.key ps first) (rise-in_order ps more)

@@ -1,5 +1,6 @@
 -- Block states, water among them (minecraft.wiki, "Block states", "Chunk format" and "Water").
-use Rattle.std.specs.Prelude.{ℕ, ◌-◌, List, [], ◌∷◌, Option, Some, None, Bool, true, false, ◌&&◌, if◌then◌else◌, option_map, codes, nat_lt, ◌==◌, get_or, suc}
+use Rattle.std.specs.Prelude.{ℕ, ◌-◌, List, [], ◌∷◌, Option, Some, None, Bool, true, false, ◌&&◌, if◌then◌else◌, option_map, codes, nat_lt, ◌==◌, get_or, suc, length}
+use Rattle.std.specs.List.{list_all}
 use Rattle.std.specs.Str.{bytes_eq}
 use Rattle.std.specs.Cmp.Lexicographic.{slice_cmp}
 use Rattle.std.specs.Ordering.{is_lt, nat_cmp}
@@ -56,6 +57,30 @@ starts_at_or_above k (p ∷ ps) = if is_lt (slice_cmp nat_cmp p.key k) then fals
 abbrev pub is_in_order : List Property → Bool
 is_in_order [] = true
 is_in_order (p ∷ ps) = starts_at_or_above p.key ps && is_in_order ps
+
+-- the text's length fits the two bytes that a file has for it
+abbrev pub is_short : List ℕ → Bool
+is_short s = nat_lt (length s) 65536
+
+abbrev pub is_short_property : Property → Bool
+is_short_property p = is_short p.key && is_short p.value
+
+-- the first key is above this one
+abbrev pub starts_above : List ℕ → List Property → Bool
+starts_above k [] = true
+starts_above k (p ∷ ps) = is_lt (slice_cmp nat_cmp k p.key)
+
+-- each key is above the one before it, so that none is there twice
+abbrev pub keys_rise : List Property → Bool
+keys_rise [] = true
+keys_rise (p ∷ ps) = starts_above p.key ps && keys_rise ps
+
+-- A state that a file can hold: its texts are of at most 65,535 bytes, and no key is there twice.
+abbrev pub is_storable : BlockState → Bool
+is_storable s = is_short s.name && list_all is_short_property s.properties && keys_rise s.properties
+
+abbrev pub storable : BlockState → Option BlockState
+storable s = if is_storable s then Some s else None
 
 -- the value of a key
 abbrev pub value_of : List ℕ → List Property → Option (List ℕ)

@@ -1,9 +1,10 @@
 //! Block states: a name and properties (<https://minecraft.wiki/w/Block_states>).
 //!
 //! Texts are kept as bytes, since those of a file need not be UTF-8.
-ghost use Rattle.std.specs.Prelude.{◌≡◌, ◌≢◌, ◌↔◌, ◌<◌, ◌≤◌, IsTrue, IfOk, IfErr, IfSome, OnOk, ◌++◌, option_map, is_some, map, Some, None};
+ghost use Rattle.std.specs.Prelude.{◌≡◌, ◌≢◌, ◌↔◌, ◌<◌, ◌≤◌, IsTrue, IfOk, IfErr, IfSome, OnOk, ◌++◌, ◌&&◌, option_map, is_some, map, Some, None};
+ghost use Rattle.std.specs.List.{list_all};
 ghost use Rattle.av_types.specs.declared.fault.Fault.TheVariants.{OutOfMemory, BadWaterLevel};
-ghost use Rattle.av_state.specs.BlockState.{is_in_order, in_order, value_of, air_name, water_name, index_in, capped_level, air, water};
+ghost use Rattle.av_state.specs.BlockState.{is_short, is_short_property, starts_above, keys_rise, is_storable, storable, in_order, value_of, air_name, water_name, index_in, capped_level, air, water};
 ghost use Rattle.av_state.specs.Views.{property_of, properties_of};
 ghost use Rattle.av_state.specs.Words.{property_text, more_text};
 
@@ -42,12 +43,13 @@ impl Clone for Property {
     }
 }
 
-/// A block state: a name, and properties in the byte order of their keys.
+/// A block state: a name, and properties in the byte order of their keys, none of them twice. Each text is of at most
+/// 65,535 bytes, as those of a file are.
 #[derive(Debug, Drop, PartialEq, Eq)]
 pub struct State {
     pub name: Vec<u8>,
     pub properties: Vec<Property>,
-    pub ghost ordered: { IsTrue (is_in_order (properties_of properties.items)) },
+    pub ghost storable: { IsTrue (is_short name.items && list_all is_short_property (properties_of properties.items) && keys_rise (properties_of properties.items)) },
 }
 
 const AIR: &[u8] = b"minecraft:air";
@@ -61,6 +63,9 @@ const LEVEL_TEXTS: [&[u8]; 16] = [
     b"0", b"1", b"2", b"3", b"4", b"5", b"6", b"7", b"8", b"9", b"10", b"11", b"12", b"13", b"14",
     b"15",
 ];
+
+/// The longest text of a state, in bytes: a file has two bytes for a text's length.
+const LONGEST_TEXT: usize = 65535;
 
 /// What the form that a state takes when it is read is.
 #[derive(Clone, Copy)]
@@ -80,16 +85,20 @@ impl State {
     ghost use Rattle.av_state.specs.Form.{IsForm};
     ghost use Rattle.std.specs.Str.{bytes_eq};
 
-    /// The state of a name and properties in any order, no key twice.
-    pub fn new(name: Vec<u8>, mut properties: Vec<Property>) -> Result<State, Fault>
-        ensures ok { IfOk result (λ s. state_of s ≡ record {
+    /// The state of a name and properties in any order. None where a text is longer than 65,535 bytes or a key is there
+    /// twice, as in no file. Refuses with `OutOfMemory` alone.
+    pub fn new(name: Vec<u8>, mut properties: Vec<Property>) -> Result<Option<State>, Fault>
+        ensures ok { IfOk result (λ s. option_map state_of s ≡ storable (record {
           name = name.items;
           properties = in_order (properties_of properties.items);
-        }) }
+        })) }
         ensures memory { IfErr result (λ e. e ≡ OutOfMemory) }
     {
         properties.sort_by(|p, q| p.key.cmp(&q.key))?;
-        Ok(State { name, properties })
+        if !is_storable(name.as_slice(), properties.as_slice()) {
+            return Ok(None);
+        }
+        Ok(Some(State { name, properties }))
     }
 
     /// The value of a property.
@@ -256,6 +265,56 @@ impl Clone for State {
             properties: self.properties.clone()?,
         })
     }
+}
+
+/// Whether a file has room for a text's length.
+fn is_short(text: &[u8]) -> bool
+    ensures { result ≡ is_short text.now }
+{
+    text.len() <= LONGEST_TEXT
+}
+
+/// Whether each text is short.
+fn are_short(properties: &[Property]) -> bool
+    ensures { result ≡ list_all is_short_property (properties_of properties.now) }
+{
+    for property in properties {
+        if !is_short(property.key.as_slice()) || !is_short(property.value.as_slice()) {
+            return false;
+        }
+    }
+    true
+}
+
+/// Whether the first key is above this one.
+fn starts_above(key: &[u8], properties: &[Property]) -> bool
+    ensures { result ≡ starts_above key.now (properties_of properties.now) }
+{
+    match properties.first() {
+        None => true,
+        Some(first) => key.cmp(first.key.as_slice()).is_lt(),
+    }
+}
+
+/// Whether each key is above the one before it.
+fn keys_rise(properties: &[Property]) -> bool
+    ensures { result ≡ keys_rise (properties_of properties.now) }
+{
+    let mut rest = properties;
+    while let Some((first, more)) = rest.split_first() {
+        if !starts_above(first.key.as_slice(), more) {
+            return false;
+        }
+        rest = more;
+    }
+    true
+}
+
+/// Whether a name and properties in order are a state that a file can hold.
+fn is_storable(name: &[u8], properties: &[Property]) -> bool
+    ensures { result ≡ is_storable (record { name = name.now; properties = properties_of properties.now }) }
+{
+    is_short(name) && are_short(properties) && keys_rise(properties)
 }
 
 /// The place of a text among texts.

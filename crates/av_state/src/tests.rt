@@ -12,7 +12,7 @@ fn state(alloc: Global, name: &str, pairs: &[(&str, &str)]) -> Result<State, Fau
             value: Vec::from_slice(alloc, value.as_bytes())?,
         })?;
     }
-    State::new(Vec::from_slice(alloc, name.as_bytes())?, properties)
+    State::new(Vec::from_slice(alloc, name.as_bytes())?, properties)?.ok_or(Fault::BadPalette)
 }
 
 #[test]
@@ -127,5 +127,64 @@ fn takes_65535_states(rt: HostRuntime) -> Result<(), Fail> {
         assert_eq!(rt; block.name.as_slice(), name.as_bytes());
         assert_eq!(rt; table.number_of(block), Some(number));
     }
+    Ok(())
+}
+
+/// A text of so many bytes.
+fn long_text(alloc: Global, length: usize) -> Result<Vec<u8>, Fault> {
+    Ok(vec![in alloc; b'a'; length]?)
+}
+
+/// One property.
+fn one(key: Vec<u8>, value: Vec<u8>, alloc: Global) -> Result<Vec<Property>, Fault> {
+    let mut properties = Vec::new(alloc);
+    properties.push(Property { key, value })?;
+    Ok(properties)
+}
+
+#[test]
+fn texts_are_of_65535_bytes_at_most(rt: HostRuntime) -> Result<(), Fail> {
+    let alloc = rt.alloc();
+    for (length, fits) in [(65535, true), (65536, false)] {
+        let named = State::new(long_text(alloc, length)?, Vec::new(alloc))?;
+        assert_eq!(rt; named.is_some(), fits, "a name of {length} bytes");
+        let keyed = one(long_text(alloc, length)?, long_text(alloc, 1)?, alloc)?;
+        let keyed = State::new(long_text(alloc, 1)?, keyed)?;
+        assert_eq!(rt; keyed.is_some(), fits, "a key of {length} bytes");
+        let valued = one(long_text(alloc, 1)?, long_text(alloc, length)?, alloc)?;
+        let valued = State::new(long_text(alloc, 1)?, valued)?;
+        assert_eq!(rt; valued.is_some(), fits, "a value of {length} bytes");
+    }
+    Ok(())
+}
+
+#[test]
+fn no_key_comes_twice(rt: HostRuntime) -> Result<(), Fail> {
+    let alloc = rt.alloc();
+    let pairs = [("lit", "true"), ("facing", "north"), ("lit", "false")];
+    assert_eq!(rt;
+        state(alloc, "minecraft:furnace", &pairs),
+        Err(Fault::BadPalette)
+    );
+    assert_eq!(rt;
+        state(alloc, "minecraft:furnace", &pairs[..2]).is_ok(),
+        true
+    );
+    Ok(())
+}
+
+#[test]
+fn a_copy_is_the_same_state(rt: HostRuntime) -> Result<(), Fail> {
+    let alloc = rt.alloc();
+    let furnace = state(
+        alloc,
+        "minecraft:furnace",
+        &[("lit", "true"), ("facing", "north")],
+    )?;
+    let copy = furnace.clone()?;
+    assert_eq!(rt;
+        copy.text(alloc)?.as_slice(),
+        b"minecraft:furnace[facing=north,lit=true]".as_slice()
+    );
     Ok(())
 }
