@@ -11,3 +11,5 @@ pub mod PlaceBits
 pub mod Refusals
 pub mod Written
 pub mod WrittenStates
+pub mod InOrder
+pub mod StoredEntries

@@ -9,3 +9,4 @@ pub mod Distinct
 pub mod Section
 pub mod Indexed
 pub mod Reading
+pub mod Law

@@ -6,7 +6,7 @@ use Rattle.av_nbt.specs.declared.tag.Kind.TheVariants as kind
 use Rattle.av_nbt.specs.Nbt.{Nbt, text, list, compound, NamedTag, members_of, items_of}
 use Rattle.av_nbt.specs.Place.{tag_of}
 use Rattle.av_nbt.specs.Shape.{◌>>=◌, text_of, compound_of, items_of_list, each}
-use Rattle.av_state.specs.BlockState.{BlockState, Property, in_order}
+use Rattle.av_state.specs.BlockState.{BlockState, Property, in_order, storable}
 
 abbrev pub name_key : List ℕ
 name_key = codes "Name"
@@ -29,13 +29,17 @@ properties_in (Some t) = do
 abbrev pub is_of_entry : NamedTag → Bool
 is_of_entry m = bytes_eq name_key m.name || bytes_eq properties_key m.name
 
--- the state of an entry's tags: a `Name`, perhaps `Properties`, and nothing else
-abbrev pub written_state : List NamedTag → Option BlockState
-written_state tags = do
+-- what an entry's tags describe: a `Name`, perhaps `Properties`, and nothing else
+abbrev pub described_state : List NamedTag → Option BlockState
+described_state tags = do
   t ← tag_of name_key tags
   name ← text_of t
   properties ← properties_in (tag_of properties_key tags)
   if list_all is_of_entry tags then Some (record { name = name; properties = properties }) else None
+
+-- the state of an entry's tags: what they describe, with texts of at most 65,535 bytes and no key twice, as in every tag that has a spelling
+abbrev pub written_state : List NamedTag → Option BlockState
+written_state tags = described_state tags >>= storable
 
 -- the state of an entry, which is a Compound
 abbrev pub state_in : Nbt → Option BlockState

@@ -82,7 +82,8 @@ fn are_of_entry(tags: &[Named]) -> bool
     true
 }
 
-/// The state of a palette entry's tags, as it is written there.
+/// The state of a palette entry's tags, as it is written there. Refuses tags that describe none with `BadPalette`, and
+/// so a text of more than 65,535 bytes or a key that is there twice, as no file has.
 fn entry_state(alloc: Global, tags: &[Named]) -> Result<State, Fault>
     ensures ok { IfOk result (λ s. written_state (named_views tags.now) ≡ Some (state_of s)) }
     ensures err { IfErr result (IsNoPalette (written_state (named_views tags.now))) }
@@ -97,7 +98,9 @@ fn entry_state(alloc: Global, tags: &[Named]) -> Result<State, Fault>
     if !are_of_entry(tags) {
         return Err(Fault::BadPalette);
     }
-    let state = State::new(Vec::from_slice(alloc, name)?, properties)?;
+    let Some(state) = State::new(Vec::from_slice(alloc, name)?, properties)? else {
+        return Err(Fault::BadPalette);
+    };
     Ok(state)
 }
 
