@@ -9,10 +9,16 @@ trap 'rm -rf "$work"' EXIT
 
 "$top/scripts/make_samples.py" --bench "$work/r.0.0.mca"
 rustc --edition 2024 -O "$top/bench/plain/main.rs" -o "$work/plain"
-(cd "$top/crates/av_bench" && rt run </dev/null >"$work/log" 2>&1) || true
 proved=$top/crates/av_bench/out/av_bench
-[ -x "$proved" ] || { cat "$work/log"; exit 1; }
-"$top/anvilwater" >/dev/null 2>&1 || true
+log=$(cd "$top/crates/av_bench" && rt run </dev/null 2>&1) || true
+case $log in
+  *"rt: running out/av_bench"*) ;;
+  *)
+    printf '%s\n' "$log" >&2
+    exit 1
+    ;;
+esac
+"$top/anvilwater" block "$top/samples/r.0.0.mca" 4 67 15 >/dev/null
 
 measure() { "$top/bench/measure.py" "$@"; }
 measure block "$((8 * times))" "$top/crates/av_main/out/av_main" block "$work/r.0.0.mca" 300 20 300 -- "$work/plain" block "$work/r.0.0.mca" 300 20 300

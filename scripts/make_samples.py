@@ -1,7 +1,7 @@
 #!/usr/bin/env python3
 """Makes region files that stand for what a Minecraft 1.18.2 server writes.
 
-    scripts/make_samples.py                 samples/ and the region of av_main's stored run
+    scripts/make_samples.py                 samples/ and the regions of the stored runs of av_main and av_bench
     scripts/make_samples.py --bench FILE    a full region of 1,024 chunks
 
 Chunks are uncompressed (type 3), DataVersion 2975, sections -4 to 19, with the tags that a server
@@ -553,7 +553,8 @@ def samples():
     first = [Chunk(x, z).build(furnished) for x, z, furnished in ((0, 0, True), (1, 0, False), (4, 31, False))]
     roots = {(c.x, c.z): chunk_tags(c, "full") for c in reversed(first)}
     roots[(0, 1)] = unfinished_tags(0, 1)
-    write("samples/r.0.0.mca", region_bytes(roots, gap=1))
+    for path in ("samples/r.0.0.mca", "crates/av_bench/data/r.0.0.mca"):
+        write(path, region_bytes(roots, gap=1))
     lines += expectations("r.0.0.mca", first, Dice(7))
     lines += ["r.0.0.mca 5 64 20 unloaded", "r.0.0.mca 40 64 200 unloaded", "r.0.0.mca 512 64 0 unloaded"]
     second = [Chunk(x, z).build(furnished) for x, z, furnished in ((-1, -1, True), (-32, -7, False))]

@@ -114,10 +114,9 @@ fn rewrite(input: &str, output: &str) -> Result<String, Box<dyn Error>> {
         Slot::Full(read) => Some(nbt::encode(&read.0.write(&read.1, &table))),
     };
     let payloads: Vec<Option<Vec<u8>>> = slots.into_iter().map(write).collect();
-    let chunks = payloads.iter().flatten().count();
     let written = region::write(&payloads, &stamps);
     fs::write(output, &written)?;
-    Ok(format!("chunks {chunks} bytes {}", written.len()))
+    Ok(format!("bytes {}", written.len()))
 }
 
 fn run(words: &[&str]) -> Result<String, Box<dyn Error>> {

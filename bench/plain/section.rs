@@ -64,7 +64,8 @@ impl Section {
         let fits = section.longs.len() == longs_for(bits)
             && section
                 .indices()
-                .all(|i| usize::from(i) < section.palette.len());
+                .iter()
+                .all(|i| usize::from(*i) < section.palette.len());
         if fits {
             Ok(section)
         } else {
@@ -72,14 +73,18 @@ impl Section {
         }
     }
 
-    fn indices(&self) -> impl Iterator<Item = u16> {
-        let (bits, per_long) = (self.bits, 64 / self.bits);
-        let mask = (1u64 << bits) - 1;
-        let entries = move |long: &i64| {
+    fn indices(&self) -> Vec<u16> {
+        let per_long = 64 / self.bits;
+        let mask = (1u64 << self.bits) - 1;
+        let mut indices = Vec::with_capacity(CELLS + per_long as usize);
+        for long in &self.longs {
             let long = *long as u64;
-            (0..per_long).map(move |i| (long >> (bits * i) & mask) as u16)
-        };
-        self.longs.iter().flat_map(entries).take(CELLS)
+            for i in 0..per_long {
+                indices.push((long >> (self.bits * i) & mask) as u16);
+            }
+        }
+        indices.truncate(CELLS);
+        indices
     }
 
     pub fn get(&self, place: usize) -> u16 {
@@ -109,6 +114,7 @@ impl Section {
         let mut palette = Vec::new();
         let indices: Vec<u16> = self
             .indices()
+            .into_iter()
             .map(|index| {
                 let at = canonical[usize::from(index)];
                 *written[at].get_or_insert_with(|| {
