@@ -88,7 +88,7 @@ compound_good k ms h =
 
 -- ---- Lists of Compounds
 
-record HaveItemBytes (ts : Items) : Type 0 where
+pub record HaveItemBytes (ts : Items) : Type 0 where
   pub bytes : List ℕ
   pub spelled : SpellsItems ts bytes
 

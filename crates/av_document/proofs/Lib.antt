@@ -14,3 +14,6 @@ pub mod GoodNames
 pub mod GoodStates
 pub mod GoodCounts
 pub mod WellFormed
+pub mod Merely
+pub mod Ints
+pub mod Stored

@@ -48,7 +48,7 @@ rows_spelled (item t ts) bytes rows (front, rest, is, here, more) e = by (compou
       let same : ms ∷ later ≡ rows = same_Some (ms ∷ later) rows k in
       subst (AllByRecursion AreSpelled) same (compound_spelled t ms (record { bytes = front; spelled = here }) f, more later g)
 
-list_spelled : (t : Nbt) (rows : List (List NamedTag)) → IsSpelled t → compounds_of t ≡ Some rows → AllByRecursion AreSpelled rows
+pub list_spelled : (t : Nbt) (rows : List (List NamedTag)) → IsSpelled t → compounds_of t ≡ Some rows → AllByRecursion AreSpelled rows
 list_spelled (list k ts) rows h e = items h.spelled where
   items : Spells (list k ts) h.bytes → AllByRecursion AreSpelled rows
   items (size, len, rest, is, sized, count, are, inside) = rows_spelled ts rest rows inside e

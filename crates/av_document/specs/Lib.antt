@@ -2,3 +2,4 @@ pub mod Ticks
 pub mod Chunk
 pub mod Layout
 pub mod Law
+pub mod Stored
