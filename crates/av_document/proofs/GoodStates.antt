@@ -1,33 +1,38 @@
 -- The tags of block states and of scheduled ticks that were written have a spelling.
-use Rattle.std.proofs.Common.{◌≡◌, ℕ, zero, suc, ◌+◌, ◌*◌, ◌/◌, ◌<◌, ◌≤◌, ◌^◌, List, [], ◌∷◌, ◌++◌, pos, w64, Bool, true, false, cond, map, length, take, drop, refl, sym, ap, subst, arith, lit<, ◌-ℤ◌}
+use Rattle.std.proofs.Common.{◌≡◌, ℕ, zero, suc, ◌+◌, ◌*◌, ◌/◌, ◌<◌, ◌≤◌, ◌^◌, List, [], ◌∷◌, ◌++◌, pos, w64, Bool, true, false, ◌&&◌, cond, map, length, take, drop, refl, sym, ap, subst, arith, lit<, ◌-ℤ◌}
 use Rattle.std.specs.Prelude.{FitsSigned, All}
-use Rattle.std.specs.List.{AllByRecursion, IsDistinct, list_any, range_with_len}
+use Rattle.std.specs.List.{AllByRecursion, IsDistinct, list_all, range_with_len}
 use Rattle.std.specs.Str.{bytes_eq}
 use Rattle.std.proofs.Math.Facts.{sfits_to_z}
 use Rattle.std.proofs.Math.Nat.{div-le_self, mul-le-mul_left, mul-div-le, pow-le-pow_right}
+use Rattle.std.proofs.lemmas.Bool.{and_parts}
 use Rattle.std.proofs.lemmas.List.{length-take, length-map}
 use Rattle.std.proofs.lemmas.List.Elements.{All-take, All-drop}
 use Rattle.av_types.specs.declared.tick.Entry.{Entry}
 use Rattle.av_nbt.specs.Nbt.{text, members_of, IsAbsent, AreDistinct}
-use Rattle.av_state.specs.BlockState.{BlockState, Property}
-use Rattle.av_state.specs.StateList.{same_state, with_state, with_states}
+use Rattle.av_state.specs.BlockState.{BlockState, Property, is_short, is_short_property, is_storable}
+use Rattle.av_state.proofs.Storable.{storable-name, storable-properties, storable-distinct}
 use Rattle.av_section.specs.Palette.{name_key, properties_key, property_tag, properties_tags, state_tag}
 use Rattle.av_pack.specs.Packing.{longs_for, packed, packed_long, low_first}
 use Rattle.av_pack.proofs.LowFirst.{low_first-lt}
 use Rattle.av_document.specs.Layout.{compound_with, compounds, fluid_name, entry_layout}
-use Rattle.av_document.specs.Law.{HasShortTexts, HasInts}
+use Rattle.av_document.specs.Law.{IsMeant, HasInts}
 use Rattle.av_document.proofs.Good.{IsGood, IsGoodNamed, AreGood, text_good, int_good, compound_good, compounds_good}
 use Rattle.av_document.proofs.GoodNames.{differs, distinct_from}
+use Rattle.av_document.proofs.Numbers.{below_from}
 use Rattle.av_document.proofs.WrittenPalette.{state_tags}
 
 -- ---- states
 
-abbrev IsShort : Property → Type 0
-IsShort p = (length p.key < 2 ^ 16) × (length p.value < 2 ^ 16)
+short_text : (s : List ℕ) → is_short s ≡ true → length s < 2 ^ 16
+short_text s h = below_from (length s) 65536 h
 
-property_tags_good : (k : ℕ) (ps : List Property) → AllByRecursion (λ p. (length p.key < 2 ^ 16) × (length p.value < 2 ^ 16)) ps → AllByRecursion (IsGoodNamed k) (map property_tag ps)
+property_tags_good : (k : ℕ) (ps : List Property) → list_all is_short_property ps ≡ true → AllByRecursion (IsGoodNamed k) (map property_tag ps)
 property_tags_good k [] h = tt
-property_tags_good k (p ∷ ps) h = (record { short = h.0.0; good = text_good k p.value h.0.1 }, property_tags_good k ps h.1)
+property_tags_good k (p ∷ ps) h =
+    let (first, more) = and_parts (is_short_property p) (list_all is_short_property ps) h in
+    let (key, value) = and_parts (is_short p.key) (is_short p.value) first in
+    (record { short = short_text p.key key; good = text_good k p.value (short_text p.value value) }, property_tags_good k ps more)
 
 key_absent : (key : List ℕ) (ps : List Property) → AllByRecursion (λ other. bytes_eq key other ≡ false) (map (λ p. p.key) ps) → IsAbsent key (members_of (map property_tag ps))
 key_absent key [] h = tt
@@ -44,44 +49,29 @@ name_short = lit< tt
 properties_short : length properties_key < 2 ^ 16
 properties_short = lit< tt
 
-pub state_tags_good : (k : ℕ) (s : BlockState) → HasShortTexts s → AreGood (suc k) (state_tags s)
-state_tags_good k s h = by s.properties h.short_properties h.distinct_keys where
+pub state_tags_good : (k : ℕ) (s : BlockState) → is_storable s ≡ true → AreGood (suc k) (state_tags s)
+state_tags_good k s h = by s.properties (storable-properties s h) (storable-distinct s h) where
   first : IsGoodNamed (suc k) (record { name = name_key; tag = text s.name })
-  first = record { short = name_short; good = text_good (suc k) s.name h.short_name }
+  first = record { short = name_short; good = text_good (suc k) s.name (short_text s.name (storable-name s h)) }
 
-  by : (ps : List Property) → AllByRecursion (λ p. (length p.key < 2 ^ 16) × (length p.value < 2 ^ 16)) ps → IsDistinct bytes_eq (map (λ p. p.key) ps) → AreGood (suc k) (record { name = name_key; tag = text s.name } ∷ properties_tags ps)
+  by : (ps : List Property) → list_all is_short_property ps ≡ true → IsDistinct bytes_eq (map (λ p. p.key) ps) → AreGood (suc k) (record { name = name_key; tag = text s.name } ∷ properties_tags ps)
   by [] short distinct = record { each_good = (first, tt); distinct = (tt, tt) }
   by (p ∷ ps) short distinct = record {
     each_good = (first, (record { short = properties_short; good = compound_good k (map property_tag (p ∷ ps)) (record { each_good = property_tags_good k (p ∷ ps) short; distinct = property_tags_distinct (p ∷ ps) distinct }) }, tt));
     distinct = ((differs name_key properties_key refl, tt), (tt, tt));
   }
 
-all_state_tags : (k : ℕ) (palette : List BlockState) → AllByRecursion HasShortTexts palette → AllByRecursion (AreGood (suc k)) (map state_tags palette)
+all_state_tags : (k : ℕ) (palette : List BlockState) → AllByRecursion IsMeant palette → AllByRecursion (AreGood (suc k)) (map state_tags palette)
 all_state_tags k [] h = tt
-all_state_tags k (s ∷ palette) h = (state_tags_good k s h.0, all_state_tags k palette h.1)
+all_state_tags k (s ∷ palette) h = (state_tags_good k s h.0.storable, all_state_tags k palette h.1)
 
 -- the List of a palette
 pub same_rows : (palette : List BlockState) → map state_tag palette ≡ map compound_with (map state_tags palette)
 same_rows [] = refl
 same_rows (s ∷ palette) = ap (λ l. state_tag s ∷ l) (same_rows palette)
 
-pub palette_good : (k : ℕ) (palette : List BlockState) → AllByRecursion HasShortTexts palette → length palette < 2 ^ 31 → IsGood (suc (suc (suc k))) (compounds (map state_tags palette))
+pub palette_good : (k : ℕ) (palette : List BlockState) → AllByRecursion IsMeant palette → length palette < 2 ^ 31 → IsGood (suc (suc (suc k))) (compounds (map state_tags palette))
 palette_good k palette h few = compounds_good (suc k) (map state_tags palette) (subst (λ n. n < 2 ^ 31) (sym (length-map palette state_tags)) few) (all_state_tags k palette h)
-
--- states that are numbered are as good as those that were given
-with_states-short : (xs ss : List BlockState) → AllByRecursion HasShortTexts xs → AllByRecursion HasShortTexts ss → AllByRecursion HasShortTexts (with_states xs ss)
-with_states-short xs [] h k = h
-with_states-short xs (s ∷ ss) h k = with_states-short (with_state xs s) ss (by (list_any (same_state s) xs)) k.1 where
-  push : (xs : List BlockState) → AllByRecursion HasShortTexts xs → AllByRecursion HasShortTexts (xs ++ s ∷ [])
-  push [] h = (k.0, tt)
-  push (x ∷ xs) h = (h.0, push xs h.1)
-
-  by : (b : Bool) → AllByRecursion HasShortTexts (cond b xs (xs ++ s ∷ []))
-  by true = h
-  by false = push xs h
-
-pub palette_short : (ss : List BlockState) → AllByRecursion HasShortTexts ss → AllByRecursion HasShortTexts (with_states [] ss)
-palette_short ss h = with_states-short [] ss tt h
 
 -- ---- longs
 

@@ -30,7 +30,7 @@ int_fits n ms h z e = by (tag_of n ms) refl e where
   by None f k = absurd (none-some z k)
   by (Some t) f k = int_spelled t z (member_spelled n h.members h.bytes t h.spelled (ap (tag_of n) h.same ∙ f)) k
 
-less_nothing : (z : ℤ) → z -ℤ pos 0 ≡ z
+pub less_nothing : (z : ℤ) → z -ℤ pos 0 ≡ z
 less_nothing z = omega (arith, ints)
 
 -- ---- one entry

@@ -14,6 +14,9 @@ pub mod GoodNames
 pub mod GoodStates
 pub mod GoodCounts
 pub mod WellFormed
+pub mod NbtSet
 pub mod Merely
 pub mod Ints
 pub mod Stored
+pub mod Lawful
+pub mod Rewritten

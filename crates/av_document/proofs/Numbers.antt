@@ -1,12 +1,12 @@
 -- The numbers that sections can have.
-use Rattle.std.proofs.Common.{◌≡◌, inl, inr, ℕ, zero, suc, ◌+◌, ◌<◌, ◌≤◌, List, [], ◌∷◌, ◌++◌, ℤ, pos, negsuc, ◌+ℤ◌, ◌<ℤ◌, ◌≤ℤ◌, Bool, true, false, ◌&&◌, ◌||◌, map, refl, sym, ap, ◌∙◌, subst, arith}
+use Rattle.std.proofs.Common.{◌≡◌, inl, inr, ℕ, zero, suc, ◌+◌, ◌<◌, ◌≤◌, List, [], ◌∷◌, ◌++◌, ℤ, pos, negsuc, ◌+ℤ◌, ◌<ℤ◌, ◌≤ℤ◌, Bool, true, false, ◌&&◌, ◌||◌, map, nat_lt, refl, sym, ap, ◌∙◌, subst, arith}
 use Rattle.std.specs.Prelude.{int_lt, int_le, FitsSigned}
 use Rattle.std.specs.Int.{w8}
 use Rattle.std.specs.List.{list_any, range_with_len}
 use Rattle.std.specs.Ordering.{int_eq}
 use Rattle.std.proofs.lemmas.Int.{ints}
 use Rattle.std.proofs.lemmas.Bool.{cases_eq, and_parts}
-use Rattle.std.proofs.lemmas.Bool.Decides.{Decides-int_eq}
+use Rattle.std.proofs.lemmas.Bool.Decides.{Decides-int_eq, nat_tests}
 use Rattle.av_types.specs.declared.place.Height.{Height}
 use Rattle.av_types.specs.Places.{is_section_of}
 use Rattle.av_document.specs.Layout.{below_zero, section_numbers}
@@ -46,6 +46,9 @@ byte_number (pos n) fits =
 byte_number (negsuc n) fits =
     any-append (int_eq (negsuc n)) (below_zero 128) (map pos (range_with_len 0 128))
     ∙ ap (λ b. b || list_any (int_eq (negsuc n)) (map pos (range_with_len 0 128))) (any_below_zero n 128 (omega (arith, fits.sfits)))
+
+pub below_from : (n m : ℕ) → nat_lt n m ≡ true → n < m
+below_from n m h = grind (arith, nat_tests)
 
 pub lt_from : (a b : ℤ) → int_lt a b ≡ true → a <ℤ b
 lt_from a b h = grind (arith, ints)

@@ -26,7 +26,7 @@ use Rattle.av_pack.proofs.Laws.{bits_for-enough}
 use Rattle.av_document.specs.Ticks.{lies_in, water_entry, foreign}
 use Rattle.av_document.specs.Chunk.{root_tags, sections, ticks, numbered, tags_at, is_number, section_number, block_states_of, section_rest, Rest, DenotesChunk}
 use Rattle.av_document.specs.Layout.{compounds, data_tags, states_layout, states_of, section_layout, section_numbers, block_at, section_at, all_of, kept_section, ticks_layout, chunk_layout}
-use Rattle.av_document.specs.Law.{IsMeant, IsLawful, HasShortTexts, HasInts, WrittenIsWellFormed}
+use Rattle.av_document.specs.Law.{IsMeant, IsLawful, HasInts, WrittenIsWellFormed}
 use Rattle.av_document.proofs.Numbers.{height_fits}
 use Rattle.av_document.proofs.Positions.{lies_in-block_at}
 use Rattle.av_document.proofs.WrittenTicks.{entry_tags}
@@ -34,7 +34,7 @@ use Rattle.av_document.proofs.WrittenSection.{written_states}
 use Rattle.av_document.proofs.WrittenPalette.{IsFilled, is_filled, indices, indices_all}
 use Rattle.av_document.proofs.Good.{IsGood, IsGoodNamed, AreGood, byte_good, byte_array_good, long_array_good, compound_good, compounds_good, compound_parts, compounds_parts}
 use Rattle.av_document.proofs.GoodNames.{differs, absent_without, absent_kept, place_good, without_good, found_good}
-use Rattle.av_document.proofs.GoodStates.{same_rows, palette_good, palette_short, longs_fit, few_longs, entry_tags_good}
+use Rattle.av_document.proofs.GoodStates.{same_rows, palette_good, longs_fit, few_longs, entry_tags_good}
 use Rattle.av_document.proofs.GoodCounts.{few_entries, few_rows, few_foreign, few_compounds, tag_bytes}
 
 blank_good : (k : ℕ) → IsGood k blank
@@ -46,10 +46,10 @@ each_from : (P : BlockState → Type 0) (f : ℕ → BlockState) (a n : ℕ) →
 each_from P f a zero h = tt
 each_from P f a (suc n) h = (h a (omega arith), each_from P f (a + 1) n (λ i lt. h i (omega arith)))
 
-palette_tag_good : (k : ℕ) (states : List BlockState) → IsFilled states (palette_states states) → AllByRecursion HasShortTexts states → IsGood (suc (suc (suc k))) (palette_tag states)
-palette_tag_good k states filled short =
+palette_tag_good : (k : ℕ) (states : List BlockState) → IsFilled states (palette_states states) → IsGood (suc (suc (suc k))) (palette_tag states)
+palette_tag_good k states filled =
     let few : length (palette_states states) < 2 ^ 31 = omega (arith, filled.few) in
-    subst (λ l. IsGood (suc (suc (suc k))) (list kind.Compound (items_of l))) (sym (same_rows (palette_states states))) (palette_good k (palette_states states) (palette_short states short) few)
+    subst (λ l. IsGood (suc (suc (suc k))) (list kind.Compound (items_of l))) (sym (same_rows (palette_states states))) (palette_good k (palette_states states) filled.meant_states few)
 
 data_good : (k : ℕ) (states : List BlockState) → IsFilled states (palette_states states) → AllByRecursion (IsGoodNamed k) (data_tags (data_tag states))
 data_good k states filled = by (nat_lt 1 (length (palette_states states))) where
@@ -94,9 +94,9 @@ old_states_good k ms h = by (tag_of (codes "block_states") ms) refl where
     parts None f = nothing_good k
     parts (Some inner) f = compound_parts k t inner (found_good (suc k) (codes "block_states") t ms h.each_good e) f
 
-row_good : (j : ℕ) (ms : List NamedTag) (cell : ℕ → BlockState) (light : List ℕ) → AreGood (suc (suc (suc (suc j)))) ms → ((i : ℕ) → i < 4096 → IsMeant (cell i)) → ((i : ℕ) → i < 4096 → HasShortTexts (cell i))
+row_good : (j : ℕ) (ms : List NamedTag) (cell : ℕ → BlockState) (light : List ℕ) → AreGood (suc (suc (suc (suc j)))) ms → ((i : ℕ) → i < 4096 → IsMeant (cell i))
     → length light ≡ 2048 → AreGood (suc (suc (suc (suc j)))) (section_layout (section_rest ms) cell light)
-row_good j ms cell light h meant_cells short_cells lit =
+row_good j ms cell light h meant_cells lit =
     let k : ℕ = suc (suc (suc j)) in
     let x : List NamedTag = or_else [] (block_states_of ms) in
     let old : AreGood (suc (suc (suc j))) (or_else [] (block_states_of ms)) = old_states_good (suc (suc (suc j))) ms h in
@@ -106,9 +106,8 @@ row_good j ms cell light h meant_cells short_cells lit =
     let states : List BlockState = states_of cell in
     let count : length (states_of cell) ≡ 4096 = length-map-range_with_len cell 0 4096 in
     let filled : IsFilled (states_of cell) (palette_states (states_of cell)) = is_filled (states_of cell) count (each_from IsMeant cell 0 4096 (λ i lt. meant_cells i (omega arith))) in
-    let short : AllByRecursion HasShortTexts (states_of cell) = each_from HasShortTexts cell 0 4096 (λ i lt. short_cells i (omega arith)) in
     let written : AreGood (suc (suc (suc j))) (written_states (section_rest ms).states (states_of cell)) =
-    states_tags_good (suc (suc (suc j))) (palette_tag (states_of cell)) (data_tag (states_of cell)) (section_rest ms).states (palette_tag_good j (states_of cell) filled short) (data_good (suc (suc (suc j))) (states_of cell) filled) others no_palette no_data in
+    states_tags_good (suc (suc (suc j))) (palette_tag (states_of cell)) (data_tag (states_of cell)) (section_rest ms).states (palette_tag_good j (states_of cell) filled) (data_good (suc (suc (suc j))) (states_of cell) filled) others no_palette no_data in
     let block_states : IsGood (suc (suc (suc (suc j)))) (states_layout (section_rest ms).states (states_of cell)) = compound_good (suc (suc (suc j))) (written_states (section_rest ms).states (states_of cell)) written in
     let few : length light < 2 ^ 31 = omega (arith, lit) in
     let emptied_good : AreGood (suc (suc (suc (suc j)))) (section_rest ms).tags =
@@ -174,7 +173,7 @@ list_count n d bytes spelled = by (tag_of n (root_tags d)) refl where
 
 module _ (c : ChunkPos) (h : Height) (d : Document) (bytes : List ℕ) (cells now : Pos → BlockState) (water then : List Entry) (sources : Pos → Bool) (rest : Rest) (light : ℤ → List ℕ) (n : ℕ)
     (spelled : SpellsDocument d bytes) (small : length bytes ≤ 1044475) (denotes : DenotesChunk c h d cells water rest) (lawful : IsLawful c h now then)
-    (short : (p : Pos) → lies_in c h p ≡ true → HasShortTexts (now p)) (ints : AllByRecursion (HasInts n) then) (lit : (y : ℤ) → is_section_of h y ≡ true → length (light y) ≡ 2048) where
+    (ints : AllByRecursion (HasInts n) then) (lit : (y : ℤ) → is_section_of h y ≡ true → length (light y) ≡ 2048) where
   old_good : AreGood 511 (root_tags d)
   old_good = compound_parts 511 (compound d.members) (root_tags d) (record { bytes = spelled.body; spelled = spelled.tags; shallow = spelled.shallow }) refl
 
@@ -192,7 +191,6 @@ module _ (c : ChunkPos) (h : Height) (d : Document) (bytes : List ℕ) (cells no
       subst (λ r. AreGood 509 (section_layout r (λ i. now (block_at c y i)) (light y))) (sym (denotes.section_is y inside))
       (row_good 505 (tags_at y (root_tags d)) (λ i. now (block_at c y i)) (light y) (tags_at_good y inside)
       (λ i lt. lawful.meant_states (block_at c y i) (lies_in-block_at c h y i inside lt))
-      (λ i lt. short (block_at c y i) (lies_in-block_at c h y i inside lt))
       (lit y inside))
 
   row : (y : ℤ) (ms : List NamedTag) → section_at c h now rest light y ≡ Some ms → AreGood 509 ms
@@ -240,5 +238,5 @@ module _ (c : ChunkPos) (h : Height) (d : Document) (bytes : List ℕ) (cells no
       }
 
 pub written_is_well_formed : WrittenIsWellFormed
-written_is_well_formed c h d bytes cells now water then sources rest light n spelled small denotes lawful short ints lit =
-    well_formed c h d bytes cells now water then sources rest light n spelled small denotes lawful short ints lit
+written_is_well_formed c h d bytes cells now water then sources rest light n spelled small denotes lawful ints lit =
+    well_formed c h d bytes cells now water then sources rest light n spelled small denotes lawful ints lit

@@ -46,7 +46,7 @@ none_either false = refl
 
 -- ---- what no fault of a chunk says
 
-record IsGood (h : Height) (c : ChunkPos) (root : List NamedTag) : Type 0 where
+pub record IsGood (h : Height) (c : ChunkPos) (root : List NamedTag) : Type 0 where
   pub level : has_level root ≡ false
   pub status : lacks (status_of root) ≡ false
   pub place_x : lacks (int_at (codes "xPos") root) ≡ false
@@ -57,7 +57,7 @@ record IsGood (h : Height) (c : ChunkPos) (root : List NamedTag) : Type 0 where
   pub section_states : flat_map (section_faults h) (sections root) ≡ []
   pub tick_states : list_any (is_bad_tick c h) (ticks root) ≡ false
 
-good_from : (h : Height) (c : ChunkPos) (root : List NamedTag) → is_full root ≡ true → least (faults h c root) ≡ None → IsGood h c root
+pub good_from : (h : Height) (c : ChunkPos) (root : List NamedTag) → is_full root ≡ true → least (faults h c root) ≡ None → IsGood h c root
 good_from h c root full none =
     let all : faults h c root ≡ [] = least_none (faults h c root) none in
     let first = no_parts (when (has_level root) 11 ++ when (lacks (status_of root)) 12) (cond (is_full root) (loaded_faults h c root) []) all in

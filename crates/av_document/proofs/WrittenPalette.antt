@@ -10,11 +10,12 @@ use Rattle.av_nbt.specs.Nbt.{Nbt, text, long_array, NamedTag}
 use Rattle.av_nbt.specs.Place.{tag_of}
 use Rattle.av_nbt.specs.Shape.{◌>>=◌, each, lacks, or_else}
 use Rattle.av_nbt.proofs.Trees.{items_in_of, members_in_of}
-use Rattle.av_state.specs.BlockState.{BlockState, Property, air, meant, in_order, is_in_order}
+use Rattle.av_state.specs.BlockState.{BlockState, Property, air, meant, in_order, is_in_order, is_storable, storable}
 use Rattle.av_state.specs.StateList.{same_state, number_in, with_state, with_states}
 use Rattle.av_state.proofs.Ordered.{in_order-again}
+use Rattle.av_state.proofs.Storable.{storable-ordered}
 use Rattle.av_state.proofs.Numbering.{number_in-there, number_in-any, number_in-none, number_in-end, with_states-number}
-use Rattle.av_section.specs.Palette.{name_key, properties_key, property_in, properties_in, is_of_entry, written_state, state_in, states_if, palette_of, property_tag, properties_tags, state_tag, states_tag}
+use Rattle.av_section.specs.Palette.{name_key, properties_key, property_in, properties_in, is_of_entry, described_state, written_state, state_in, states_if, palette_of, property_tag, properties_tags, state_tag, states_tag}
 use Rattle.av_section.specs.BlockStates.{all_zero, are_below, indices_if, packed_indices, indices_in, indices_of, when, states_faults, state_at, palette_states, palette_tag, index_of, data_tag}
 use Rattle.av_pack.specs.Packing.{bits_for, longs_for, unpacked, packed}
 use Rattle.av_pack.proofs.Laws.{bits_for-low, bits_for-high, bits_for-enough, unpacked-packed}
@@ -42,10 +43,13 @@ properties_are_of_entry : (ps : List Property) → list_all is_of_entry (propert
 properties_are_of_entry [] = refl
 properties_are_of_entry (p ∷ ps) = refl
 
-pub written_state-tags : (s : BlockState) → is_in_order s.properties ≡ true → written_state (state_tags s) ≡ Some s
-written_state-tags s ordered =
+described_state-tags : (s : BlockState) → is_in_order s.properties ≡ true → described_state (state_tags s) ≡ Some s
+described_state-tags s ordered =
     ap (λ o. o >>= λ properties. cond (list_all is_of_entry (state_tags s)) (Some (record { name = s.name; properties = properties })) None) (read_properties s.properties ordered)
     ∙ ap (λ b. cond b (Some (record { name = s.name; properties = s.properties })) None) (properties_are_of_entry s.properties)
+
+pub written_state-tags : (s : BlockState) → is_storable s ≡ true → written_state (state_tags s) ≡ Some s
+written_state-tags s h = ap (λ o. o >>= storable) (described_state-tags s (storable-ordered s h)) ∙ ap (λ b. cond b (Some s) None) h
 
 -- ---- the palette
 
@@ -53,7 +57,7 @@ each_state : (palette : List BlockState) → AllByRecursion IsMeant palette → 
 each_state [] h = refl
 each_state (s ∷ palette) h =
     ap (λ l. written_state l >>= λ y. (each state_in (map state_tag palette) >>= λ ys. Some (y ∷ ys))) (members_in_of (state_tags s))
-    ∙ ap (λ o. o >>= λ y. (each state_in (map state_tag palette) >>= λ ys. Some (y ∷ ys))) (written_state-tags s h.0.ordered)
+    ∙ ap (λ o. o >>= λ y. (each state_in (map state_tag palette) >>= λ ys. Some (y ∷ ys))) (written_state-tags s h.0.storable)
     ∙ ap (λ o. o >>= λ ys. Some (s ∷ ys)) (each_state palette h.1)
 
 each_meant : (palette : List BlockState) → AllByRecursion IsMeant palette → each meant palette ≡ Some palette

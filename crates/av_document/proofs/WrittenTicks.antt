@@ -50,6 +50,24 @@ foreign-foreign (ms ∷ ts) = by (lacks (water_entry ms)) refl (foreign-foreign 
   by true e more = ap (λ b. cond b (ms ∷ foreign (foreign ts)) (foreign (foreign ts))) e ∙ ap (λ l. ms ∷ l) more
   by false e more = more
 
+-- ---- positions
+
+pub pending-push : (p : Pos) (found : List Entry) (e : Entry) → is_pending p found ≡ false → same_pos p e.pos ≡ false → is_pending p (found ++ e ∷ []) ≡ false
+pending-push p [] e h g = ap (λ b. cond b true false) g
+pending-push p (x ∷ found) e h g = by (same_pos p x.pos) refl h (λ k. pending-push p found e k g) where
+  by : (b : Bool) → same_pos p x.pos ≡ b → cond b true (is_pending p found) ≡ false → (is_pending p found ≡ false → is_pending p (found ++ e ∷ []) ≡ false) → cond b true (is_pending p (found ++ e ∷ [])) ≡ false
+  by true i k more = absurd (true≢false k)
+  by false i k more = more k
+
+int_eq-turned : (x y : ℤ) → int_eq x y ≡ int_eq y x
+int_eq-turned x y = int_eq_equiv.symm x y
+
+pub same_pos-turned : (p q : Pos) → same_pos p q ≡ same_pos q p
+same_pos-turned p q =
+    ap (λ b. b && int_eq p.y q.y && int_eq p.z q.z) (int_eq-turned p.x q.x)
+    ∙ ap (λ b. int_eq q.x p.x && b && int_eq p.z q.z) (int_eq-turned p.y q.y)
+    ∙ ap (λ b. int_eq q.x p.x && int_eq q.y p.y && b) (int_eq-turned p.z q.z)
+
 module _ (sources : Pos → Bool) (n : ℕ) where
   abbrev pub entry_tags : Entry → List NamedTag
   entry_tags e = entry_layout (sources e.pos) n e
@@ -93,22 +111,6 @@ module _ (sources : Pos → Bool) (n : ℕ) where
 
   abbrev NotPending : List Entry → List Entry → Type 0
   NotPending found es = AllByRecursion (λ e. is_pending e.pos found ≡ false) es
-
-  pending-push : (p : Pos) (found : List Entry) (e : Entry) → is_pending p found ≡ false → same_pos p e.pos ≡ false → is_pending p (found ++ e ∷ []) ≡ false
-  pending-push p [] e h g = ap (λ b. cond b true false) g
-  pending-push p (x ∷ found) e h g = by (same_pos p x.pos) refl h (λ k. pending-push p found e k g) where
-    by : (b : Bool) → same_pos p x.pos ≡ b → cond b true (is_pending p found) ≡ false → (is_pending p found ≡ false → is_pending p (found ++ e ∷ []) ≡ false) → cond b true (is_pending p (found ++ e ∷ [])) ≡ false
-    by true i k more = absurd (true≢false k)
-    by false i k more = more k
-
-  int_eq-turned : (x y : ℤ) → int_eq x y ≡ int_eq y x
-  int_eq-turned x y = int_eq_equiv.symm x y
-
-  same_pos-turned : (p q : Pos) → same_pos p q ≡ same_pos q p
-  same_pos-turned p q =
-      ap (λ b. b && int_eq p.y q.y && int_eq p.z q.z) (int_eq-turned p.x q.x)
-      ∙ ap (λ b. int_eq q.x p.x && b && int_eq p.z q.z) (int_eq-turned p.y q.y)
-      ∙ ap (λ b. int_eq q.x p.x && int_eq q.y p.y && b) (int_eq-turned p.z q.z)
 
   not_pending-more : (found : List Entry) (e : Entry) (es : List Entry) → NotPending found es → is_pending e.pos es ≡ false → NotPending (found ++ sooner n e ∷ []) es
   not_pending-more found e [] h new = tt

@@ -1,8 +1,7 @@
 -- What ties reading and writing.
-use Rattle.std.specs.Prelude.{◌≡◌, ℕ, ◌^◌, ◌<◌, ◌≤◌, ℤ, pos, ◌-ℤ◌, FitsSigned, List, length, map, Some, Bool, true}
+use Rattle.std.specs.Prelude.{◌≡◌, ℕ, ◌≤◌, ℤ, pos, ◌-ℤ◌, FitsSigned, List, length, map, Some, Bool, true}
 use Rattle.std.specs.Int.{w32}
-use Rattle.std.specs.List.{AllByRecursion, IsDistinct}
-use Rattle.std.specs.Str.{bytes_eq}
+use Rattle.std.specs.List.{AllByRecursion}
 use Rattle.av_types.specs.Places.{is_section_of}
 use Rattle.av_types.specs.declared.place.Pos.{Pos}
 use Rattle.av_types.specs.declared.place.ChunkPos.{ChunkPos}
@@ -11,7 +10,7 @@ use Rattle.av_types.specs.declared.tick.Entry.{Entry}
 use Rattle.av_nbt.specs.Nbt.{Document}
 use Rattle.av_nbt.specs.Spelling.{SpellsDocument}
 use Rattle.av_nbt.specs.Writing.{IsWellFormed, written_document}
-use Rattle.av_state.specs.BlockState.{BlockState, meant, is_in_order}
+use Rattle.av_state.specs.BlockState.{BlockState, meant, is_storable}
 use Rattle.av_ticks.specs.Entries.{are_apart}
 use Rattle.av_document.specs.Ticks.{lies_in}
 use Rattle.av_document.specs.Chunk.{Rest, DenotesChunk}
@@ -21,10 +20,10 @@ use Rattle.av_document.specs.Layout.{chunk_layout}
 abbrev pub sooner : ℕ → Entry → Entry
 sooner n e = record { pos = e.pos; due = e.due -ℤ pos n; priority = e.priority }
 
--- a state in the form that it takes when it is read
+-- a state that a file can hold, in the form that it takes when it is read
 pub record IsMeant (s : BlockState) : Type 0 where
   pub same : meant s ≡ Some s
-  pub ordered : is_in_order s.properties ≡ true
+  pub storable : is_storable s ≡ true
 
 -- cells and water entries that a loaded chunk can have
 pub record IsLawful (c : ChunkPos) (h : Height) (cells : Pos → BlockState) (water : List Entry) : Type 0 where
@@ -52,12 +51,6 @@ abbrev pub DenotesOne : Type 0
 DenotesOne = (c : ChunkPos) (h : Height) (d : Document) (cells now : Pos → BlockState) (water then : List Entry) (rest other : Rest)
     → DenotesChunk c h d cells water rest → DenotesChunk c h d now then other → IsSameChunk c h cells now water then rest other
 
--- texts that a document can have, and no key twice
-pub record HasShortTexts (s : BlockState) : Type 0 where
-  pub short_name : length s.name < 2 ^ 16
-  pub short_properties : AllByRecursion (λ p. (length p.key < 2 ^ 16) × (length p.value < 2 ^ 16)) s.properties
-  pub distinct_keys : IsDistinct bytes_eq (map (λ p. p.key) s.properties)
-
 -- an entry whose numbers are Ints, once so many ticks were run
 pub record HasInts (n : ℕ) (e : Entry) : Type 0 where
   pub int_x : FitsSigned w32 e.pos.x
@@ -70,7 +63,7 @@ pub record HasInts (n : ℕ) (e : Entry) : Type 0 where
 abbrev pub WrittenIsWellFormed : Type 0
 WrittenIsWellFormed = (c : ChunkPos) (h : Height) (d : Document) (bytes : List ℕ) (cells now : Pos → BlockState) (water then : List Entry) (sources : Pos → Bool) (rest : Rest) (light : ℤ → List ℕ) (n : ℕ)
     → SpellsDocument d bytes → length bytes ≤ 1044475 → DenotesChunk c h d cells water rest → IsLawful c h now then
-    → ((p : Pos) → lies_in c h p ≡ true → HasShortTexts (now p)) → AllByRecursion (HasInts n) then → ((y : ℤ) → is_section_of h y ≡ true → length (light y) ≡ 2048)
+    → AllByRecursion (HasInts n) then → ((y : ℤ) → is_section_of h y ≡ true → length (light y) ≡ 2048)
     → IsWellFormed (chunk_layout c h now then sources rest light n)
 
 -- bytes that spell a document of a loaded chunk
@@ -84,5 +77,11 @@ pub record SpellsChunk (c : ChunkPos) (h : Height) (bytes : List ℕ) (cells : P
 abbrev pub WrittenComesBack : Type 0
 WrittenComesBack = (c : ChunkPos) (h : Height) (bytes : List ℕ) (cells now : Pos → BlockState) (water then : List Entry) (sources : Pos → Bool) (rest : Rest) (light : ℤ → List ℕ) (n : ℕ)
     → SpellsChunk c h bytes cells water rest → length bytes ≤ 1044475 → IsLawful c h now then
-    → ((p : Pos) → lies_in c h p ≡ true → HasShortTexts (now p)) → AllByRecursion (HasInts n) then → ((y : ℤ) → is_section_of h y ≡ true → length (light y) ≡ 2048)
+    → AllByRecursion (HasInts n) then → ((y : ℤ) → is_section_of h y ≡ true → length (light y) ≡ 2048)
     → SpellsChunk c h (written_document (chunk_layout c h now then sources rest light n)) now (map (sooner n) then) rest
+
+-- Read and written with no ticks run, the bytes of a loaded chunk spell the same chunk, whatever the light.
+abbrev pub ReadThenWritten : Type 0
+ReadThenWritten = (c : ChunkPos) (h : Height) (bytes : List ℕ) (cells : Pos → BlockState) (water : List Entry) (sources : Pos → Bool) (rest : Rest) (light : ℤ → List ℕ)
+    → SpellsChunk c h bytes cells water rest → length bytes ≤ 1044475 → ((y : ℤ) → is_section_of h y ≡ true → length (light y) ≡ 2048)
+    → SpellsChunk c h (written_document (chunk_layout c h cells water sources rest light 0)) cells water rest

@@ -2,7 +2,7 @@
 //! (<https://minecraft.wiki/w/Chunk_format>): definitions, and the law that ties them.
 #![tactic(auto)]
 
-ghost use Rattle.av_document.specs.Law.{WrittenDenotes, WrittenIsWellFormed, WrittenComesBack, DenotesOne};
+ghost use Rattle.av_document.specs.Law.{WrittenDenotes, WrittenIsWellFormed, WrittenComesBack, ReadThenWritten, DenotesOne};
 
 /// A law of the definitions: what is written of a chunk denotes the same cells and rest, and the
 /// same water entries, sooner by the ticks that were run. There is nothing to do.
@@ -21,6 +21,12 @@ pub fn written_is_well_formed()
 /// sooner by the ticks that were run. There is nothing to do.
 pub fn written_comes_back()
     ensures { WrittenComesBack }
+{}
+
+/// A law of the definitions: the bytes of a loaded chunk, read and written with no ticks run, spell the
+/// same cells, water entries and rest. There is nothing to do.
+pub fn read_then_written()
+    ensures { ReadThenWritten }
 {}
 
 /// A law of the definitions: a document denotes one chunk at most. There is nothing to do.
