@@ -18,8 +18,7 @@ use Rattle.av_section.specs.Palette.{described_state, written_state, state_in, s
 use Rattle.av_section.specs.BlockStates.{read_states, read_indices}
 use Rattle.av_ticks.specs.Entries.{same_pos, is_pending, are_apart}
 use Rattle.av_document.specs.Ticks.{lies_in, fluid_of, water_entry, is_outside, is_bad_tick, with_entry, with_water}
-use Rattle.av_document.specs.Chunk.{root_tags, ticks, tags_at, block_states_of, data_of, block_cell, Rest, DenotesChunk}
-use Rattle.av_document.specs.Chunk.{palette_of as palette_tag_of}
+use Rattle.av_document.specs.Chunk.{root_tags, ticks, tags_at, block_states_of, palette_tag_of, data_tag_of, block_cell, Rest, DenotesChunk}
 use Rattle.av_document.specs.Law.{IsMeant, IsLawful}
 use Rattle.av_document.proofs.Faults.{or_parts}
 use Rattle.av_document.proofs.Numbers.{below_from}
@@ -136,7 +135,7 @@ at_meant (f ∷ fs) (suc k) h = at_meant fs k h.1
 
 cell_meant : (b : Option (List NamedTag)) (place : ℕ) → IsMeant (block_cell b place)
 cell_meant None place = air_meant
-cell_meant (Some states) place = at_meant (read_states (palette_tag_of states)) (slice_index (read_indices (palette_tag_of states) (data_of states)) place) (states_meant (palette_tag_of states))
+cell_meant (Some states) place = at_meant (read_states (palette_tag_of states)) (slice_index (read_indices (palette_tag_of states) (data_tag_of states)) place) (states_meant (palette_tag_of states))
 
 -- ---- water entries
 

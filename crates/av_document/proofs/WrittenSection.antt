@@ -10,7 +10,7 @@ use Rattle.av_nbt.specs.Shape.{◌>>=◌, byte_of, compound_of, or_else}
 use Rattle.av_nbt.proofs.Trees.{members_in_of}
 use Rattle.av_state.specs.BlockState.{BlockState, air}
 use Rattle.av_section.specs.BlockStates.{states_faults, state_at, palette_tag, data_tag}
-use Rattle.av_document.specs.Chunk.{section_rest, section_number, block_states_of, data_of, is_other, block_faults, block_cell}
+use Rattle.av_document.specs.Chunk.{section_rest, section_number, block_states_of, data_tag_of, is_other, block_faults, block_cell}
 use Rattle.av_document.specs.Layout.{section_layout, states_layout, states_of, data_tags}
 use Rattle.av_document.specs.Law.{IsMeant}
 use Rattle.av_document.proofs.Tags.{tag_of-place_same, tag_of-place_other, two_places, without_two_again, tag_of-without}
@@ -57,7 +57,7 @@ module _ (ms : List NamedTag) (cell : ℕ → BlockState) (light : List ℕ) whe
   pub shaped-row : is_other compound_of (tag_of (codes "block_states") row) ≡ false
   shaped-row = ap (is_other compound_of) states_there
 
-  data_there : (o : Option Nbt) → data_of (record { name = codes "palette"; tag = palette_tag states } ∷ data_tags o ++ others) ≡ o
+  data_there : (o : Option Nbt) → data_tag_of (record { name = codes "palette"; tag = palette_tag states } ∷ data_tags o ++ others) ≡ o
   data_there (Some t) = refl
   data_there None = tag_of-without (codes "data") (without (codes "palette") (or_else [] (block_states_of ms)))
 

@@ -72,11 +72,11 @@ tags_at y root = or_else (record { name = codes "Y"; tag = byte y } ∷ []) (num
 abbrev pub block_states_of : List NamedTag → Option (List NamedTag)
 block_states_of ms = tag_of (codes "block_states") ms >>= compound_of
 
-abbrev pub palette_of : List NamedTag → Option Nbt
-palette_of states = tag_of (codes "palette") states
+abbrev pub palette_tag_of : List NamedTag → Option Nbt
+palette_tag_of states = tag_of (codes "palette") states
 
-abbrev pub data_of : List NamedTag → Option Nbt
-data_of states = tag_of (codes "data") states
+abbrev pub data_tag_of : List NamedTag → Option Nbt
+data_tag_of states = tag_of (codes "data") states
 
 -- ---- faults
 
@@ -114,7 +114,7 @@ is_elsewhere c root = not (is_at c (int_at (codes "xPos") root) (int_at (codes "
 
 abbrev pub block_faults : Option (List NamedTag) → List ℕ
 block_faults None = []
-block_faults (Some states) = states_faults (palette_of states) (data_of states)
+block_faults (Some states) = states_faults (palette_tag_of states) (data_tag_of states)
 
 -- those of a section in the height
 abbrev pub section_faults : Height → List NamedTag → List ℕ
@@ -122,7 +122,7 @@ section_faults h ms = if is_in_height h (section_number ms) then block_faults (b
 
 abbrev pub block_palette : Option (List NamedTag) → List BlockState
 block_palette None = []
-block_palette (Some states) = read_states (palette_of states)
+block_palette (Some states) = read_states (palette_tag_of states)
 
 abbrev pub section_states : Height → List NamedTag → List BlockState
 section_states h ms = if is_in_height h (section_number ms) then block_palette (block_states_of ms) else []
@@ -152,7 +152,7 @@ first_fault h c table root = least (faults h c root ++ when (has_too_many h tabl
 
 abbrev pub block_cell : Option (List NamedTag) → ℕ → BlockState
 block_cell None place = air
-block_cell (Some states) place = state_at (palette_of states) (data_of states) place
+block_cell (Some states) place = state_at (palette_tag_of states) (data_tag_of states) place
 
 -- the state of a block
 abbrev pub cell_of : List NamedTag → Pos → BlockState
