@@ -1,5 +1,5 @@
 -- The tags of block states and of scheduled ticks that were written have a spelling.
-use Rattle.std.proofs.Common.{◌≡◌, ℕ, zero, suc, ◌+◌, ◌*◌, ◌/◌, ◌<◌, ◌≤◌, ◌^◌, List, [], ◌∷◌, ◌++◌, pos, w64, Bool, true, false, ◌&&◌, cond, map, length, take, drop, refl, sym, ap, subst, arith, lit<, ◌-ℤ◌}
+use Rattle.std.proofs.Common.{◌≡◌, ℕ, zero, suc, ◌+◌, ◌*◌, ◌/◌, ◌<◌, ◌≤◌, ◌^◌, List, [], ◌∷◌, pos, w64, Bool, true, false, map, length, take, drop, refl, sym, ap, subst, arith, lit<, ◌-ℤ◌}
 use Rattle.std.specs.Prelude.{FitsSigned, All}
 use Rattle.std.specs.List.{AllByRecursion, IsDistinct, list_all, range_with_len}
 use Rattle.std.specs.Str.{bytes_eq}

@@ -1,14 +1,8 @@
 -- What is written of a chunk, from bytes to bytes.
-use Rattle.std.proofs.Common.{◌≡◌, ℕ, List, [], ◌∷◌, ℤ, Bool, true, ◌≤◌, length, map, refl, ap, ◌∙◌, subst}
-use Rattle.av_types.specs.Places.{is_section_of}
-use Rattle.av_types.specs.declared.place.Pos.{Pos}
-use Rattle.av_types.specs.declared.place.ChunkPos.{ChunkPos}
-use Rattle.av_types.specs.declared.place.Height.{Height}
+use Rattle.std.proofs.Common.{◌≡◌, List, [], ◌∷◌, map, refl, ap, ◌∙◌, subst}
 use Rattle.av_types.specs.declared.tick.Entry.{Entry}
-use Rattle.av_nbt.specs.Writing.{IsWellFormed, written_document}
+use Rattle.av_nbt.specs.Writing.{written_document}
 use Rattle.av_nbt.proofs.Written.{written_document_spells}
-use Rattle.av_state.specs.BlockState.{BlockState}
-use Rattle.av_document.specs.Chunk.{Rest}
 use Rattle.av_document.specs.Layout.{chunk_layout}
 use Rattle.av_document.specs.Law.{sooner, SpellsChunk, WrittenComesBack, ReadThenWritten}
 use Rattle.av_document.proofs.Written.{written_is_denoted}

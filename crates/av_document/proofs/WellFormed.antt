@@ -23,7 +23,7 @@ use Rattle.av_section.specs.BlockStates.{palette_states, palette_tag, data_tag}
 use Rattle.av_pack.specs.Packing.{bits_for, packed}
 use Rattle.av_pack.proofs.Packed.{length-packed}
 use Rattle.av_pack.proofs.Laws.{bits_for-enough}
-use Rattle.av_document.specs.Ticks.{lies_in, water_entry, foreign}
+use Rattle.av_document.specs.Ticks.{water_entry, foreign}
 use Rattle.av_document.specs.Chunk.{root_tags, sections, ticks, numbered, tags_at, is_number, section_number, block_states_of, section_rest, Rest, DenotesChunk}
 use Rattle.av_document.specs.Layout.{compounds, data_tags, states_layout, states_of, section_layout, section_numbers, block_at, section_at, all_of, kept_section, ticks_layout, chunk_layout}
 use Rattle.av_document.specs.Law.{IsMeant, IsLawful, HasInts, WrittenIsWellFormed}
