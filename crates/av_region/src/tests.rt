@@ -49,7 +49,11 @@ fn faults_of_a_chunk(rt: HostRuntime) -> Result<(), Fail> {
         // the length comes before the type
         ([0, 0, 2, 1], &[0, 0, 0, 0, 2], Fault::BadLength),
         ([0, 0, 2, 1], &[0, 0, 0, 1, 0x83], Fault::ExternalChunk),
-        ([0, 0, 2, 1], &[0, 0, 0, 5, 2], Fault::Compression(2)),
+        (
+            [0, 0, 2, 1],
+            &[0, 0, 0, 5, 2, 10, 0, 0, 0],
+            Fault::Compression(2),
+        ),
         ([0, 0, 2, 1], &[0, 0, 0, 5, 0], Fault::Compression(0)),
         ([0, 0, 2, 1], &[0, 0, 0, 5, 127], Fault::Compression(127)),
     ];
@@ -60,19 +64,28 @@ fn faults_of_a_chunk(rt: HostRuntime) -> Result<(), Fail> {
     Ok(())
 }
 
+/// A chunk with a length field of 5, in sector 2: the file is whole from 8,196 + 5 bytes on.
 #[test]
 fn a_file_that_is_cut(rt: HostRuntime) -> Result<(), Fail> {
     let chunk = [0, 0, 0, 5, 3, 10, 0, 0, 0];
     let mut file = region_with(rt.alloc(), [0, 0, 2, 1], &chunk)?;
-    for len in [12288, 8201] {
+    for cut in 0..12289 {
+        let len = 12288 - cut;
         file.truncate(len);
+        if 1 <= len && len < 8192 {
+            assert_eq!(rt; Region::read(&file).err(), Some(Fault::ShortHeader));
+            continue;
+        }
         let region = Region::read(&file)?;
-        assert_eq!(rt; region.payload(0)?, Some([10, 0, 0, 0].as_slice()));
-    }
-    for len in [8200, 8195, 8192] {
-        file.truncate(len);
-        let region = Region::read(&file)?;
-        assert_eq!(rt; region.payload(0), Err(Fault::TruncatedChunk));
+        let wanted = if len == 0 {
+            Ok(None)
+        } else if len < 8201 {
+            Err(Fault::TruncatedChunk)
+        } else {
+            Ok(Some([10, 0, 0, 0].as_slice()))
+        };
+        assert_eq!(rt; region.payload(0), wanted, "of {len} bytes");
+        assert_eq!(rt; region.payload(1), Ok(None));
     }
     Ok(())
 }

@@ -142,7 +142,8 @@ fn write_chunks<P: AsSlice<u8>>(file: &mut Vec<u8>, payloads: &[Option<P>]) -> R
 /// An absent chunk, `None`, keeps its timestamp. Without chunks the file has 8,192 bytes.
 ///
 /// Answers `ChunkTooLarge`, with the chunk's place in the world, for the first payload that needs
-/// more than 255 sectors. `region`, which is within the limits, is only named there.
+/// more than 255 sectors. `region`, which is within the limits, is only named there. Else it refuses with
+/// `OutOfMemory` alone.
 pub fn write<P: AsSlice<u8>>(
     alloc: Global,
     region: RegionPos,

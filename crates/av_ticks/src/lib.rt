@@ -1,4 +1,4 @@
-//! Lists of scheduled ticks.
+//! Lists of scheduled water ticks (<https://minecraft.wiki/w/Tick#Scheduled_tick>).
 #![tactic(auto)]
 
 pub mod list;

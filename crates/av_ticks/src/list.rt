@@ -105,7 +105,7 @@ impl TickList {
         self.by_position.contains_key(&key(pos))
     }
 
-    /// Appends an entry, unless its position is pending, and answers whether it did.
+    /// Appends an entry, unless its position is pending, and answers whether it did: false leaves the list as it was.
     /// Refuses with OutOfMemory alone, and then the list is as it was.
     pub fn add(&mut self, entry: Entry) -> Result<bool, Fault>
         ensures added { IfOk result (λ added. added ≡ not (is_pending entry.pos (entries self.old))) }
@@ -124,7 +124,7 @@ impl TickList {
         Ok(true)
     }
 
-    /// Makes room for so many more entries, so that as many calls of `add` take no memory.
+    /// Makes room for so many more entries, so that as many calls of `add` take no memory. The entries stay.
     /// Refuses with OutOfMemory alone.
     pub fn reserve(&mut self, additional: usize) -> Result<(), Fault>
         ensures entries { entries self.new ≡ entries self.old }
@@ -137,8 +137,8 @@ impl TickList {
         Ok(())
     }
 
-    /// The entries that are due in a tick or before it, by their time, then by their priority, then by their place
-    /// in the list. Refuses with OutOfMemory alone.
+    /// The entries that are due in tick `now` or before it, by their time, then by their priority, the lower first,
+    /// then by their place in the list. They stay in it. Refuses with OutOfMemory alone.
     pub fn take_due(&self, now: u32) -> Result<Vec<Entry>, Fault>
         ensures ok { IfOk result (λ due. due.items ≡ ordered due_order (filter (is_due now) (entries self.now))) }
         ensures err { IfErr result (λ e. e ≡ OutOfMemory) }
@@ -149,7 +149,8 @@ impl TickList {
         Ok(due)
     }
 
-    /// Takes out the entries that are due in a tick or before it. The others keep their order.
+    /// Takes out the entries that are due in tick `now` or before it, which are those of `take_due`.
+    /// The others keep their order. It takes no memory.
     pub fn drop_due(&mut self, now: u32)
         ensures entries { entries self.new ≡ filter (λ e. not (is_due now e)) (entries self.old) }
         ensures room { room self.old ≤ room self.new }

@@ -1,3 +1,4 @@
+//! Lists of scheduled ticks by hand.
 use crate::{TickList, merge_made};
 use av_types::{Entry, Made, Pos};
 use std::test::Fail;
