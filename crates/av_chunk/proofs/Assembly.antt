@@ -1,7 +1,8 @@
 -- A chunk that was read, put together.
-use Rattle.std.proofs.Common.{◌≡◌, ℕ, ◌<◌, ◌≤◌, ℤ, Bool, true, false, true≢false, ◌||◌, Option, Some, None, List, [], ◌∷◌, ◌++◌, length, get_or, slice_get, refl, sym, ap, ◌∙◌, arith, min, if◌then◌else◌, codes, Decides}
+use Rattle.std.proofs.Common.{◌≡◌, ℕ, ◌<◌, ◌≤◌, ℤ, Bool, true, false, true≢false, ◌||◌, Option, Some, None, List, [], ◌∷◌, ◌++◌, length, get_or, slice_get, refl, sym, ap, subst, ◌∙◌, arith, min, if◌then◌else◌, codes, Decides}
 use Rattle.std.proofs.lemmas.Bool.Decides.{Decides-int_eq, nat_tests}
-use Rattle.std.specs.List.{list_any, flat_map}
+use Rattle.std.proofs.lemmas.List.Elements.{All-from_recursion}
+use Rattle.std.specs.List.{AllByRecursion, list_any, flat_map}
 use Rattle.std.specs.Ordering.{int_eq}
 use Rattle.av_types.specs.Division.{divided}
 use Rattle.av_types.specs.Faults.{least, lesser}
@@ -9,10 +10,12 @@ use Rattle.av_types.specs.Places.{is_section_of, place_of}
 use Rattle.av_types.specs.declared.place.Pos.{Pos}
 use Rattle.av_types.specs.declared.place.ChunkPos.{ChunkPos}
 use Rattle.av_types.specs.declared.place.Height.{Height}
+use Rattle.av_types.specs.declared.tick.Entry.{Entry}
 use Rattle.av_nbt.specs.Nbt.{NamedTag, Document, members_of}
 use Rattle.av_nbt.specs.Place.{emptied}
 use Rattle.av_nbt.specs.Shape.{members_in, or_else}
-use Rattle.av_nbt.specs.View.{views, named_views}
+use Rattle.av_nbt.specs.View.{named_views}
+use Rattle.av_nbt.specs.declared.tag.Named.{Named}
 use Rattle.av_state.specs.BlockState.{BlockState}
 use Rattle.av_state.specs.StateList.{with_states, most_states}
 use Rattle.av_ticks.specs.Entries.{is_pending}
@@ -22,19 +25,23 @@ use Rattle.av_section.specs.Section.{number_at}
 use Rattle.av_section.specs.Section as section
 use Rattle.av_section.specs.declared.section.Section.{Section}
 use Rattle.av_document.specs.Ticks.{lies_in}
+use Rattle.av_document.specs.Law.{HasInts}
+use Rattle.av_document.specs.Stored.{IsStored}
+use Rattle.av_document.proofs.Ints.{ints_read}
 use Rattle.av_document.specs.Chunk.{root_tags, sections, ticks, sections_of, section_number, is_bad_at, with_number, are_bad_sections, is_bad_list, numbered, section_states, first_fault, DenotesChunk, block_cell, block_states_of, tags_at, cell_of}
 use Rattle.av_document.proofs.Positions.{within_from, place_of-lt}
 use Rattle.av_chunk.specs.declared.chunk.Chunk.{Chunk}
 use Rattle.av_chunk.specs.declared.rest.ChunkRest.{ChunkRest}
 use Rattle.av_chunk.specs.declared.sections.Sections.{Sections}
 use Rattle.av_chunk.specs.declared.water.Ticks.{Ticks}
-use Rattle.av_chunk.specs.Views.{offset_of, section_in, state_in, cells_of, rest_of, first_some, found_outside, opened}
+use Rattle.av_chunk.specs.Rest.{rest_with, offset_of, first_some, found_outside}
+use Rattle.av_chunk.specs.Views.{section_in, state_in, cells_of, rest_of}
 use Rattle.av_chunk.specs.Reading.{IsLoaded}
 use Rattle.av_chunk.specs.Pending.{SlotAdds, is_entry_at, MarksPending}
 use Rattle.av_chunk.specs.TicksRead.{AreTicks}
 use Rattle.av_chunk.specs.SectionsRead.{are_too_many, SlotHas, if_numbered, last_numbered, AreRead}
 use Rattle.av_chunk.proofs.Admitted.{IsAdmitted, first_loaded, good_list}
-use Rattle.av_chunk.proofs.WaterIn.{water_in, pending_at}
+use Rattle.av_chunk.proofs.WaterIn.{AreIn, and_left, and_right, water_in, pending_at}
 
 pub members_in-of : (ms : List NamedTag) → members_in (members_of ms) ≡ ms
 members_in-of [] = refl
@@ -124,75 +131,81 @@ filled table cell test (Some x) (Some v) s a = record {
 few_states : (table more : List BlockState) (new : List BlockState) → new ≡ with_states table more → length new ≤ most_states → are_too_many table more ≡ false
 few_states table more new e p = let q : length (with_states table more) ≤ most_states = rw e at p in grind (arith, nat_tests)
 
-pub record Parts (c : ChunkPos) (h : Height) (root : List NamedTag) (old new : List BlockState) (read : Sections) (t : Ticks) (chunk : Chunk) (rest : ChunkRest) : Type 0 where
+pub record Parts (c : ChunkPos) (h : Height) (root : List NamedTag) (old new : List BlockState) (read : Sections) (t : Ticks) (chunk : Chunk) (tags : List Named) : Type 0 where
   pub admitted : IsAdmitted h c root
   pub read_are : AreRead h (sections root) old new read
   pub ticks_are : AreTicks c h (ticks root) t
   pub few : length new ≤ most_states
   pub water : entries chunk.ticks ≡ entries t.water
   pub marked : MarksPending h (entries t.water) read.sections.items chunk.sections.items
-  pub place_is : rest.place ≡ c
-  pub height_is : rest.height ≡ h
-  pub tags : named_views rest.tags.items ≡ emptied (codes "fluid_ticks") (emptied (codes "sections") root)
-  pub foreign_are : rest.foreign.items ≡ t.foreign.items
-  pub kept : rest.sections.items ≡ read.kept.items
-  pub outside : rest.outside.items ≡ read.outside.items
+  pub tags_are : named_views tags ≡ emptied (codes "fluid_ticks") (emptied (codes "sections") root)
 
-slot_of : (c : ChunkPos) (h : Height) (root : List NamedTag) (old new : List BlockState) (read : Sections) (t : Ticks) (chunk : Chunk) (rest : ChunkRest)
-    → Parts c h root old new read t chunk rest → (y : ℤ) → is_section_of h y ≡ true
+slot_of : (c : ChunkPos) (h : Height) (root : List NamedTag) (old new : List BlockState) (read : Sections) (t : Ticks) (chunk : Chunk) (tags : List Named)
+    → Parts c h root old new read t chunk tags → (y : ℤ) → is_section_of h y ≡ true
     → Filled new (block_cell (block_states_of (tags_at y root))) (λ i. list_any (is_entry_at h (offset_of h y) i) (entries t.water)) (section_in h chunk y)
-slot_of c h root old new read t chunk rest p y s =
+slot_of c h root old new read t chunk tags p y s =
     let same = last_is_first h y [] (sections root) (good_rows h (sections_of root) (good_list h root p.admitted.shape)) in
     rw (← same) (filled new _ _ (get_or read.sections.items (offset_of h y) None) (section_in h chunk y) (p.read_are.held.cells y s) (p.marked.slots (offset_of h y)))
 
-state_of : (c : ChunkPos) (h : Height) (root : List NamedTag) (old new : List BlockState) (read : Sections) (t : Ticks) (chunk : Chunk) (rest : ChunkRest)
-    → Parts c h root old new read t chunk rest → (q : Pos) → lies_in c h q ≡ true → state_in new h chunk q ≡ Some (cell_of root q)
-state_of c h root old new read t chunk rest p q s =
-    let f = slot_of c h root old new read t chunk rest p (divided q.y 16) (within_from c h q s).height in
+state_of : (c : ChunkPos) (h : Height) (root : List NamedTag) (old new : List BlockState) (read : Sections) (t : Ticks) (chunk : Chunk) (tags : List Named)
+    → Parts c h root old new read t chunk tags → (q : Pos) → lies_in c h q ≡ true → state_in new h chunk q ≡ Some (cell_of root q)
+state_of c h root old new read t chunk tags p q s =
+    let f = slot_of c h root old new read t chunk tags p (divided q.y 16) (within_from c h q s).height in
     rw f.is (f.numbers (place_of q) (place_of-lt q))
 
-no_faults : (c : ChunkPos) (h : Height) (root : List NamedTag) (old new : List BlockState) (read : Sections) (t : Ticks) (chunk : Chunk) (rest : ChunkRest)
-    → Parts c h root old new read t chunk rest → first_fault h c old root ≡ None
-no_faults c h root old new read t chunk rest p =
+no_faults : (c : ChunkPos) (h : Height) (root : List NamedTag) (old new : List BlockState) (read : Sections) (t : Ticks) (chunk : Chunk) (tags : List Named)
+    → Parts c h root old new read t chunk tags → first_fault h c old root ≡ None
+no_faults c h root old new read t chunk tags p =
     let few = few_states old (flat_map (section_states h) (sections root)) new p.read_are.states p.few in
     first_loaded h c root old p.admitted ∙ rw (p.read_are.no_fault, p.ticks_are.good, few) refl
 
-denotes : (c : ChunkPos) (h : Height) (d : Document) (root : List NamedTag) (old new : List BlockState) (read : Sections) (t : Ticks) (chunk : Chunk) (rest : ChunkRest)
-    → Parts c h root old new read t chunk rest → root_tags d ≡ root → rest.name.items ≡ d.name → DenotesChunk c h d (cells_of new h chunk) (entries chunk.ticks) (rest_of rest)
-denotes c h d root old new read t chunk rest p e n =
+-- what the document denotes
+pub denotes : (c : ChunkPos) (h : Height) (d : Document) (root : List NamedTag) (old new : List BlockState) (read : Sections) (t : Ticks) (chunk : Chunk) (tags : List Named)
+    → Parts c h root old new read t chunk tags → root_tags d ≡ root → DenotesChunk c h d (cells_of new h chunk) (entries chunk.ticks) (rest_with h d.name tags t.foreign.items read.kept.items read.outside.items)
+denotes c h d root old new read t chunk tags p e =
     let a = p.admitted in
     let same = λ (y : ℤ). last_is_first h y [] (sections root) (good_rows h (sections_of root) (good_list h root a.shape)) in
     record {
       no_fault = rw (e, a.level, a.status, a.full, a.shape, a.place, p.read_are.no_fault, p.ticks_are.good) refl;
       full = rw e a.full;
-      cells_are = λ q s. rw (e, state_of c h root old new read t chunk rest p q s) refl;
+      cells_are = λ q s. rw (e, state_of c h root old new read t chunk tags p q s) refl;
       water_is = rw e (p.water ∙ p.ticks_are.water);
-      name_is = n;
-      tags_are = rw e p.tags;
-      foreign_are = rw e (ap (λ xs. opened (views xs)) p.foreign_are ∙ p.ticks_are.foreign_are);
-      outside_is = λ y. rw (e, p.height_is, p.outside) (outside_of y (is_section_of h y) refl);
-      section_is = λ y s. rw (e, p.height_is, p.kept, ← same y) (p.read_are.held.rests y s);
+      name_is = refl;
+      tags_are = rw e p.tags_are;
+      foreign_are = rw e p.ticks_are.foreign_are;
+      outside_is = λ y. rw e (outside_of y (is_section_of h y) refl);
+      section_is = λ y s. rw (e, ← same y) (p.read_are.held.rests y s);
     }
   where
     outside_of : (y : ℤ) (b : Bool) → is_section_of h y ≡ b → (if b then None else found_outside y read.outside.items) ≡ (if b then None else numbered y (sections root))
     outside_of y true s = refl
     outside_of y false s = p.read_are.held.others y s ∙ last_is_first h y [] (sections root) (good_rows h (sections_of root) (good_list h root p.admitted.shape))
 
+each_in : (c : ChunkPos) (h : Height) (es : List Entry) → AreIn c h es → AllByRecursion (λ e. lies_in c h e.pos ≡ true) es
+each_in c h [] p = tt
+each_in c h (e ∷ es) p = (and_left (lies_in c h e.pos) _ p, each_in c h es (and_right (lies_in c h e.pos) _ p))
+
 pub loaded : (c : ChunkPos) (h : Height) (d : Document) (root : List NamedTag) (old new : List BlockState) (read : Sections) (t : Ticks) (chunk : Chunk) (rest : ChunkRest)
-    → Parts c h root old new read t chunk rest → root_tags d ≡ root → rest.name.items ≡ d.name → IsLoaded c h d old new chunk rest
-loaded c h d root old new read t chunk rest p e n =
-    let slot = slot_of c h root old new read t chunk rest p in
-    let within = water_in c h [] (ticks root) p.ticks_are.good refl in
+    → IsStored d → root_tags d ≡ root → Parts c h root old new read t chunk rest.tags.items
+    → rest.place ≡ c → rest.height ≡ h → rest_of rest ≡ rest_with h d.name rest.tags.items t.foreign.items read.kept.items read.outside.items
+    → IsLoaded c h d old new chunk rest
+loaded c h d root old new read t chunk rest stored e p place height same =
+    let slot = slot_of c h root old new read t chunk rest.tags.items p in
+    let read_in = water_in c h [] (ticks root) p.ticks_are.good refl in
+    let within : AreIn c h (entries chunk.ticks) = rw p.water (rw (← p.ticks_are.water) at read_in) in
+    let holds = denotes c h d root old new read t chunk rest.tags.items p e in
     record {
-      no_fault = rw e (no_faults c h root old new read t chunk rest p);
-      denotes = denotes c h d root old new read t chunk rest p e n;
-      numbered = λ q s. rw (state_of c h root old new read t chunk rest p q s) refl;
+      no_fault = rw e (no_faults c h root old new read t chunk rest.tags.items p);
+      denotes = subst (DenotesChunk c h d (cells_of new h chunk) (entries chunk.ticks)) (sym same) holds;
+      numbered = λ q s. rw (state_of c h root old new read t chunk rest.tags.items p q s) refl;
       whole = record { count = p.marked.count ∙ p.read_are.held.count; each_there = λ y s. rw ((slot y s).is) refl };
+      within = All-from_recursion (λ w. lies_in c h w.pos ≡ true) (entries chunk.ticks) (each_in c h (entries chunk.ticks) within);
+      ints = All-from_recursion (HasInts 0) (entries chunk.ticks) (ints_read c h d (cells_of new h chunk) (entries chunk.ticks) _ (record { bytes = stored.bytes; spelled = stored.spelled }) holds);
       pending = λ q s.
           let f = slot (divided q.y 16) (within_from c h q s).height in
-          rw f.is (f.pending (place_of q) ∙ (pending_at c h q (entries t.water) s (rw (← p.ticks_are.water) at within) ∙ ap (is_pending q) (sym p.water)));
-      place_is = p.place_is;
-      height_is = p.height_is;
+          rw f.is (f.pending (place_of q) ∙ (pending_at c h q (entries t.water) s (rw p.water at within) ∙ ap (is_pending q) (sym p.water)));
+      place_is = place;
+      height_is = height;
       states = rw e p.read_are.states;
     }
 

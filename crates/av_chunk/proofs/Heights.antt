@@ -4,7 +4,7 @@ use Rattle.std.specs.Prelude.{int_le, int_lt}
 use Rattle.std.proofs.lemmas.Int.{ints}
 use Rattle.av_types.specs.Places.{IsSectionOf, is_section_of}
 use Rattle.av_types.specs.declared.place.Height.{Height}
-use Rattle.av_chunk.specs.Views.{natural, offset_of}
+use Rattle.av_chunk.specs.Rest.{natural, offset_of}
 
 both : (a b c d : ℤ) → int_le a b && int_lt c d ≡ true → (a ≤ℤ b) × (c <ℤ d)
 both a b c d h = grind (arith, ints)

@@ -11,3 +11,4 @@ pub mod Assembly
 pub mod Found
 pub mod Written
 pub mod WrittenDocument
+pub mod Rewriting

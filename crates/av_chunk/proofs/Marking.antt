@@ -9,7 +9,7 @@ use Rattle.av_types.specs.declared.place.Height.{Height}
 use Rattle.av_types.specs.declared.tick.Entry.{Entry}
 use Rattle.av_section.specs.Section.{is_pending}
 use Rattle.av_section.specs.declared.section.Section.{Section}
-use Rattle.av_chunk.specs.Views.{offset_of}
+use Rattle.av_chunk.specs.Rest.{offset_of}
 use Rattle.av_chunk.specs.Pending.{SlotPending, SlotAdds, is_entry_at, MarksPending}
 
 same_number : (n : ℕ) → nat_eq n n ≡ true

@@ -16,7 +16,7 @@ use Rattle.av_chunk.proofs.Numbers.{lacks-each, is_bad_list-each}
 use Rattle.av_nbt.specs.View.{view, views}
 use Rattle.av_document.specs.Ticks.{is_bad_tick, water_entry, with_water, foreign}
 use Rattle.av_chunk.specs.Working.{has_other, tags_in, has_bad_number, checked_number, is_refused, are_bad_items, list_items}
-use Rattle.av_chunk.specs.Views.{opened}
+use Rattle.av_chunk.specs.Rest.{opened}
 
 pub views-push : (xs : List Tag) (x : Tag) → views (xs ++ x ∷ []) ≡ views xs ++ view x ∷ []
 views-push xs x = map-append view xs (x ∷ [])

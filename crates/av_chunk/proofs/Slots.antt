@@ -24,7 +24,7 @@ use Rattle.av_chunk.specs.declared.rest.OutsideSection.{OutsideSection}
 use Rattle.av_chunk.specs.declared.sections.Part.{Part}
 use Rattle.av_chunk.specs.declared.sections.Part.TheVariants.{Inside, Outside}
 use Rattle.av_chunk.specs.declared.sections.Sections.{Sections}
-use Rattle.av_chunk.specs.Views.{offset_of, first_some, section_or_missing, found_outside}
+use Rattle.av_chunk.specs.Rest.{offset_of, first_some, section_or_missing, found_outside}
 use Rattle.av_chunk.specs.SectionsRead.{HasCells, IsInside, IsOutside, IsPart, IsSectionRead, IsSectionRefused, or_missing, if_numbered, last_numbered, SlotHas, SlotIsFilled, HoldSections, AreMissing, IsPlaced, AreRead, AreJudged, FitsHeight}
 use Rattle.av_chunk.proofs.Heights.{offset_below, offset_apart}
 use Rattle.av_chunk.proofs.Judging.{with_states-append, first_kept, first_of, first_lesser, memory_first, memory_before}

@@ -15,14 +15,14 @@ use Rattle.av_ticks.specs.Entries.{same_pos, is_pending}
 use Rattle.av_document.specs.Layout.{block_at}
 use Rattle.av_document.specs.Ticks.{lies_in, fluid_of, water_entry, is_outside, is_bad_tick, with_entry, with_water}
 use Rattle.av_document.proofs.Positions.{within_from, block_at-of}
-use Rattle.av_chunk.specs.Views.{offset_of}
+use Rattle.av_chunk.specs.Rest.{offset_of}
 use Rattle.av_chunk.specs.Pending.{is_in_height, is_entry_at}
 use Rattle.av_chunk.proofs.Heights.{offset_apart}
 
 abbrev pub AreIn : ChunkPos → Height → List Entry → Type 0
 AreIn c h es = list_all (λ e. lies_in c h e.pos) es ≡ true
 
-and_left : (a b : Bool) → a && b ≡ true → a ≡ true
+pub and_left : (a b : Bool) → a && b ≡ true → a ≡ true
 and_left true b e = refl
 and_left false b e = e
 

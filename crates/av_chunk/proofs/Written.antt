@@ -1,18 +1,21 @@
 -- The states of a section, as the layout of a chunk has them and as the section has them.
-use Rattle.std.proofs.Common.{◌≡◌, ℕ, zero, suc, ◌+◌, ◌*◌, ◌/◌, ◌%◌, ◌<◌, ℤ, List, [], ◌∷◌, ◌++◌, map, length, Option, Some, None, true, true≢false, refl, sym, ap, ◌∙◌, subst, arith, false, if◌then◌else◌}
+use Rattle.std.proofs.Common.{◌≡◌, ℕ, zero, suc, ◌+◌, ◌*◌, ◌/◌, ◌%◌, ◌<◌, ℤ, List, [], ◌∷◌, ◌++◌, map, length, get_or, take, add-one, append_assoc, Option, Some, None, true, true≢false, refl, sym, ap, ◌∙◌, subst, arith, false, if◌then◌else◌}
 use Rattle.std.specs.Prelude.{slice_get, slice_index_or, IsSome, IfSome}
 use Rattle.std.specs.List.{range_with_len, All}
 use Rattle.std.proofs.lemmas.List.{map-append, append-nil}
 use Rattle.std.proofs.lemmas.List.Concat.{flat_map-append}
+use Rattle.std.proofs.Math.Seq.{take-suc}
 use Rattle.std.proofs.lemmas.List.FromFn.{map-range_with_len_more}
 use Rattle.av_types.specs.Division.{divided, remainder}
 use Rattle.av_types.specs.Places.{is_section_of, place_of}
 use Rattle.av_types.specs.declared.place.Pos.{Pos}
 use Rattle.av_types.specs.declared.place.ChunkPos.{ChunkPos}
 use Rattle.av_types.specs.declared.place.Height.{Height}
+use Rattle.av_types.specs.declared.tick.Entry.{Entry}
 use Rattle.av_nbt.specs.declared.tag.Kind.TheVariants as kind
 use Rattle.av_nbt.specs.Nbt.{Nbt, NamedTag, list, items_of}
-use Rattle.av_nbt.specs.View.{views, named_views}
+use Rattle.av_nbt.specs.View.{view, views, named_views}
+use Rattle.av_nbt.specs.declared.tag.Tag.{Tag}
 use Rattle.av_ticks.specs.Ticks.{entries}
 use Rattle.av_rules.specs.Kinds.{kind_count}
 use Rattle.av_nbt.specs.Shape.{◌>>=◌, or_else}
@@ -24,7 +27,8 @@ use Rattle.av_document.specs.Chunk.{SectionRest}
 use Rattle.av_rules.specs.declared.kinds.Kinds.{Kinds}
 use Rattle.av_document.specs.Layout.{block_at, states_of, section_layout, section_numbers, compound_with, kept_section, all_of, compounds, entry_layout, section_at, ticks_layout}
 use Rattle.av_document.proofs.Positions.{coordinate, divided-coordinate, remainder-coordinate, place-parts, lies_in-block_at, within_from}
-use Rattle.av_chunk.specs.Views.{section_in, number_in, state_in, opened, cells_of, rest_of, first_some, found_outside}
+use Rattle.av_chunk.specs.Rest.{opened, first_some, found_outside}
+use Rattle.av_chunk.specs.Views.{section_in, number_in, state_in, cells_of, rest_of}
 use Rattle.av_chunk.specs.Writing.{CanWrite, states_of_kinds, sources_of, light_of}
 use Rattle.av_chunk.specs.WritingSteps.{CanWriteSections, CanWriteEntry, first_numbers, first_sections, written_entry, section_with, inside_layout, written_section}
 use Rattle.av_chunk.specs.WritingSteps as steps
@@ -146,6 +150,15 @@ can_write-entries chunk rest kinds light elapsed can k d low =
       below = number_below (number_in rest.height chunk (slice_index_or (entries chunk.ticks) k d).pos) (states_of_kinds kinds) (kind_count kinds) (sym kinds.listed.a_row_each) (can.numbered (slice_index_or (entries chunk.ticks) k d).pos lies);
       due = can.due k d low;
     }
+
+-- one entry more was written
+pub one_more-written : (f : Entry → Nbt) (before : List Nbt) (es : List Entry) (n : ℕ) (d : Entry) (ticks new : List Tag) (tick : Tag) → n < length es
+    → views ticks ≡ before ++ map f (take n es) → view tick ≡ f (get_or es n d) → new ≡ ticks ++ tick ∷ [] → views new ≡ before ++ map f (take (n + 1) es)
+one_more-written f before es n d ticks new tick low so_far is step =
+    let last : map f (take (n + 1) es) ≡ map f (take n es) ++ f (get_or es n d) ∷ [] = ap (map f) (rw add-one (take-suc es n d low)) ∙ map-append f (take n es) (get_or es n d ∷ []) in
+    ap views step ∙ map-append view ticks (tick ∷ [])
+    ∙ ap (λ v. v ++ view tick ∷ []) so_far ∙ append_assoc before (map f (take n es)) (view tick ∷ [])
+    ∙ ap (λ t. before ++ (map f (take n es) ++ t ∷ [])) is ∙ ap (λ v. before ++ v) (sym last)
 
 -- ---- the whole
 

@@ -8,7 +8,8 @@ use Rattle.av_nbt.specs.View.{views, named_views}
 use Rattle.av_rules.specs.declared.kinds.Kinds.{Kinds}
 use Rattle.av_ticks.specs.Ticks.{entries}
 use Rattle.av_document.specs.Layout.{compound_with, compounds, all_of, section_at, section_numbers, ticks_layout}
-use Rattle.av_chunk.specs.Views.{opened, cells_of, rest_of}
+use Rattle.av_chunk.specs.Rest.{opened}
+use Rattle.av_chunk.specs.Views.{cells_of, rest_of}
 use Rattle.av_chunk.specs.Writing.{written, states_of_kinds, sources_of, light_of}
 use Rattle.av_chunk.specs.WritingSteps.{first_sections, written_entry}
 use Rattle.av_chunk.specs.declared.chunk.Chunk.{Chunk}

@@ -1,4 +1,5 @@
 pub mod Working
+pub mod Rest
 pub mod Views
 pub mod Reading
 pub mod Block

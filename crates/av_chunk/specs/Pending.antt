@@ -7,7 +7,7 @@ use Rattle.av_types.specs.declared.place.Height.{Height}
 use Rattle.av_types.specs.declared.tick.Entry.{Entry}
 use Rattle.av_section.specs.Section.{number_at, is_pending, SetsPending}
 use Rattle.av_section.specs.declared.section.Section.{Section}
-use Rattle.av_chunk.specs.Views.{offset_of}
+use Rattle.av_chunk.specs.Rest.{offset_of}
 
 abbrev pub is_in_height : Height → Entry → Bool
 is_in_height h e = is_block_of h e.pos.y

@@ -1,5 +1,6 @@
 -- What a reader of a chunk answers.
-use Rattle.std.specs.Prelude.{◌≡◌, ◌≢◌, ◌≤◌, ℕ, ℤ, List, length, Some, None, true, false, IsSome}
+use Rattle.std.specs.Prelude.{◌≡◌, ◌≢◌, ℤ, List, length, Some, None, true, false, IsSome}
+use Rattle.std.specs.List.{All}
 use Rattle.av_types.specs.Faults.{fault_number}
 use Rattle.av_types.specs.Places.{is_section_of}
 use Rattle.av_types.specs.declared.place.Pos.{Pos}
@@ -8,12 +9,12 @@ use Rattle.av_types.specs.declared.place.Height.{Height}
 use Rattle.av_types.specs.declared.fault.Fault.{Fault}
 use Rattle.av_types.specs.declared.fault.Fault.TheVariants.{OutOfMemory}
 use Rattle.av_nbt.specs.Nbt.{Document}
-use Rattle.av_nbt.specs.Spelling.{SpellsDocument}
 use Rattle.av_state.specs.BlockState.{BlockState}
 use Rattle.av_state.specs.StateList.{with_states}
 use Rattle.av_ticks.specs.Entries.{is_pending}
 use Rattle.av_ticks.specs.Ticks.{entries}
 use Rattle.av_document.specs.Ticks.{lies_in}
+use Rattle.av_document.specs.Law.{HasInts}
 use Rattle.av_document.specs.Chunk.{root_tags, is_full, first_fault, all_states, DenotesChunk}
 use Rattle.av_chunk.specs.declared.chunk.Chunk.{Chunk}
 use Rattle.av_chunk.specs.declared.chunk.Reading.{Reading}
@@ -21,23 +22,20 @@ use Rattle.av_chunk.specs.declared.chunk.Reading.TheVariants.{Full, Kept}
 use Rattle.av_chunk.specs.declared.rest.ChunkRest.{ChunkRest}
 use Rattle.av_chunk.specs.Views.{section_in, state_in, cells_of, pending_in, rest_of}
 
--- a document that a region file's sectors can hold
-pub record IsStored (d : Document) : Type 0 where
-  pub bytes : List ℕ
-  pub spelled : SpellsDocument d bytes
-  pub few : length bytes ≤ 1044475
-
 -- all sections of the height are there
 pub record IsWhole (h : Height) (chunk : Chunk) : Type 0 where
   pub count : length chunk.sections.items ≡ h.sections
   pub each_there : (y : ℤ) → is_section_of h y ≡ true → IsSome (section_in h chunk y)
 
 -- A loaded chunk: the chunk and the rest that the document denotes, by a table that the chunk's states came into, in the order of the file.
+-- Its entries lie in it, and their numbers are Ints.
 pub record IsLoaded (c : ChunkPos) (h : Height) (d : Document) (old new : List BlockState) (chunk : Chunk) (rest : ChunkRest) : Type 0 where
   pub no_fault : first_fault h c old (root_tags d) ≡ None
   pub denotes : DenotesChunk c h d (cells_of new h chunk) (entries chunk.ticks) (rest_of rest)
   pub numbered : (p : Pos) → lies_in c h p ≡ true → IsSome (state_in new h chunk p)
   pub whole : IsWhole h chunk
+  pub within : All (λ e. lies_in c h e.pos ≡ true) (entries chunk.ticks)
+  pub ints : All (HasInts 0) (entries chunk.ticks)
   pub pending : (p : Pos) → lies_in c h p ≡ true → pending_in h chunk p ≡ is_pending p (entries chunk.ticks)
   pub place_is : rest.place ≡ c
   pub height_is : rest.height ≡ h

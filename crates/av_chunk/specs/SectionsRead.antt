@@ -21,7 +21,7 @@ use Rattle.av_chunk.specs.declared.sections.Part.TheVariants.{Inside, Outside}
 use Rattle.av_chunk.specs.declared.sections.Sections.{Sections}
 use Rattle.av_chunk.specs.declared.rest.SectionTags.{SectionTags}
 use Rattle.av_chunk.specs.declared.rest.OutsideSection.{OutsideSection}
-use Rattle.av_chunk.specs.Views.{tags_of, offset_of, first_some, section_or_missing, found_outside}
+use Rattle.av_chunk.specs.Rest.{tags_of, offset_of, first_some, section_or_missing, found_outside}
 
 -- more states than a table has
 abbrev pub are_too_many : List BlockState → List BlockState → Bool

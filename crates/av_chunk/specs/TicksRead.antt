@@ -16,7 +16,7 @@ use Rattle.av_ticks.specs.Ticks.{entries}
 use Rattle.av_document.specs.Ticks.{is_bad_tick, with_water, foreign}
 use Rattle.av_chunk.specs.declared.water.Ticks.{Ticks}
 use Rattle.av_chunk.specs.Working.{has_other}
-use Rattle.av_chunk.specs.Views.{opened}
+use Rattle.av_chunk.specs.Rest.{opened}
 
 pub record AreTicks (c : ChunkPos) (h : Height) (rows : List (List NamedTag)) (t : Ticks) : Type 0 where
   pub good : list_any (is_bad_tick c h) rows ≡ false

@@ -1,7 +1,7 @@
 -- What a chunk is written from, and what its caller sees to.
 use Rattle.std.specs.Int.{w32}
 use Rattle.std.specs.Int.RustNames.{FitsSigned}
-use Rattle.std.specs.Prelude.{◌≡◌, ℕ, ℤ, pos, ◌-ℤ◌, List, Option, Some, None, Bool, true, false, IsSome}
+use Rattle.std.specs.Prelude.{◌≡◌, ℕ, ℤ, pos, ◌-ℤ◌, List, Option, Some, None, Bool, true, false, IsSome, map}
 use Rattle.std.specs.List.{All}
 use Rattle.av_types.specs.Water.{is_source}
 use Rattle.av_types.specs.declared.place.Pos.{Pos}
@@ -13,8 +13,11 @@ use Rattle.av_rules.specs.Kinds.{table_in, wet_at}
 use Rattle.av_rules.specs.declared.kinds.Kinds.{Kinds}
 use Rattle.av_ticks.specs.Ticks.{entries}
 use Rattle.av_document.specs.Ticks.{lies_in}
+use Rattle.av_document.specs.Chunk.{DenotesChunk}
 use Rattle.av_document.specs.Layout.{chunk_layout}
-use Rattle.av_chunk.specs.Views.{offset_of, number_in, state_in, cells_of, rest_of}
+use Rattle.av_document.specs.Law.{sooner}
+use Rattle.av_chunk.specs.Rest.{offset_of}
+use Rattle.av_chunk.specs.Views.{number_in, state_in, cells_of, rest_of}
 use Rattle.av_chunk.specs.Reading.{IsWhole}
 use Rattle.av_chunk.specs.Light.{section_count, light_section}
 use Rattle.av_chunk.specs.declared.chunk.Chunk.{Chunk}
@@ -43,6 +46,11 @@ abbrev pub written : Chunk → ChunkRest → Kinds → ChunkLight → ℕ → Do
 written chunk rest kinds light elapsed = chunk_layout rest.place rest.height
     (cells_of (states_of_kinds kinds) rest.height chunk) (entries chunk.ticks) (sources_of kinds rest.height chunk)
     (rest_of rest) (light_of light rest.height) elapsed
+
+-- A document of the chunk as it is now: its blocks, its entries sooner by the ticks that were run, and the rest.
+abbrev pub DenotesSooner : Chunk → ChunkRest → Kinds → ℕ → Document → Type 0
+DenotesSooner chunk rest kinds elapsed d =
+    DenotesChunk rest.place rest.height d (cells_of (states_of_kinds kinds) rest.height chunk) (map (sooner elapsed) (entries chunk.ticks)) (rest_of rest)
 
 -- A chunk that can be written: no section is out, each number is of the table, each entry lies in the chunk and its time
 -- fits an Int, and the light is that of the height's sections.

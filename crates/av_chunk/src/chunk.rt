@@ -7,7 +7,7 @@ ghost use Rattle.av_section.specs.Reading.{OnlyGrows};
 ghost use Rattle.av_document.specs.Chunk.{is_other};
 ghost use Rattle.av_chunk.specs.SectionsRead.{AreRead};
 ghost use Rattle.av_chunk.specs.TicksRead.{AreTicks, ArePartsRefused};
-ghost use Rattle.av_chunk.specs.Views.{opened};
+ghost use Rattle.av_chunk.specs.Rest.{opened};
 ghost use Rattle.av_chunk.specs.Working.{has_other, has_bad_number, list_items, list_rows};
 
 use crate::faults::lesser;
@@ -83,7 +83,8 @@ fn read_parts(
 }
 
 impl Chunk {
-    ghost use Rattle.av_chunk.specs.Reading.{IsStored, IsReading, IsRefusal};
+    ghost use Rattle.av_document.specs.Stored.{IsStored};
+    ghost use Rattle.av_chunk.specs.Reading.{IsReading, IsRefusal};
 
     /// The chunk of a document at its place. New states are numbered after those of the table, in the order of the file.
     ///

@@ -10,7 +10,7 @@ use std::alloc::Global;
 pub struct ChunkLight {
     sections: u32,
     bytes: Vec<u8>,
-    ghost whole: { length bytes.items ≡ 2048 * sections },
+    pub ghost whole: { length bytes.items ≡ 2048 * sections },
 }
 
 impl ChunkLight {

@@ -1,4 +1,7 @@
 //! What a chunk keeps beside its cells, its water entries and its light.
+ghost use Rattle.av_document.specs.Stored.{WasRead};
+ghost use Rattle.av_chunk.specs.Rest.{rest_with};
+
 use av_nbt::{Named, Tag};
 use av_types::{ChunkPos, Height};
 
@@ -19,6 +22,7 @@ pub struct OutsideSection {
 }
 
 /// All that a loaded chunk's document has beside cells, water entries and light, so that it can be written as it was.
+/// It was read from a document that a region file's sectors can hold.
 ///
 /// An empty place is a Byte under the name of the tag that stood there, or that is absent and comes last.
 #[derive(Drop)]
@@ -37,4 +41,5 @@ pub struct ChunkRest {
     pub sections: Vec<Option<SectionTags>>,
     /// The sections out of the height, in the order of the file.
     pub outside: Vec<OutsideSection>,
+    pub ghost was_read: { ∥ WasRead place height (rest_with height name.items tags.items foreign.items sections.items outside.items) ∥₁ },
 }

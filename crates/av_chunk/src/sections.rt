@@ -10,7 +10,7 @@ ghost use Rattle.av_state.specs.Table.{states};
 ghost use Rattle.av_section.specs.Reading.{OnlyGrows};
 ghost use Rattle.av_document.specs.Chunk.{is_other};
 ghost use Rattle.av_chunk.specs.SectionsRead.{AreStates, AreRefused, IsSectionRead, IsSectionRefused, AreMissing, IsPlaced, FitsHeight, AreRead, AreRefusedBy};
-ghost use Rattle.av_chunk.specs.Views.{offset_of, opened};
+ghost use Rattle.av_chunk.specs.Rest.{offset_of, opened};
 ghost use Rattle.av_chunk.specs.Working.{checked_number, compound_in, tags_in, has_bad_number};
 
 use crate::faults::lesser;

@@ -4,7 +4,7 @@ ghost use Rattle.std.specs.Option.{option_copied};
 ghost use Rattle.av_nbt.specs.View.{views, named_views};
 ghost use Rattle.av_document.specs.Ticks.{lies_in, fluid_of, is_water_name, numbers_of, water_entry, is_bad_tick};
 ghost use Rattle.av_chunk.specs.Working.{has_other};
-ghost use Rattle.av_chunk.specs.Views.{opened};
+ghost use Rattle.av_chunk.specs.Rest.{opened};
 ghost use Rattle.av_chunk.specs.TicksRead.{AreTicks, AreBadTicks};
 
 use crate::tags::{int_at, text_at};

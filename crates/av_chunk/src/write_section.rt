@@ -8,7 +8,7 @@ ghost use Rattle.av_nbt.specs.View.{view, named_views};
 ghost use Rattle.av_state.specs.Table.{states};
 ghost use Rattle.av_section.specs.Section.{HasNumbersBelow, section_states};
 ghost use Rattle.av_document.specs.Layout.{data_tags, states_layout};
-ghost use Rattle.av_chunk.specs.Views.{tags_of, missing, section_or_missing, first_some, found_outside};
+ghost use Rattle.av_chunk.specs.Rest.{tags_of, missing, section_or_missing, first_some, found_outside};
 ghost use Rattle.av_chunk.specs.WritingSteps.{section_with};
 
 use crate::build::{appended, joined, placed};

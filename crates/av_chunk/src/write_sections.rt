@@ -5,7 +5,7 @@ ghost use Rattle.av_types.specs.Places.{is_section_of};
 ghost use Rattle.av_types.specs.declared.fault.Fault.TheVariants.{OutOfMemory};
 ghost use Rattle.av_nbt.specs.View.{views, named_views};
 ghost use Rattle.av_document.specs.Layout.{compound_with, kept_section};
-ghost use Rattle.av_chunk.specs.Views.{offset_of};
+ghost use Rattle.av_chunk.specs.Rest.{offset_of};
 ghost use Rattle.av_chunk.specs.WritingSteps.{CanWriteSections, number_at, inside_layout, written_section, first_sections};
 
 use crate::chunk::Chunk;

@@ -6,10 +6,12 @@ ghost use Rattle.av_types.specs.declared.fault.Fault.TheVariants.{OutOfMemory};
 ghost use Rattle.av_nbt.specs.Nbt.{int};
 ghost use Rattle.av_nbt.specs.View.{view, views, named_views};
 ghost use Rattle.av_document.specs.Layout.{compound_with, fluid_name, entry_layout};
+ghost use Rattle.av_document.specs.Law.{HasInts};
 ghost use Rattle.av_types.specs.Division.{divided};
 ghost use Rattle.av_types.specs.Places.{is_section_of};
 ghost use Rattle.av_rules.specs.Kinds.{kind_count};
-ghost use Rattle.av_chunk.specs.Views.{opened, number_in};
+ghost use Rattle.av_chunk.specs.Rest.{opened};
+ghost use Rattle.av_chunk.specs.Views.{number_in};
 ghost use Rattle.av_ticks.specs.Ticks.{entries};
 ghost use Rattle.av_chunk.specs.Writing.{sources_of};
 ghost use Rattle.av_chunk.specs.WritingSteps.{CanWriteEntry, written_entry};
@@ -103,6 +105,7 @@ fn water_tick(
 ) -> Result<Tag, Fault>
     requires { CanWriteEntry chunk.now rest.now kinds.now elapsed entry }
     ensures ok { IfOk result (λ tick. view tick ≡ written_entry chunk.now rest.now kinds.now elapsed entry) }
+    ensures ints { HasInts elapsed entry }
     ensures err { IfErr result (λ e. e ≡ OutOfMemory) }
 {
     let source = is_source(chunk, rest.height, kinds, entry.pos);
@@ -120,6 +123,8 @@ fn with_water(
 ) -> Result<Vec<Tag>, Fault>
     requires { All (CanWriteEntry chunk.now rest.now kinds.now elapsed) (entries chunk.now.ticks) }
     ensures ok { IfOk result (λ new. views new.items ≡ views ticks.items ++ map (written_entry chunk.now rest.now kinds.now elapsed) (entries chunk.now.ticks)) }
+    // the numbers of an entry are Ints by their types, and its time by the condition
+    ensures ints { IfOk result (λ _. All (HasInts elapsed) (entries chunk.now.ticks)) }
     ensures err { IfErr result (λ e. e ≡ OutOfMemory) }
 {
     for entry in chunk.ticks.as_slice() {
@@ -138,6 +143,7 @@ pub(crate) fn all_ticks(
 ) -> Result<Vec<Tag>, Fault>
     requires { All (CanWriteEntry chunk.now rest.now kinds.now elapsed) (entries chunk.now.ticks) }
     ensures ok { IfOk result (λ ticks. views ticks.items ≡ map compound_with (opened (views rest.now.foreign.items)) ++ map (written_entry chunk.now rest.now kinds.now elapsed) (entries chunk.now.ticks)) }
+    ensures ints { IfOk result (λ _. All (HasInts elapsed) (entries chunk.now.ticks)) }
     ensures err { IfErr result (λ e. e ≡ OutOfMemory) }
 {
     let ticks = foreign_ticks(alloc, rest.foreign.as_slice())?;

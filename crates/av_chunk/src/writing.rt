@@ -2,7 +2,8 @@
 ghost use Rattle.std.specs.Prelude.{◌≡◌, IfOk, IfErr};
 ghost use Rattle.av_types.specs.declared.fault.Fault.TheVariants.{OutOfMemory};
 ghost use Rattle.av_nbt.specs.View.{document};
-ghost use Rattle.av_chunk.specs.Writing.{CanWrite, written};
+ghost use Rattle.av_nbt.specs.Writing.{IsWellFormed};
+ghost use Rattle.av_chunk.specs.Writing.{CanWrite, DenotesSooner, written};
 
 use crate::build::{compounds, placed};
 use crate::chunk::Chunk;
@@ -18,7 +19,7 @@ use std::alloc::Global;
 impl Chunk {
     /// The document of a chunk, after so many ticks were run: all that its rest has, in the places where it stood, with
     /// the states of its blocks, its light, and its scheduled ticks, each due so many ticks sooner.
-    /// Refuses with OutOfMemory alone.
+    /// It can be encoded, and reads as the same chunk. Refuses with OutOfMemory alone.
     pub fn write(
         &self,
         alloc: Global,
@@ -29,6 +30,8 @@ impl Chunk {
     ) -> Result<Root, Fault>
         requires { CanWrite self.now rest.now kinds.now light.now elapsed }
         ensures ok { IfOk result (λ root. document root ≡ written self.now rest.now kinds.now light.now elapsed) }
+        ensures well_formed { IfOk result (λ root. IsWellFormed (document root)) }
+        ensures denotes { IfOk result (λ root. DenotesSooner self.now rest.now kinds.now elapsed (document root)) }
         ensures err { IfErr result (λ e. e ≡ OutOfMemory) }
     {
         let sections = all_sections(alloc, self, rest, kinds, light)?;

@@ -6,7 +6,7 @@ use Rattle.av_nbt.specs.View.{views}
 use Rattle.av_state.specs.Table.{states}
 use Rattle.av_document.specs.Chunk.{section_faults, section_states}
 use Rattle.av_chunk.specs.SectionsRead.{are_too_many}
-use Rattle.av_chunk.specs.Views.{opened}
+use Rattle.av_chunk.specs.Rest.{opened}
 use Rattle.av_chunk.proofs.Judging.{memory_first, memory_before}
 use Rattle.av_chunk.proofs.Assembly.{ticks_beside}
 use Rattle.av_chunk.proofs.chunk.read_parts.Goals as goal

@@ -3,7 +3,7 @@ use Rattle.std.proofs.Math.Seq.{take-suc}
 use Rattle.av_types.specs.Division.{divided}
 use Rattle.av_types.specs.Places.{place_of}
 use Rattle.av_types.specs.declared.tick.Entry.{Entry}
-use Rattle.av_chunk.specs.Views.{offset_of}
+use Rattle.av_chunk.specs.Rest.{offset_of}
 use Rattle.av_chunk.specs.Pending.{SlotPending}
 use Rattle.av_chunk.proofs.Marking.{MarksPending-step, same_default}
 use Rattle.av_chunk.proofs.WaterIn.{and_right}

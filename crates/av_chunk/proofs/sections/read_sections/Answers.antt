@@ -3,7 +3,7 @@ use Rattle.std.specs.Vec.Iter.{into_iter_items}
 use Rattle.av_nbt.specs.declared.tag.Tag.{Tag}
 use Rattle.av_nbt.specs.View.{view, views}
 use Rattle.av_state.specs.Table.{states}
-use Rattle.av_chunk.specs.Views.{opened}
+use Rattle.av_chunk.specs.Rest.{opened}
 use Rattle.av_chunk.specs.Working.{tags_in}
 use Rattle.av_chunk.proofs.Rows.{rows-push, good_after}
 use Rattle.av_chunk.proofs.Slots.{AreJudged-part, AreJudged-refused, section_counts, kept_counts, OnlyGrows-trans}

@@ -4,7 +4,7 @@ use Rattle.av_nbt.specs.View.{views}
 use Rattle.av_state.specs.Table.{states}
 use Rattle.av_section.specs.Reading.{OnlyGrows}
 use Rattle.av_chunk.specs.Working.{has_bad_number}
-use Rattle.av_chunk.specs.Views.{opened}
+use Rattle.av_chunk.specs.Rest.{opened}
 use Rattle.av_chunk.specs.SectionsRead.{AreJudged}
 use Rattle.av_chunk.proofs.sections.read_sections.Given as goal
 

@@ -5,7 +5,7 @@ use Rattle.av_nbt.specs.View.{views}
 use Rattle.av_ticks.specs.Ticks.{entries}
 use Rattle.av_document.specs.Ticks.{is_bad_tick, with_water, foreign}
 use Rattle.av_chunk.specs.Working.{has_other}
-use Rattle.av_chunk.specs.Views.{opened}
+use Rattle.av_chunk.specs.Rest.{opened}
 use Rattle.av_chunk.proofs.water.read_ticks.Given as goal
 
 abbrev pub invariant-loop-tick : goal.invariant-loop-tick

@@ -3,7 +3,7 @@ use Rattle.std.specs.Prelude.{option_map}
 use Rattle.std.specs.Option.{option_copied}
 use Rattle.av_nbt.specs.Nbt.{NamedTag}
 use Rattle.av_nbt.specs.View.{named_views}
-use Rattle.av_chunk.specs.Views.{found_outside}
+use Rattle.av_chunk.specs.Rest.{found_outside}
 use Rattle.av_chunk.proofs.Written.{first_some-none, found_outside-step}
 use Rattle.av_chunk.proofs.write_section.find_outside.Goals as goal
 

@@ -2,7 +2,7 @@ use Rattle.std.proofs.Common.{◌≡◌, drop}
 use Rattle.std.specs.Prelude.{option_map}
 use Rattle.std.specs.Option.{option_copied}
 use Rattle.av_nbt.specs.View.{named_views}
-use Rattle.av_chunk.specs.Views.{first_some, found_outside}
+use Rattle.av_chunk.specs.Rest.{first_some, found_outside}
 use Rattle.av_chunk.proofs.write_section.find_outside.Given as goal
 
 abbrev pub invariant-loop-section : goal.invariant-loop-section

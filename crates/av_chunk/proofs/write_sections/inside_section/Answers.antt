@@ -4,7 +4,8 @@ use Rattle.av_nbt.specs.Nbt.{NamedTag}
 use Rattle.av_nbt.specs.View.{named_views}
 use Rattle.av_state.specs.Table.{states}
 use Rattle.av_section.specs.Section.{section_states}
-use Rattle.av_chunk.specs.Views.{section_in, offset_of, tags_of, section_or_missing}
+use Rattle.av_chunk.specs.Rest.{offset_of, tags_of, section_or_missing}
+use Rattle.av_chunk.specs.Views.{section_in}
 use Rattle.av_chunk.specs.Light.{light_section}
 use Rattle.av_chunk.specs.Writing.{states_of_kinds}
 use Rattle.av_chunk.specs.WritingSteps.{section_with}

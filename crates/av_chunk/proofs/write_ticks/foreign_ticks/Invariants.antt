@@ -1,7 +1,7 @@
 use Rattle.std.proofs.Common.{◌≡◌, map, take}
 use Rattle.av_nbt.specs.View.{views}
 use Rattle.av_document.specs.Layout.{compound_with}
-use Rattle.av_chunk.specs.Views.{opened}
+use Rattle.av_chunk.specs.Rest.{opened}
 use Rattle.av_chunk.proofs.write_ticks.foreign_ticks.Given as goal
 
 abbrev pub invariant-loop-tag : goal.invariant-loop-tag

@@ -4,7 +4,8 @@ use Rattle.av_types.specs.Division.{divided}
 use Rattle.av_types.specs.Water.{is_source}
 use Rattle.av_rules.specs.Kinds.{kind_count}
 use Rattle.av_section.specs.Section.{number_at}
-use Rattle.av_chunk.specs.Views.{section_in, offset_of, number_in}
+use Rattle.av_chunk.specs.Rest.{offset_of}
+use Rattle.av_chunk.specs.Views.{section_in, number_in}
 use Rattle.av_chunk.specs.Writing.{is_source_number}
 use Rattle.av_chunk.proofs.Written.{number_in-there}
 use Rattle.av_chunk.proofs.write_ticks.is_source.Goals as goal

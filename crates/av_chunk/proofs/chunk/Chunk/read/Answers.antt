@@ -5,13 +5,16 @@ use Rattle.av_state.specs.Table.{states}
 use Rattle.av_document.specs.Chunk.{sections, ticks}
 use Rattle.av_document.proofs.Tags.{tag_of-place_other}
 use Rattle.av_chunk.specs.Working.{admitted}
-use Rattle.av_chunk.specs.Views.{opened}
+use Rattle.av_ticks.specs.Ticks.{entries}
+use Rattle.av_chunk.specs.declared.chunk.Chunk.{Chunk}
+use Rattle.av_chunk.specs.Rest.{opened}
+use Rattle.av_chunk.specs.Views.{cells_of}
 use Rattle.av_chunk.specs.Reading.{IsRefusal}
 use Rattle.av_chunk.specs.TicksRead.{AreTicks}
 use Rattle.av_chunk.specs.SectionsRead.{AreRead}
 use Rattle.av_chunk.proofs.Rows.{items_good}
 use Rattle.av_chunk.proofs.WaterIn.{in_height, water_in}
-use Rattle.av_chunk.proofs.Assembly.{loaded, members_in-of}
+use Rattle.av_chunk.proofs.Assembly.{Parts, denotes, loaded, members_in-of}
 use Rattle.av_chunk.proofs.Admitted.{admitted_true, admitted_false, admitted_fault, good_sections, good_ticks, good_list, first_loaded}
 use Rattle.av_chunk.proofs.chunk.Chunk.read.Goals as goal
 
@@ -87,8 +90,8 @@ returns-clause-ok c =
     let turns : AreTicks c.args.place c.args.height (ticks root) c.in_ok-read.ticks = rw water at c.in_ok-read.ensures.ticks in
     let tags : named_views c.emptied-2.new.tags.items ≡ emptied (codes "fluid_ticks") (emptied (codes "sections") root) = rw c.in_ok-sections.ensures.place at c.in_ok-ticks.ensures.place in
     loaded c.args.place c.args.height (document c.args.root) root (states c.args.table.now) (states c.read_parts.new.table) c.in_ok-read.read c.in_ok-read.ticks
-    (record { sections = c.mark_pending.new.sections; ticks = c.in_ok-read.ticks.water })
-    (record { place = c.args.place; height = c.args.height; name = c.args.root.name; tags = c.emptied-2.new.tags; foreign = c.in_ok-read.ticks.foreign; sections = c.in_ok-read.read.kept; outside = c.in_ok-read.read.outside })
+    (record { sections = c.mark_pending.new.sections; ticks = c.in_ok-read.ticks.water }) _
+    c.requires (members_in-of root)
     (record {
       admitted = a;
       read_are = read;
@@ -96,11 +99,39 @@ returns-clause-ok c =
       few = c.read_parts.new.table.numbered.bounded;
       water = refl;
       marked = rw (← c.as_slice.ensures) c.mark_pending.ensures;
-      place_is = refl;
-      height_is = refl;
-      tags = tags;
-      foreign_are = refl;
-      kept = refl;
-      outside = refl;
+      tags_are = tags;
     })
-    (members_in-of root) refl
+    refl refl refl
+
+pub invariant_of-result : goal.invariant_of-result
+invariant_of-result c =
+    let root = named_views c.args.root.tags.items in
+    let is : admitted c.args.height c.args.place root ≡ Ok true = rw c.deref.ensures.value at (sym c.admitted.ensures) ∙ (c.in_ok-admitted.was ∙ ap Ok c.if-not-branch.false) in
+    let a = admitted_true c.args.height c.args.place root is in
+    let rows : opened (views c.items.result.items) ≡ sections root = rw c.in_ok-sections.ensures.taken at c.items.ensures.rows in
+    let taken : option_map view c.in_ok-ticks.ticks ≡ tag_of (codes "fluid_ticks") root =
+    rw c.in_ok-sections.ensures.place at c.in_ok-ticks.ensures.taken ∙ tag_of-place_other (codes "fluid_ticks") (codes "sections") blank root refl in
+    let water : opened (views c.items-2.result.items) ≡ ticks root = rw taken at c.items-2.ensures.rows in
+    let read : AreRead c.args.height (sections root) (states c.args.table.now) (states c.read_parts.new.table) c.in_ok-read.read = rw rows at c.in_ok-read.ensures.sections in
+    let turns : AreTicks c.args.place c.args.height (ticks root) c.in_ok-read.ticks = rw water at c.in_ok-read.ensures.ticks in
+    let tags : named_views c.emptied-2.new.tags.items ≡ emptied (codes "fluid_ticks") (emptied (codes "sections") root) = rw c.in_ok-sections.ensures.place at c.in_ok-ticks.ensures.place in
+    let chunk : Chunk = record { sections = c.mark_pending.new.sections; ticks = c.in_ok-read.ticks.water } in
+    let parts : Parts c.args.place c.args.height root (states c.args.table.now) (states c.read_parts.new.table) c.in_ok-read.read c.in_ok-read.ticks chunk c.emptied-2.new.tags.items =
+    record {
+      admitted = a;
+      read_are = read;
+      ticks_are = turns;
+      few = c.read_parts.new.table.numbered.bounded;
+      water = refl;
+      marked = rw (← c.as_slice.ensures) c.mark_pending.ensures;
+      tags_are = tags;
+    } in
+    record {
+      was_read = ∣ record {
+        read = document c.args.root;
+        stored = c.requires;
+        cells = cells_of (states c.read_parts.new.table) c.args.height chunk;
+        water = entries c.in_ok-read.ticks.water;
+        denotes = denotes c.args.place c.args.height (document c.args.root) root (states c.args.table.now) (states c.read_parts.new.table) c.in_ok-read.read c.in_ok-read.ticks chunk c.emptied-2.new.tags.items parts (members_in-of root);
+      } ∣₁;
+    }

@@ -1,5 +1,9 @@
-use Rattle.std.proofs.Common.{◌∙◌, ap}
+use Rattle.std.proofs.Common.{◌≡◌, sym, ◌∙◌, ap, subst}
+use Rattle.av_nbt.specs.Nbt.{Document, members_of}
 use Rattle.av_nbt.specs.View.{view, views, named_views}
+use Rattle.av_nbt.specs.Writing.{IsWellFormed}
+use Rattle.av_chunk.specs.Writing.{DenotesSooner, written}
+use Rattle.av_chunk.proofs.Rewriting.{written-well_formed, written-denotes}
 use Rattle.av_chunk.proofs.WrittenDocument.{document-written}
 use Rattle.av_chunk.proofs.chunk.Chunk.write.Goals as goal
 
@@ -12,3 +16,29 @@ returns-clause-ok c =
     (c.in_ok-tags.ensures.copied ∙ ap named_views c.as_slice.ensures.value)
     c.in_ok-tags-2.ensures.ok c.in_ok-tags-3.ensures.ok c.compounds.ensures c.compounds-2.ensures
     c.in_ok-sections.ensures.ok c.in_ok-ticks.ensures.ok
+
+pub returns-clause-well_formed : goal.returns-clause-well_formed
+returns-clause-well_formed c =
+    let same : ◌≡◌ {A = Document} (record { name = c.in_ok-name.name.items; members = members_of (named_views c.in_ok-tags-3.tags.items) }) (written c.args.self.now c.args.rest.now c.args.kinds.now c.args.light.now c.args.elapsed) =
+    document-written c.args.self.now c.args.rest.now c.args.kinds.now c.args.light.now c.args.elapsed c.in_ok-name.name.items
+    (view c.compounds.result) (view c.compounds-2.result) (views c.in_ok-sections.sections.items) (views c.in_ok-ticks.ticks.items)
+    (named_views c.in_ok-tags.tags.items) (named_views c.in_ok-tags-2.tags.items) (named_views c.in_ok-tags-3.tags.items)
+    (c.in_ok-name.ensures.items ∙ c.as_slice-2.ensures.value)
+    (c.in_ok-tags.ensures.copied ∙ ap named_views c.as_slice.ensures.value)
+    c.in_ok-tags-2.ensures.ok c.in_ok-tags-3.ensures.ok c.compounds.ensures c.compounds-2.ensures
+    c.in_ok-sections.ensures.ok c.in_ok-ticks.ensures.ok in
+    subst IsWellFormed (sym same)
+    (written-well_formed c.args.self.now c.args.rest.now c.args.kinds.now c.args.light.now c.args.elapsed c.requires c.in_ok-ticks.ensures.ints)
+
+pub returns-clause-denotes : goal.returns-clause-denotes
+returns-clause-denotes c =
+    let same : ◌≡◌ {A = Document} (record { name = c.in_ok-name.name.items; members = members_of (named_views c.in_ok-tags-3.tags.items) }) (written c.args.self.now c.args.rest.now c.args.kinds.now c.args.light.now c.args.elapsed) =
+    document-written c.args.self.now c.args.rest.now c.args.kinds.now c.args.light.now c.args.elapsed c.in_ok-name.name.items
+    (view c.compounds.result) (view c.compounds-2.result) (views c.in_ok-sections.sections.items) (views c.in_ok-ticks.ticks.items)
+    (named_views c.in_ok-tags.tags.items) (named_views c.in_ok-tags-2.tags.items) (named_views c.in_ok-tags-3.tags.items)
+    (c.in_ok-name.ensures.items ∙ c.as_slice-2.ensures.value)
+    (c.in_ok-tags.ensures.copied ∙ ap named_views c.as_slice.ensures.value)
+    c.in_ok-tags-2.ensures.ok c.in_ok-tags-3.ensures.ok c.compounds.ensures c.compounds-2.ensures
+    c.in_ok-sections.ensures.ok c.in_ok-ticks.ensures.ok in
+    subst (DenotesSooner c.args.self.now c.args.rest.now c.args.kinds.now c.args.elapsed) (sym same)
+    (written-denotes c.args.self.now c.args.rest.now c.args.kinds.now c.args.light.now c.args.elapsed c.requires)

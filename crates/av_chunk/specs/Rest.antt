@@ -1,0 +1,55 @@
+-- What a chunk keeps beside its cells, its entries and its light, from where it lies in memory.
+use Rattle.std.specs.Prelude.{ℕ, ℤ, pos, negsuc, ◌-ℤ◌, List, [], ◌∷◌, map, Option, Some, None, codes, slice_index_or, if◌then◌else◌}
+use Rattle.std.specs.Ordering.{int_eq}
+use Rattle.av_types.specs.Places.{is_section_of}
+use Rattle.av_types.specs.declared.place.Height.{Height}
+use Rattle.av_nbt.specs.Nbt.{Nbt, byte, NamedTag}
+use Rattle.av_nbt.specs.Shape.{compound_of, or_else}
+use Rattle.av_nbt.specs.View.{views, named_views}
+use Rattle.av_nbt.specs.declared.tag.Tag.{Tag}
+use Rattle.av_nbt.specs.declared.tag.Named.{Named}
+use Rattle.av_document.specs.Chunk.{SectionRest, Rest, section_rest}
+use Rattle.av_chunk.specs.declared.rest.SectionTags.{SectionTags}
+use Rattle.av_chunk.specs.declared.rest.OutsideSection.{OutsideSection}
+
+-- where the section of a number stands among those of the height
+abbrev pub natural : ℤ → ℕ
+natural (pos n) = n
+natural (negsuc n) = 0
+
+abbrev pub offset_of : Height → ℤ → ℕ
+offset_of h y = natural (y -ℤ h.min_section)
+
+-- the tags of Compounds
+abbrev pub opened : List Nbt → List (List NamedTag)
+opened ts = map (λ t. or_else [] (compound_of t)) ts
+
+abbrev pub tags_of : SectionTags → SectionRest
+tags_of s = record { tags = named_views s.tags.items; states = named_views s.states.items }
+
+-- the rest of a section that is missing
+abbrev pub missing : ℤ → SectionRest
+missing y = section_rest (record { name = codes "Y"; tag = byte y } ∷ [])
+
+abbrev pub section_or_missing : ℤ → Option SectionTags → SectionRest
+section_or_missing y None = missing y
+section_or_missing y (Some s) = tags_of s
+
+abbrev pub first_some : {A : Type 0} → Option A → Option A → Option A
+first_some None o = o
+first_some (Some x) o = Some x
+
+-- the section out of the height with a number
+abbrev pub found_outside : ℤ → List OutsideSection → Option (List NamedTag)
+found_outside y [] = None
+found_outside y (o ∷ os) = first_some (found_outside y os) (if int_eq y o.y then Some (named_views o.tags.items) else None)
+
+-- a rest, from its name, its tags, its foreign entries, and the sections in the height and out of it
+abbrev pub rest_with : Height → List ℕ → List Named → List Tag → List (Option SectionTags) → List OutsideSection → Rest
+rest_with h name tags foreign sections outside = record {
+  name = name;
+  tags = named_views tags;
+  foreign = opened (views foreign);
+  outside = λ y. if is_section_of h y then None else found_outside y outside;
+  section = λ y. section_or_missing y (slice_index_or sections (offset_of h y) None);
+}
