@@ -1,3 +1,4 @@
+-- Working definitions. No public clause cites them.
 -- What a function that reads a part of a table answers.
 use Rattle.std.specs.Prelude.{◌≡◌, ◌≢◌, Option, Some, None, Result, MatchResult}
 use Rattle.av_types.specs.declared.fault.Fault.{Fault}

@@ -29,7 +29,7 @@ impl Kinds {
     ghost use Rattle.av_rules.specs.Tables.{table_of};
     ghost use Rattle.av_rules.specs.Kinds.{kind_count, row_at, wet_at, table_in, rows_in, wets_in};
 
-    /// Fixes a row and a wetness for each state of a table.
+    /// Fixes a row and a wetness for each state of a table. Refuses with `OutOfMemory` alone.
     pub fn new(alloc: Global, table: StateTable, rules: &Rules) -> Result<Kinds, Fault>
         ensures table { IfOk result (λ k. states (table_in k) ≡ states table) }
         ensures rows { IfOk result (λ k. rows_in k ≡ map (row_of (table_of rules.now)) (states table)) }
@@ -47,14 +47,14 @@ impl Kinds {
         Ok(Kinds { table, rows, wets })
     }
 
-    /// How many numbers there are.
+    /// How many numbers there are: as many as the table has states.
     pub fn count(&self) -> usize
         ensures { result ≡ kind_count self.now }
     {
         self.rows.len()
     }
 
-    /// The row of a number.
+    /// What the rules say of a number's state.
     pub fn row(&self, number: u16) -> Row
         requires { number < kind_count self.now }
         ensures { result ≡ row_at self.now number }

@@ -11,7 +11,7 @@ use av_state::{Property, State};
 pub struct Row {
     /// Whether water may replace it.
     pub opens: bool,
-    /// Whether water above it spreads as on a floor.
+    /// Whether water stands on it: two sources make a third above it.
     pub floor: bool,
     /// How much light it stops, from 0 to 15.
     pub opacity: u8,

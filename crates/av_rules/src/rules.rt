@@ -26,7 +26,8 @@ impl Rules {
     ghost use Rattle.av_rules.specs.Tables.{table_of};
     ghost use Rattle.av_rules.specs.Document.{table_spelled};
 
-    /// Reads a table of version 1, 2 or 3 from a TOML document in UTF-8. Anything else is refused with `BadTable`.
+    /// Reads a table of version 1, 2 or 3 from a TOML document in UTF-8 (docs/FORMATS.md, "Block tables"). Anything else
+    /// is refused with `BadTable`, and `OutOfMemory` is answered where a growth was refused.
     pub fn read(alloc: Global, text: &[u8]) -> Result<Rules, Fault>
         ensures utf8 { IfOk result (λ _. IsUtf8 text.now) }
         ensures ok { IfOk result (λ r. table_spelled text.now ≡ Some (table_of r)) }
@@ -74,7 +75,7 @@ impl Rules {
         Row::SHUT
     }
 
-    /// The height of the world.
+    /// The height of the world: the table's, or the game's where the table is of version 1 or 2.
     pub fn height(&self) -> Height
         ensures lowest { result.min_section ≡ (table_of self.now).min_section }
         ensures sections { result.sections ≡ (table_of self.now).sections }

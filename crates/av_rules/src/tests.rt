@@ -1,3 +1,4 @@
+//! Block tables by hand.
 use crate::{Kinds, Row, Rules};
 use av_state::{Property, State, StateTable};
 use av_types::{Fault, Wet};

@@ -1,3 +1,4 @@
+-- Working definitions. No public clause cites them.
 -- The three forms that a state may take when it is read.
 use Rattle.std.specs.Prelude.{◌≡◌, ◌<◌, Some, None, slice_get}
 use Rattle.av_state.specs.declared.state.Form.{Form}

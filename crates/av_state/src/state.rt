@@ -101,7 +101,7 @@ impl State {
         Ok(Some(State { name, properties }))
     }
 
-    /// The value of a property.
+    /// The value of a property, or `None` where the state does not have it.
     pub fn value(&self, key: &[u8]) -> Option<&[u8]>
         ensures { option_map (λ v. v.now) result ≡ value_of key.now (state_of self.now).properties }
     {
@@ -127,8 +127,9 @@ impl State {
         self.name.as_slice() == WATER
     }
 
-    /// The form that the state takes when it is read: air has no properties, and water the one property `level` with 0 to 8,
-    /// where a missing one is 0 and 9 to 15 are 8. Any other level is refused with `BadWaterLevel`.
+    /// The form that the state takes when it is read (docs/FORMATS.md, "Water and air as states"): air has no properties,
+    /// and water the one property `level` with 0 to 8, where a missing one is 0 and 9 to 15 are 8. Any other level is
+    /// refused with `BadWaterLevel`, and a growth that was refused with `OutOfMemory`.
     pub fn meant(&self, alloc: Global) -> Result<State, Fault>
         ensures ok { IfOk result (λ s. meant (state_of self.now) ≡ Some (state_of s)) }
         ensures no_level { (result ≡ Err BadWaterLevel) ↔ (meant (state_of self.now) ≡ None) }
@@ -179,7 +180,7 @@ impl State {
         }
     }
 
-    /// How wet the state is by its name: water by its level, and all else is dry.
+    /// How wet the state is by its name: water by its level, and all else is dry, water without a form too.
     pub fn wet(&self) -> Wet
         ensures { result ≡ wet_of (state_of self.now) }
     {
@@ -224,6 +225,7 @@ impl State {
     }
 
     /// The state as text, as `minecraft:furnace[facing=north,lit=true]`, its bytes as they are.
+    /// Refuses with `OutOfMemory` alone.
     pub fn text(&self, alloc: Global) -> Result<Vec<u8>, Fault>
         ensures ok { IfOk result (λ v. v.items ≡ state_text (state_of self.now)) }
         ensures memory { IfErr result (λ e. e ≡ OutOfMemory) }

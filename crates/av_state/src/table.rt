@@ -29,7 +29,7 @@ impl StateTable {
     ghost use Rattle.av_state.specs.StateList.{first_states, most_states, number_in, Numbers, IsOneTooMany};
     ghost use Rattle.av_state.specs.Table.{states};
 
-    /// The table of the ten first states.
+    /// The table of the ten first states: air, and water of the levels 0 to 8. Refuses with `OutOfMemory` alone.
     pub fn new(alloc: Global) -> Result<Self, Fault>
         ensures ok { IfOk result (λ t. states t ≡ first_states) }
         ensures memory { IfErr result (λ e. e ≡ OutOfMemory) }
@@ -98,8 +98,8 @@ impl StateTable {
 
     /// Gives a state its number: that of the form that it takes when it is read. A new one comes last.
     ///
-    /// Refuses water whose level is not 0 to 15 with `BadWaterLevel`, and a new state beside 65,535 others with
-    /// `TooManyStates`. After a refusal the table is as it was.
+    /// Refuses water whose level is not 0 to 15 with `BadWaterLevel`, a new state beside 65,535 others with
+    /// `TooManyStates`, and a growth that was refused with `OutOfMemory`. After a refusal the table is as it was.
     pub fn intern(&mut self, state: &State) -> Result<u16, Fault>
         ensures ok { IfOk result (Numbers (states self.old) (state_of state.now) (states self.new)) }
         ensures no_level { (result ≡ Err BadWaterLevel) ↔ (meant (state_of state.now) ≡ None) }

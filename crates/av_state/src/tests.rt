@@ -1,3 +1,4 @@
+//! Block states and their numbers, by hand.
 use crate::{Property, State, StateTable};
 use av_types::{Fault, Wet};
 use std::alloc::Global;
@@ -20,9 +21,18 @@ fn numbers_air_and_water(rt: HostRuntime) -> Result<(), Fail> {
     let alloc = rt.alloc();
     let mut table = StateTable::new(alloc)?;
     assert_eq!(rt; table.len(), 10);
-    let air = state(alloc, "minecraft:air", &[("lit", "true")])?;
-    assert_eq!(rt; table.intern(&air), Ok(0));
+    assert!(rt; !table.is_empty());
+    for pairs in [[].as_slice(), [("lit", "true")].as_slice()] {
+        let air = state(alloc, "minecraft:air", pairs)?;
+        assert!(rt; air.is_air());
+        assert!(rt; !air.is_water());
+        assert_eq!(rt; air.wet(), Wet::Dry);
+        assert_eq!(rt; table.intern(&air), Ok(0));
+    }
     let source = state(alloc, "minecraft:water", &[])?;
+    assert!(rt; source.is_water());
+    assert!(rt; !source.is_air());
+    assert_eq!(rt; source.wet(), Wet::Source);
     assert_eq!(rt; table.intern(&source), Ok(1));
     let cases = [
         ("0", Ok(1)),
