@@ -4,5 +4,4 @@ pub mod Kinds
 pub mod Rule
 pub mod Turn
 pub mod Wakes
-pub mod Frame
 pub mod Grid

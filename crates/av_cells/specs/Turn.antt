@@ -1,5 +1,5 @@
 -- A turn, as a function from a world to a world and the entries made.
-use Rattle.std.specs.Prelude.{ℕ, ◌+◌, ◌-◌, pos, nat_le, nat_lt, nat_eq, min, List, [], ◌∷◌, ◌++◌, Bool, true, false, not, ◌&&◌, ◌||◌, if◌then◌else◌, Option, Some, None, ◌≤◌, ◌⊎◌, IsTrue}
+use Rattle.std.specs.Prelude.{ℕ, ◌+◌, ◌-◌, pos, nat_le, nat_lt, nat_eq, min, List, [], ◌∷◌, ◌++◌, Bool, true, false, not, ◌&&◌, ◌||◌, if◌then◌else◌, Option, Some, None}
 use Rattle.av_types.specs.declared.place.Pos.{Pos}
 use Rattle.av_types.specs.declared.water.Direction.{Direction}
 use Rattle.av_types.specs.declared.water.Direction.TheVariants.{North, South, West, East}
@@ -10,7 +10,7 @@ use Rattle.av_cells.specs.Positions.{step, below, around}
 use Rattle.av_types.specs.Water.{amount_of, is_wet, is_source}
 use Rattle.av_cells.specs.World.{World, with_number, with_entry_if}
 use Rattle.av_cells.specs.declared.kind.Kind.{Kind}
-use Rattle.av_cells.specs.Rule.{wet_at, can_enter, has_hole, sources_beside, incoming_at, found_below, IsDrop}
+use Rattle.av_cells.specs.Rule.{wet_at, can_enter, has_hole, sources_beside, incoming_at, found_below}
 
 -- a world, and the entries made so far
 pub record Change : Type 0 where
@@ -115,17 +115,3 @@ renewed k now p c =
 -- a turn of a block in tick now
 unfoldable pub turn : (ℕ → Kind) → ℕ → Pos → World → Change
 turn k now p w = if is_wet (wet_at k w p) then renewed k now p (change w []) else change w []
-
--- a side's drop is n, and no side that can be entered has a nearer one
-pub record HasNearest (k : ℕ → Kind) (w : World) (p : Pos) (d : Direction) (n : ℕ) : Type 0 where
-  pub drop : IsDrop k w (step p d) (Some n)
-  pub nearest : (e : Direction) (m : ℕ) → IsTrue (can_enter k w (step p e)) → IsDrop k w (step p e) (Some m) → n ≤ m
-
--- no side that can be entered has a drop
-abbrev pub HasNoDrops : (ℕ → Kind) → World → Pos → Type 0
-HasNoDrops k w p = (e : Direction) → IsTrue (can_enter k w (step p e)) → IsDrop k w (step p e) None
-
--- a direction is chosen: its side can be entered, and its drop is the least among such sides, or none of them has one
-pub record IsChosen (k : ℕ → Kind) (w : World) (p : Pos) (d : Direction) : Type 0 where
-  pub enterable : IsTrue (can_enter k w (step p d))
-  pub best : ((n : ℕ) × HasNearest k w p d n) ⊎ HasNoDrops k w p

@@ -6,7 +6,7 @@ use Rattle.av_cells.specs.declared.kind.Kind.{Kind}
 use Rattle.av_cells.specs.Positions.{InReach}
 use Rattle.av_cells.specs.World.{World}
 use Rattle.av_cells.specs.Turn.{turn}
-use Rattle.av_cells.specs.Frame.{Agree, Same, Kept, InLoadedReach, AreApart, Commute}
+use Rattle.av_water.specs.Frame.{Agree, Same, Kept, InLoadedReach, AreApart, Commute}
 use Rattle.av_water.proofs.SameReads.{turn_same}
 use Rattle.av_water.proofs.Regions.{sees_turn}
 use Rattle.av_water.proofs.Inside.{turn_kept}

@@ -9,7 +9,8 @@ use Rattle.av_cells.specs.declared.kind.Kind.{Kind}
 use Rattle.av_cells.specs.Positions.{step}
 use Rattle.av_cells.specs.World.{World}
 use Rattle.av_cells.specs.Rule.{can_enter, IsDrop}
-use Rattle.av_cells.specs.Turn.{drop_of, rank_of, rank_at, least_rank, is_chosen, HasNearest, HasNoDrops, IsChosen}
+use Rattle.av_cells.specs.Turn.{drop_of, rank_of, rank_at, least_rank, is_chosen}
+use Rattle.av_water.specs.Choice.{HasNearest, HasNoDrops, IsChosen}
 use Rattle.av_water.proofs.Ranks.{drop_of_is, drop_is}
 
 least_le : (k : ℕ → Kind) (w : World) (p : Pos) (d : Direction) → least_rank k w p ≤ rank_at k w p d

@@ -14,7 +14,7 @@ use Rattle.av_cells.specs.Positions.{step, below, around, same_pos, ForAround, I
 use Rattle.av_cells.specs.World.{World, with_number, with_entry_if}
 use Rattle.av_cells.specs.Rule.{wet_at, can_enter, has_hole, sources_beside, incoming_at}
 use Rattle.av_cells.specs.Turn.{Change, change, entry_of, wakes, woken, woken_all, set_awake, rank_at, is_chosen, least_rank, planned, number_of_wet, set_planned, spread, onward, renewed, same_wet, turn}
-use Rattle.av_cells.specs.Frame.{Kept, InLoadedReach, IsMadeBy}
+use Rattle.av_water.specs.Frame.{Kept, InLoadedReach, IsMadeBy}
 use Rattle.av_cells.proofs.Loaded.{wet_is_loaded}
 use Rattle.av_water.proofs.Plans.{enterable_is_loaded, side_is_loaded}
 use Rattle.av_water.proofs.Readiness.{around_itself, around_below, around_side}

@@ -10,7 +10,7 @@ use Rattle.av_cells.specs.Positions.{step, below, above, around, same_pos, ForAr
 use Rattle.av_cells.specs.World.{World, with_number}
 use Rattle.av_cells.specs.Rule.{kind_at, unloaded, can_enter, has_hole, one_if, sources_beside, most_beside, incoming_at, can_pass, can_drop, found_or, found_below}
 use Rattle.av_cells.specs.Turn.{Change, change, entry_of, wakes, woken, woken_all, set_awake, drop_of, rank_of, rank_at, least_rank, is_chosen, planned, number_of_wet, set_planned, spread, onward, renewed, same_wet, turn}
-use Rattle.av_cells.specs.Frame.{Agree, Same}
+use Rattle.av_water.specs.Frame.{Agree, Same}
 
 pub kind_same : (k : ℕ → Kind) (R : Pos → Type 0) (v w : World) (q : Pos) → Agree R v w → R q → kind_at k v q ≡ kind_at k w q
 unfolding kind_at

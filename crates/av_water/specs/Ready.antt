@@ -1,4 +1,4 @@
--- What the steps of a turn need: room for so many more entries, and blocks that may be set.
+-- Working definitions: what the steps of a turn need. No public clause cites them.
 use Rattle.std.specs.Prelude.{◌≡◌, ℕ, ◌<◌, ◌≤◌, ◌+◌, List, length, IsTrue, Option, Some}
 use Rattle.av_types.specs.declared.water.Direction.{Direction}
 use Rattle.av_cells.specs.declared.kind.Kind.{Kind}

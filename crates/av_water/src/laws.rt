@@ -6,8 +6,9 @@ ghost use Rattle.av_types.specs.declared.water.Direction.{Direction};
 ghost use Rattle.av_cells.specs.declared.kind.Kind.{Kind};
 ghost use Rattle.av_cells.specs.Positions.{InReach};
 ghost use Rattle.av_cells.specs.World.{World};
-ghost use Rattle.av_cells.specs.Turn.{turn, is_chosen, IsChosen};
-ghost use Rattle.av_cells.specs.Frame.{Agree, Same, Kept, InLoadedReach, IsMadeBy, AreApart, Commute};
+ghost use Rattle.av_cells.specs.Turn.{turn, is_chosen};
+ghost use Rattle.av_water.specs.Choice.{IsChosen};
+ghost use Rattle.av_water.specs.Frame.{Agree, Same, Kept, InLoadedReach, IsMadeBy, AreApart, Commute};
 
 /// A turn reads nothing out of its reach: in two worlds that agree on the reach in what is loaded, in states and in
 /// pending blocks, it makes the same entries and the same changes there.
