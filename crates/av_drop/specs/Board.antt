@@ -1,4 +1,4 @@
--- A board of 11 by 11 blocks around a block, row by row from the north, on which the search counts.
+-- Working definitions: a board of 11 by 11 blocks around a block, row by row from the north. No public clause cites them.
 use Rattle.std.specs.Prelude.{◌≡◌, ℕ, ◌+◌, ◌-◌, ◌||◌, ◌%◌, ◌/◌, ◌≤◌, pos, ◌+ℤ◌, ◌-ℤ◌, List, Bool, false, slice_index_or}
 use Rattle.av_types.specs.declared.place.Pos.{Pos}
 use Rattle.av_cells.specs.declared.kind.Kind.{Kind}
