@@ -3,3 +3,4 @@ pub mod Names
 pub mod Output
 pub mod BlockCommand
 pub mod Tables
+pub mod Running

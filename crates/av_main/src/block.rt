@@ -5,7 +5,7 @@ ghost use Rattle.av_types.specs.Places.{IsInLimits};
 ghost use Rattle.av_main.specs.BlockCommand.{HasAnswered, IsBlockLine, IsBlockRefusal, IsPathOf, IsPathRefused, status_of};
 
 use crate::names::{file_name, region_of_name};
-use crate::output::{block_line, write_fault};
+use crate::output::{FAULT, REFUSED, block_line, report};
 use av_chunk::block_at;
 use av_types::{Fault, Height, Pos, RegionPos};
 use std::alloc::Global;
@@ -54,12 +54,9 @@ fn explain<E: Write>(err: &mut E, refusal: &Refusal) -> u8
                 err,
                 "the file's name is not r.X.Z.mca, with X and Z the region's coordinates"
             );
-            2
+            REFUSED
         }
-        Refusal::Fault(fault) => {
-            let _ = write_fault(err, fault);
-            1
-        }
+        Refusal::Fault(fault) => report(err, fault),
     }
 }
 
@@ -80,7 +77,7 @@ pub fn block_text<O: Write, E: Write>(
     match answer(alloc, path, bytes, pos, height) {
         Ok(line) => match out.write_all(line.as_slice()) {
             Ok(()) => 0,
-            Err(_) => 1,
+            Err(_) => FAULT,
         },
         Err(refusal) => explain(err, &refusal),
     }

@@ -11,6 +11,12 @@ use av_types::Fault;
 use std::alloc::Global;
 use std::io::{self, Write};
 
+/// The status after a fault.
+pub const FAULT: u8 = 1;
+
+/// The status after words that are refused, and after a call for help.
+pub const REFUSED: u8 = 2;
+
 /// The line for a block: the state as `NAME` or `NAME[k=v,..]`, or `unloaded`.
 pub fn block_line(alloc: Global, block: &Option<State>) -> Result<Vec<u8>, Fault>
     ensures line { IfOk result (λ line. line.items ≡ answer_line (option_map state_of block.now)) }
@@ -29,4 +35,12 @@ pub fn write_fault<E: Write>(err: &mut E, fault: &Fault) -> io::Result<()>
     ensures { OnOk result (Appends (E.contents err.old) (E.contents err.new) (line (fault_text fault.now))) }
 {
     writeln!(err, "{fault}")
+}
+
+/// Writes a fault, as well as that can be written, and answers the status.
+pub fn report<E: Write>(err: &mut E, fault: &Fault) -> u8
+    ensures { result ≡ FAULT }
+{
+    let _ = write_fault(err, fault);
+    FAULT
 }

@@ -1,13 +1,14 @@
 //! The program's way from its words to its status.
-ghost use Rattle.std.specs.Prelude.{◌≡◌, ◌≢◌, ◌≤◌, IfErr, IfOk};
+ghost use Rattle.std.specs.Prelude.{◌≡◌, ◌≢◌, ◌≤◌, ◌⊎◌, IfErr, IfOk, IsSomeAnd, true, map, option_map, is_some};
 ghost use Rattle.clap.specs.Words.{kind_of};
 ghost use Rattle.av_types.specs.declared.fault.Fault.TheVariants.{OutOfMemory, BadTable};
-ghost use Rattle.av_main.specs.Tables.{IsHeightOf};
+ghost use Rattle.av_main.specs.Running.{HasRun, HasRunProgram, HasRunWords, IsDevice, IsHeightBy, IsUnread};
+ghost use Rattle.av_main.specs.Tables.{IsWorldHeight};
 
 use crate::block::block_text;
 use crate::command_line::commands::Words;
 use crate::command_line::words;
-use crate::output::write_fault;
+use crate::output::{FAULT, REFUSED, report};
 use av_rules::Rules;
 use av_types::{Fault, Height, Pos};
 use clap::Error;
@@ -17,22 +18,8 @@ use std::io::{self, Write};
 use std::rt::{Env, Files};
 use std::{env, fs};
 
-/// The status after a fault.
-const FAULT: u8 = 1;
-
-/// The status after words that are refused, and after a call for help.
-const REFUSED: u8 = 2;
-
-/// Writes a fault, as well as that can be written, and answers the status.
-fn report<E: Write>(err: &mut E, fault: &Fault) -> u8
-    ensures { result ≡ FAULT }
-{
-    let _ = write_fault(err, fault);
-    FAULT
-}
-
 /// Writes why words were refused, or the help that was called for, and answers the status.
-fn explain<O: Write, E: Write>(out: &mut O, err: &mut E, error: &Error) -> u8
+fn explain_words<O: Write, E: Write>(out: &mut O, err: &mut E, error: &Error) -> u8
     ensures memory { kind_of error.now ≡ ErrorKind.OutOfMemory → result ≡ FAULT }
     ensures refused { kind_of error.now ≢ ErrorKind.OutOfMemory → result ≡ REFUSED }
 {
@@ -48,7 +35,9 @@ fn explain<O: Write, E: Write>(out: &mut O, err: &mut E, error: &Error) -> u8
 }
 
 /// The bytes of a file. A file that can't be read is `Device` with its name as it was given.
-fn read_file<R: Files + AllocGlobal>(rt: &R, name: &str) -> Result<Vec<u8>, Fault> {
+fn read_file<R: Files + AllocGlobal>(rt: &R, name: &str) -> Result<Vec<u8>, Fault>
+    ensures { IfErr result (λ e. (e ≡ OutOfMemory) ⊎ IsDevice name.now e) }
+{
     match fs::read(rt, name) {
         Ok(bytes) => Ok(bytes),
         Err(error) if error.kind() == io::ErrorKind::OutOfMemory => Err(Fault::OutOfMemory),
@@ -56,24 +45,39 @@ fn read_file<R: Files + AllocGlobal>(rt: &R, name: &str) -> Result<Vec<u8>, Faul
     }
 }
 
-/// The height that a block table gives the world.
-fn table_height(alloc: Global, table: &[u8]) -> Result<Height, Fault>
-    ensures height { IfOk result (IsHeightOf table.now) }
-    ensures refused { IfErr result (λ e. e ≢ OutOfMemory → e ≡ BadTable) }
+/// The world's height: that of a block table, or the game's where there is none.
+fn world_height(alloc: Global, table: Option<&[u8]>) -> Result<Height, Fault>
+    ensures height { IfOk result (IsWorldHeight (option_map (λ t. t.now) table.entry)) }
+    ensures refused { IfErr result (λ e. (e ≡ OutOfMemory) ⊎ ((is_some table.entry ≡ true) × (e ≡ BadTable))) }
 {
-    Ok(Rules::read(alloc, table)?.height())
+    match table {
+        Some(text) => Ok(Rules::read(alloc, text)?.height()),
+        None => Ok(Height::game()),
+    }
 }
 
-/// What `block` reads: the table's height, or the game's where there is no table, and then the file.
+/// The bytes of the block table, where one is named.
+fn read_table<R: Files + AllocGlobal>(rt: &R, name: Option<&str>) -> Result<Option<Vec<u8>>, Fault>
+    ensures there { IfOk result (λ read. is_some read ≡ is_some name.entry) }
+    ensures unread { IfErr result (λ e. (e ≡ OutOfMemory) ⊎ IsSomeAnd name.entry (λ n. IsDevice n.now e)) }
+{
+    match name {
+        Some(name) => Ok(Some(read_file(rt, name)?)),
+        None => Ok(None),
+    }
+}
+
+/// What `block` reads: the world's height, by the block table, and then the file.
 fn read_inputs<R: Files + AllocGlobal>(
     rt: &R,
     file: &str,
     table: Option<&str>,
-) -> Result<(Height, Vec<u8>), Fault> {
-    let height = match table {
-        Some(name) => table_height(rt.alloc(), read_file(rt, name)?.as_slice())?,
-        None => Height::game(),
-    };
+) -> Result<(Height, Vec<u8>), Fault>
+    ensures height { IfOk result (λ read. IsHeightBy (option_map (λ t. t.now) table.entry) read.0) }
+    ensures unread { IfErr result (IsUnread file.now (option_map (λ t. t.now) table.entry)) }
+{
+    let table = read_table(rt, table)?;
+    let height = world_height(rt.alloc(), table.as_ref().map(|text| text.as_slice()))?;
     Ok((height, read_file(rt, file)?))
 }
 
@@ -86,7 +90,8 @@ fn run_block<R: Files + AllocGlobal, O: Write, E: Write>(
     out: &mut O,
     err: &mut E,
 ) -> u8
-    ensures { result ≤ REFUSED }
+    ensures status { result ≤ REFUSED }
+    ensures ran { HasRun file.now pos (option_map (λ t. t.now) table.entry) (O.contents out.old) (O.contents out.new) result }
 {
     match read_inputs(rt, file, table) {
         Ok((height, bytes)) => block_text(
@@ -103,17 +108,18 @@ fn run_block<R: Files + AllocGlobal, O: Write, E: Write>(
 }
 
 /// Runs the command that the words name.
-fn run_words<R: Files + AllocGlobal, O: Write, E: Write>(
+pub(crate) fn run_words<R: Files + AllocGlobal, O: Write, E: Write>(
     rt: &R,
     given: &[&str],
     out: &mut O,
     err: &mut E,
 ) -> u8
-    ensures { result ≤ REFUSED }
+    ensures status { result ≤ REFUSED }
+    ensures ran { HasRunWords (map (λ s. s.now) given.now) (O.contents out.old) (O.contents out.new) result }
 {
     match words(rt.alloc(), given) {
         Ok(Words::Block { file, pos, table }) => run_block(rt, file, pos, table, out, err),
-        Err(error) => explain(out, err, &error),
+        Err(error) => explain_words(out, err, &error),
     }
 }
 
@@ -130,7 +136,8 @@ fn as_texts(alloc: Global, words: &[String]) -> Result<Vec<&str>, AllocError> {
 /// Reads the words that the program was called with and does what they say. The answer is the program's status: 0, 1
 /// after a fault, 2 after words that are refused or call for help.
 pub fn run<R: Env + Files + AllocGlobal, O: Write, E: Write>(rt: &R, out: &mut O, err: &mut E) -> u8
-    ensures { result ≤ REFUSED }
+    ensures status { result ≤ REFUSED }
+    ensures ran { HasRunProgram (O.contents out.old) (O.contents out.new) result }
 {
     let given = match given_words(rt) {
         Ok(given) => given,

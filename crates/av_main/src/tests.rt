@@ -5,12 +5,14 @@ use crate::block::block_text;
 use crate::command_line::commands::Words;
 use crate::command_line::words;
 use crate::names::{file_name, region_of_name};
+use crate::program::run_words;
 use av_types::{Height, Pos, RegionPos};
 use clap::error::ErrorKind;
 use std::alloc::{AllocError, Global};
+use std::fs;
 use std::test::Fail;
 
-/// What `block_text` wrote and answered.
+/// What was written and answered.
 #[derive(Drop)]
 struct Outcome {
     status: u8,
@@ -310,4 +312,114 @@ fn words_that_are_refused(rt: HostRuntime) {
         refusal(alloc, help.as_slice()),
         Some(ErrorKind::DisplayHelp)
     );
+}
+
+/// What the program does with words.
+fn ran(rt: &HostRuntime, given: &[&str]) -> Outcome {
+    let mut out = Vec::new(rt.alloc());
+    let mut err = Vec::new(rt.alloc());
+    let status = run_words(rt, given, &mut out, &mut err);
+    Outcome { status, out, err }
+}
+
+#[test]
+fn files_that_cannot_be_read(rt: HostRuntime) {
+    let file = ["block", "missing/r.0.0.mca", "0", "0", "0"];
+    let outcome = ran(&rt, file.as_slice());
+    assert_eq!(rt;
+        outcome.err.as_slice(),
+        b"fault 25: Device missing/r.0.0.mca\n".as_slice()
+    );
+    assert_eq!(rt; outcome.out.len(), 0);
+    assert_eq!(rt; outcome.status, 1);
+    let named_otherwise = ["block", "missing/README", "0", "0", "0"];
+    let outcome = ran(&rt, named_otherwise.as_slice());
+    assert_eq!(rt;
+        outcome.err.as_slice(),
+        b"fault 25: Device missing/README\n".as_slice()
+    );
+}
+
+#[test]
+fn the_table_comes_before_the_file(rt: HostRuntime) -> Result<(), Fail> {
+    let missing = [
+        "block",
+        "--table",
+        "missing.toml",
+        "missing/r.0.0.mca",
+        "0",
+        "0",
+        "0",
+    ];
+    let outcome = ran(&rt, missing.as_slice());
+    assert_eq!(rt;
+        outcome.err.as_slice(),
+        b"fault 25: Device missing.toml\n".as_slice()
+    );
+    assert_eq!(rt; outcome.status, 1);
+    let table = "the_table_comes_before_the_file.toml";
+    for (text, want) in [
+        (
+            b"version = 0".as_slice(),
+            b"fault 19: BadTable\n".as_slice(),
+        ),
+        (
+            b"version = 1".as_slice(),
+            b"fault 25: Device missing/r.0.0.mca\n".as_slice(),
+        ),
+    ] {
+        fs::write(&rt, table, text)?;
+        let given = [
+            "block",
+            "--table",
+            table,
+            "missing/r.0.0.mca",
+            "0",
+            "0",
+            "0",
+        ];
+        let outcome = ran(&rt, given.as_slice());
+        fs::remove_file(&rt, table)?;
+        assert_eq!(rt; outcome.err.as_slice(), want);
+        assert_eq!(rt; outcome.out.len(), 0);
+        assert_eq!(rt; outcome.status, 1);
+    }
+    Ok(())
+}
+
+#[test]
+fn the_height_of_a_table(rt: HostRuntime) -> Result<(), Fail> {
+    let alloc = rt.alloc();
+    let sector = stone_sector(alloc)?;
+    let bytes = region(alloc, 4092, sector.as_slice())?;
+    let (file, table) = ("r.-1.-1.mca", "the_height_of_a_table.toml");
+    fs::write(&rt, file, bytes.as_slice())?;
+    fs::write(
+        &rt,
+        table,
+        b"version = 3\nmin_section = 0\nsections = 4".as_slice(),
+    )?;
+    let high = ["block", "--table", table, "--", file, "-1", "64", "-1"];
+    let high = ran(&rt, high.as_slice());
+    let game = ["block", "--", file, "-1", "64", "-1"];
+    let game = ran(&rt, game.as_slice());
+    fs::remove_file(&rt, file)?;
+    fs::remove_file(&rt, table)?;
+    assert_eq!(rt; high.out.as_slice(), b"unloaded\n".as_slice());
+    assert_eq!(rt; game.out.as_slice(), b"minecraft:stone\n".as_slice());
+    assert_eq!(rt; high.status, 0);
+    assert_eq!(rt; game.status, 0);
+    Ok(())
+}
+
+#[test]
+fn words_that_are_no_command(rt: HostRuntime) {
+    let none = ran(&rt, [].as_slice());
+    assert_eq!(rt; none.status, 2);
+    assert_eq!(rt; none.out.len(), 0);
+    let help = ["--help"];
+    let help = ran(&rt, help.as_slice());
+    assert_eq!(rt; help.status, 2);
+    assert!(rt; help.out.starts_with(b"Reads Minecraft region files\n"));
+    assert_eq!(rt; help.err.len(), 0);
 }
