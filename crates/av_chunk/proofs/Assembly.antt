@@ -145,7 +145,7 @@ slot_of : (c : ChunkPos) (h : Height) (root : List NamedTag) (old new : List Blo
     → Filled new (block_cell (block_states_of (tags_at y root))) (λ i. list_any (is_entry_at h (offset_of h y) i) (entries t.water)) (section_in h chunk y)
 slot_of c h root old new read t chunk tags p y s =
     let same = last_is_first h y [] (sections root) (good_rows h (sections_of root) (good_list h root p.admitted.shape)) in
-    rw (← same) (filled new _ _ (get_or read.sections.items (offset_of h y) None) (section_in h chunk y) (p.read_are.held.cells y s) (p.marked.slots (offset_of h y)))
+    rw (← same) (filled new _ _ (get_or read.sections.items (offset_of h y) None) (section_in h chunk y) (p.read_are.cells y s) (p.marked.slots (offset_of h y)))
 
 state_of : (c : ChunkPos) (h : Height) (root : List NamedTag) (old new : List BlockState) (read : Sections) (t : Ticks) (chunk : Chunk) (tags : List Named)
     → Parts c h root old new read t chunk tags → (q : Pos) → lies_in c h q ≡ true → state_in new h chunk q ≡ Some (cell_of root q)
@@ -174,12 +174,12 @@ denotes c h d root old new read t chunk tags p e =
       tags_are = rw e p.tags_are;
       foreign_are = rw e p.ticks_are.foreign_are;
       outside_is = λ y. rw e (outside_of y (is_section_of h y) refl);
-      section_is = λ y s. rw (e, ← same y) (p.read_are.held.rests y s);
+      section_is = λ y s. rw (e, ← same y) (p.read_are.rests y s);
     }
   where
     outside_of : (y : ℤ) (b : Bool) → is_section_of h y ≡ b → (if b then None else found_outside y read.outside.items) ≡ (if b then None else numbered y (sections root))
     outside_of y true s = refl
-    outside_of y false s = p.read_are.held.others y s ∙ last_is_first h y [] (sections root) (good_rows h (sections_of root) (good_list h root p.admitted.shape))
+    outside_of y false s = p.read_are.others y s ∙ last_is_first h y [] (sections root) (good_rows h (sections_of root) (good_list h root p.admitted.shape))
 
 each_in : (c : ChunkPos) (h : Height) (es : List Entry) → AreIn c h es → AllByRecursion (λ e. lies_in c h e.pos ≡ true) es
 each_in c h [] p = tt
@@ -198,7 +198,7 @@ loaded c h d root old new read t chunk rest stored e p place height same =
       no_fault = rw e (no_faults c h root old new read t chunk rest.tags.items p);
       denotes = subst (DenotesChunk c h d (cells_of new h chunk) (entries chunk.ticks)) (sym same) holds;
       numbered = λ q s. rw (state_of c h root old new read t chunk rest.tags.items p q s) refl;
-      whole = record { count = p.marked.count ∙ p.read_are.held.count; each_there = λ y s. rw ((slot y s).is) refl };
+      whole = record { count = p.marked.count ∙ p.read_are.count; each_there = λ y s. rw ((slot y s).is) refl };
       within = All-from_recursion (λ w. lies_in c h w.pos ≡ true) (entries chunk.ticks) (each_in c h (entries chunk.ticks) within);
       ints = All-from_recursion (HasInts 0) (entries chunk.ticks) (ints_read c h d (cells_of new h chunk) (entries chunk.ticks) _ (record { bytes = stored.bytes; spelled = stored.spelled }) holds);
       pending = λ q s.

@@ -1,8 +1,7 @@
 -- Sections put in their places.
-use Rattle.std.proofs.Common.{◌≡◌, ◌≢◌, ℕ, ◌<◌, ◌+◌, ℤ, Bool, true, false, true≢false, Option, Some, None, List, [], ◌∷◌, ◌++◌, length, get_or, slice_set, slice_get, refl, sym, ap, ◌∙◌, arith, if◌then◌else◌, Decides, get_or-set_same, get_or-set_other, length-set, zero, suc, below_more, option_map, take, append_assoc}
+use Rattle.std.proofs.Common.{◌≡◌, ◌≢◌, ℕ, ◌<◌, ◌≤◌, ◌+◌, ℤ, Bool, true, false, true≢false, Option, Some, None, List, [], ◌∷◌, ◌++◌, length, get_or, slice_set, slice_get, refl, sym, ap, ◌∙◌, arith, if◌then◌else◌, Decides, get_or-set_same, get_or-set_other, length-set, zero, suc, below_more, option_map, take, append_assoc}
 use Rattle.std.proofs.lemmas.Bool.Decides.{Decides-int_eq}
-use Rattle.std.proofs.lemmas.List.{get_or_append_left}
-use Rattle.std.proofs.Math.Seq.{get_or-append_seam}
+use Rattle.std.proofs.lemmas.Option.{same_Some}
 use Rattle.std.specs.Ordering.{int_eq}
 use Rattle.std.specs.List.{flat_map}
 use Rattle.std.proofs.lemmas.Grind.{flat_map-append}
@@ -15,7 +14,7 @@ use Rattle.av_nbt.specs.Nbt.{NamedTag}
 use Rattle.av_nbt.specs.View.{named_views}
 use Rattle.av_state.specs.BlockState.{BlockState, air}
 use Rattle.av_state.specs.StateList.{first_states}
-use Rattle.av_section.specs.Section.{number_at, IsFilled}
+use Rattle.av_section.specs.Section.{number_at}
 use Rattle.av_section.specs.Reading.{OnlyGrows}
 use Rattle.av_section.specs.declared.section.Section.{Section}
 use Rattle.av_document.specs.Chunk.{section_number, section_faults, section_states, section_rest, block_states_of, block_cell}
@@ -25,24 +24,17 @@ use Rattle.av_chunk.specs.declared.sections.Part.{Part}
 use Rattle.av_chunk.specs.declared.sections.Part.TheVariants.{Inside, Outside}
 use Rattle.av_chunk.specs.declared.sections.Sections.{Sections}
 use Rattle.av_chunk.specs.Rest.{offset_of, first_some, section_or_missing, found_outside}
-use Rattle.av_chunk.specs.SectionsRead.{HasCells, IsInside, IsOutside, IsPart, IsSectionRead, IsSectionRefused, or_missing, if_numbered, last_numbered, SlotHas, SlotIsFilled, HoldSections, AreMissing, IsPlaced, AreRead, AreJudged, FitsHeight}
+use Rattle.av_chunk.specs.SectionsRead.{HasCells, IsInside, IsOutside, IsPart, IsSectionRead, IsSectionRefused, or_missing, if_numbered, last_numbered, SlotHas, SlotFinds, SlotFilled, AreFilled, FilledBelow, HoldSections, AreMissing, IsPlaced, AreFound, AreRead, AreJudged, FitsHeight}
 use Rattle.av_chunk.proofs.Heights.{offset_below, offset_apart}
 use Rattle.av_chunk.proofs.Judging.{with_states-append, first_kept, first_of, first_lesser, memory_first, memory_before}
 
--- ---- air
+-- ---- none so far
 
-pub filled_push : (xs : List (Option Section)) (s : Section) (n : ℕ) → length xs ≡ n → IsFilled s 0 → ((i : ℕ) → i < n → SlotIsFilled (get_or xs i None))
-    → (i : ℕ) → i < n + 1 → SlotIsFilled (get_or (xs ++ Some s ∷ []) i None)
-filled_push xs s n l f h =
-    below_more (λ i. SlotIsFilled (get_or (xs ++ Some s ∷ []) i None)) n
-    (λ i p. let q : i < length xs = omega arith in rw (get_or_append_left xs (Some s ∷ []) None i q) (h i p))
-    (rw (← l, get_or-append_seam xs (Some s) [] None) f)
-
-pub empty_push : (xs : List (Option SectionTags)) → ((i : ℕ) → get_or xs i None ≡ None) → (i : ℕ) → get_or (xs ++ None ∷ []) i None ≡ None
-empty_push [] h zero = refl
-empty_push [] h (suc i) = refl
-empty_push (x ∷ xs) h zero = h zero
-empty_push (x ∷ xs) h (suc i) = empty_push xs (λ j. h (suc j)) i
+pub none_push : {A : Type 0} (xs : List (Option A)) → ((i : ℕ) → get_or xs i None ≡ None) → (i : ℕ) → get_or (xs ++ None ∷ []) i None ≡ None
+none_push [] h zero = refl
+none_push [] h (suc i) = refl
+none_push (x ∷ xs) h zero = h zero
+none_push (x ∷ xs) h (suc i) = none_push xs (λ j. h (suc j)) i
 
 -- ---- a table that grows
 
@@ -57,9 +49,9 @@ HasCells-grown old new cell s g c = record {
   pending = c.pending;
 }
 
-SlotHas-grown : (old new : List BlockState) (cell : ℕ → BlockState) (o : Option Section) → OnlyGrows old new → SlotHas old cell o → SlotHas new cell o
-SlotHas-grown old new cell None g c = c
-SlotHas-grown old new cell (Some s) g c = HasCells-grown old new cell s g c
+SlotFinds-grown : (old new : List BlockState) (y : ℤ) (found : Option (List NamedTag)) (o : Option Section) → OnlyGrows old new → SlotFinds old y found o → SlotFinds new y found o
+SlotFinds-grown old new y found None g c = c
+SlotFinds-grown old new y found (Some s) g c = HasCells-grown old new _ s g c
 
 -- ---- the last section of a number
 
@@ -101,21 +93,18 @@ apart_numbers h y z s t false d = refl
 
 -- ---- one more part
 
-abbrev Cell : ℤ → Option (List NamedTag) → ℕ → BlockState
-Cell y found = block_cell (block_states_of (or_missing y found))
-
 inside_cells : (h : Height) (old new : List BlockState) (rows : List (List NamedTag)) (ms : List NamedTag) (z : ℤ) (s : Section) (kept : SectionTags) (xs : List (Option Section))
     → OnlyGrows old new → IsInside h new ms z s kept → length xs ≡ h.sections → (y : ℤ) → is_section_of h y ≡ true
-    → SlotHas old (Cell y (last_numbered y rows)) (get_or xs (offset_of h y) None)
+    → SlotFinds old y (last_numbered y rows) (get_or xs (offset_of h y) None)
     → (b : Bool) → Decides b (y ≡ z) → int_eq y z ≡ b
-    → SlotHas new (Cell y (last_numbered y (rows ++ ms ∷ []))) (get_or (slice_set xs (offset_of h z) (Some s)) (offset_of h y) None)
+    → SlotFinds new y (last_numbered y (rows ++ ms ∷ [])) (get_or (slice_set xs (offset_of h z) (Some s)) (offset_of h y) None)
 inside_cells h old new rows ms z s kept xs g p l y t c true d e =
     let same : y ≡ z = d.0 refl in
     let within : offset_of h y < length xs = rw l (offset_below h y t) in
     rw (this_last y z rows ms p.number e, ← same, get_or-set_same xs (offset_of h y) (Some s) None within) p.cells
 inside_cells h old new rows ms z s kept xs g p l y t c false d e =
     let ne : offset_of h y ≢ offset_of h z = λ o. true≢false (sym (d.1 (offset_apart h y z t p.within o))) in
-    rw (other_last y z rows ms p.number e, get_or-set_other xs (offset_of h z) (offset_of h y) (Some s) None ne) (SlotHas-grown old new _ _ g c)
+    rw (other_last y z rows ms p.number e, get_or-set_other xs (offset_of h z) (offset_of h y) (Some s) None ne) (SlotFinds-grown old new y _ _ g c)
 
 inside_rests : (h : Height) (new : List BlockState) (rows : List (List NamedTag)) (ms : List NamedTag) (z : ℤ) (s : Section) (kept : SectionTags) (xs : List (Option SectionTags))
     → IsInside h new ms z s kept → length xs ≡ h.sections → (y : ℤ) → is_section_of h y ≡ true
@@ -142,7 +131,7 @@ pub HoldSections-inside : (h : Height) (old new : List BlockState) (rows : List 
 HoldSections-inside h old new rows ms z s kept r u g p placed held = record {
   count = ap length placed.0 ∙ (length-set r.sections.items (offset_of h z) (Some s) ∙ held.count);
   count_kept = ap length placed.1 ∙ (length-set r.kept.items (offset_of h z) (Some kept) ∙ held.count_kept);
-  cells = λ y t. rw placed.0 (inside_cells h old new rows ms z s kept r.sections.items g p held.count y t (held.cells y t) (int_eq y z) (Decides-int_eq y z) refl);
+  found = λ y t. rw placed.0 (inside_cells h old new rows ms z s kept r.sections.items g p held.count y t (held.found y t) (int_eq y z) (Decides-int_eq y z) refl);
   rests = λ y t. rw placed.1 (inside_rests h new rows ms z s kept r.kept.items p held.count_kept y t (held.rests y t) (int_eq y z) (Decides-int_eq y z) refl);
   others = λ y t. rw (placed.2, other_last y z rows ms p.number (symmetric y z (apart_numbers h z y p.within t (int_eq z y) (Decides-int_eq z y)))) (held.others y t);
 }
@@ -156,7 +145,7 @@ pub HoldSections-outside : (h : Height) (old new : List BlockState) (rows : List
 HoldSections-outside h old new rows ms o r u g p placed held = record {
   count = ap length placed.0 ∙ held.count;
   count_kept = ap length placed.1 ∙ held.count_kept;
-  cells = λ y t. rw (placed.0, other_last y o.y rows ms p.number (apart_numbers h y o.y t p.without (int_eq y o.y) (Decides-int_eq y o.y))) (SlotHas-grown old new _ _ g (held.cells y t));
+  found = λ y t. rw (placed.0, other_last y o.y rows ms p.number (apart_numbers h y o.y t p.without (int_eq y o.y) (Decides-int_eq y o.y))) (SlotFinds-grown old new y _ _ g (held.found y t));
   rests = λ y t. rw (placed.1, other_last y o.y rows ms p.number (apart_numbers h y o.y t p.without (int_eq y o.y) (Decides-int_eq y o.y))) (held.rests y t);
   others = λ y t. rw placed.2 (outside_found y rows ms r.outside.items o p.number p.tags (held.others y t));
 }
@@ -166,9 +155,9 @@ HoldSections-part : (h : Height) (old new : List BlockState) (rows : List (List 
 HoldSections-part h old new rows ms (Inside y s kept) r u g p placed held = HoldSections-inside h old new rows ms y s kept r u g p placed held
 HoldSections-part h old new rows ms (Outside o) r u g p placed held = HoldSections-outside h old new rows ms o r u g p placed held
 
-AreRead-part : (h : Height) (rows : List (List NamedTag)) (ms : List NamedTag) (start old new : List BlockState) (part : Part) (r u : Sections)
-    → OnlyGrows old new → IsSectionRead h ms old new part → IsPlaced h part r u → AreRead h rows start old r → AreRead h (rows ++ ms ∷ []) start new u
-AreRead-part h rows ms start old new part r u g read placed before = record {
+AreFound-part : (h : Height) (rows : List (List NamedTag)) (ms : List NamedTag) (start old new : List BlockState) (part : Part) (r u : Sections)
+    → OnlyGrows old new → IsSectionRead h ms old new part → IsPlaced h part r u → AreFound h rows start old r → AreFound h (rows ++ ms ∷ []) start new u
+AreFound-part h rows ms start old new part r u g read placed before = record {
   no_fault = flat_map-append (section_faults h) rows (ms ∷ []) ∙ rw (before.no_fault, read.no_fault) refl;
   states = rw (flat_map-append (section_states h) rows (ms ∷ []), append-nil (section_states h ms), with_states-append start (flat_map (section_states h) rows) (section_states h ms), ← before.states) read.states;
   held = HoldSections-part h old new rows ms part r u g read.is_part placed before.held;
@@ -176,7 +165,7 @@ AreRead-part h rows ms start old new part r u g read placed before = record {
 
 pub AreJudged-part : (h : Height) (rows : List (List NamedTag)) (ms : List NamedTag) (start old new : List BlockState) (part : Part) (r u : Sections) (refused : Option Fault)
     → OnlyGrows old new → IsSectionRead h ms old new part → IsPlaced h part r u → AreJudged h rows start old r refused → AreJudged h (rows ++ ms ∷ []) start new u refused
-AreJudged-part h rows ms start old new part r u None g read placed before = AreRead-part h rows ms start old new part r u g read placed before
+AreJudged-part h rows ms start old new part r u None g read placed before = AreFound-part h rows ms start old new part r u g read placed before
 AreJudged-part h rows ms start old new part r u (Some e) g read placed before = λ ne. record { first = first_kept h rows ms start (fault_number e) (before ne).first read.no_fault }
 
 pub AreJudged-refused : (h : Height) (rows : List (List NamedTag)) (ms : List NamedTag) (start old new : List BlockState) (r u : Sections) (refused : Option Fault) (e f : Fault)
@@ -190,28 +179,69 @@ AreJudged-refused h rows ms start old new r u (Some d) e f bad n before =
     let first = first_lesser h rows ms start old (fault_number d) (fault_number e) early.first (bad.first (memory_first e f (Some (fault_number d)) n nf)) in
     record { first = first ∙ ap Some (sym n) }
 
--- ---- none so far
+-- ---- none before the first, and air where there is none after the last
 
-pub first_is_air : (table : List BlockState) → take 10 table ≡ first_states → slice_get table 0 ≡ Some air
-first_is_air [] e = cc
-first_is_air (s ∷ table) e = let h : s ≡ air = ap (λ (x : List BlockState). get_or x 0 air) e in ap Some h
-
-SlotHas-filled : (table : List BlockState) (o : Option Section) → slice_get table 0 ≡ Some air → SlotIsFilled o → SlotHas table (λ i. air) o
-SlotHas-filled table None a f = f
-SlotHas-filled table (Some s) a f = record { numbers = λ i p. rw (f.numbers i p) a; pending = f.pending }
-
-pub AreRead-missing : (h : Height) (table : List BlockState) (r : Sections) → take 10 table ≡ first_states → AreMissing h r → AreRead h [] table table r
-AreRead-missing h table r b m = record {
+pub AreFound-missing : (h : Height) (table : List BlockState) (r : Sections) → AreMissing h r → AreFound h [] table table r
+AreFound-missing h table r m = record {
   no_fault = refl;
   states = refl;
   held = record {
     count = m.count;
     count_kept = m.count_kept;
-    cells = λ y t. SlotHas-filled table _ (first_is_air table b) (m.filled (offset_of h y) (offset_below h y t));
+    found = λ y t. rw (m.empty_sections (offset_of h y)) refl;
     rests = λ y t. rw (m.empty (offset_of h y)) refl;
     others = λ y t. rw m.none refl;
   };
 }
+
+first_is_air : (table : List BlockState) → take 10 table ≡ first_states → slice_get table 0 ≡ Some air
+first_is_air [] e = cc
+first_is_air (s ∷ table) e = let h : s ≡ air = ap (λ (x : List BlockState). get_or x 0 air) e in ap Some h
+
+slot_filled : (table : List BlockState) (y : ℤ) (found : Option (List NamedTag)) (old now : Option Section) → slice_get table 0 ≡ Some air → SlotFinds table y found old → SlotFilled old now
+    → SlotHas table (block_cell (block_states_of (or_missing y found))) now
+slot_filled table y found None None a f s = s
+slot_filled table y found None (Some v) a f s = rw f (record { numbers = λ i p. rw (s.numbers i p) a; pending = s.pending })
+slot_filled table y found (Some x) None a f s = cc
+slot_filled table y found (Some x) (Some v) a f s = let e : v ≡ x = same_Some v x s in rw e f
+
+pub AreRead-filled : (h : Height) (rows : List (List NamedTag)) (start table : List BlockState) (r u : Sections) → take 10 table ≡ first_states → AreFound h rows start table r
+    → AreFilled r.sections.items u.sections.items → u.kept.items ≡ r.kept.items → u.outside.items ≡ r.outside.items → AreRead h rows start table u
+AreRead-filled h rows start table r u b all filled kept outside = record {
+  no_fault = all.no_fault;
+  states = all.states;
+  count = filled.count ∙ all.held.count;
+  cells = λ y t.
+      let low : offset_of h y < length r.sections.items = rw all.held.count (offset_below h y t) in
+      slot_filled table y (last_numbered y rows) (get_or r.sections.items (offset_of h y) None) (get_or u.sections.items (offset_of h y) None) (first_is_air table b) (all.held.found y t) (filled.slots (offset_of h y) low);
+  rests = λ y t. rw kept (all.held.rests y t);
+  others = λ y t. rw outside (all.held.others y t);
+}
+
+-- one slot more was filled
+pub FilledBelow-more : (old now : List (Option Section)) (n : ℕ) (new : Option Section) → length now ≡ length old → n < length old
+    → SlotFilled (get_or now n None) new → FilledBelow n old now → FilledBelow (n + 1) old (slice_set now n new)
+FilledBelow-more old now n new l low f before = record {
+  filled = below_more (λ i. SlotFilled (get_or old i None) (get_or (slice_set now n new) i None)) n
+      (λ i p. rw (get_or-set_other now n i new None (apart i (omega (arith, p)))) (before.filled i p))
+      (rw (get_or-set_same now n new None within) here);
+  same = λ i p. get_or-set_other now n i new None (apart_above i (omega (arith, p))) ∙ before.same i (omega (arith, p));
+}
+  where
+    within : n < length now
+    within = omega (arith, l, low)
+
+    here : SlotFilled (get_or old n None) new
+    here = rw (← before.same n (omega arith)) f
+
+    apart : (i : ℕ) → i < n → i ≢ n
+    apart i p e = omega (arith, p, e)
+
+    apart_above : (i : ℕ) → n < i → i ≢ n
+    apart_above i p e = omega (arith, p, e)
+
+pub FilledBelow-all : (old now : List (Option Section)) (n : ℕ) → length now ≡ length old → length old ≤ n → FilledBelow n old now → AreFilled old now
+FilledBelow-all old now n l past all = record { count = l; slots = λ i p. all.filled i (omega arith) }
 
 pub section_counts : (h : Height) (part : Part) (r u : Sections) → IsPlaced h part r u → length r.sections.items ≡ h.sections → length u.sections.items ≡ h.sections
 section_counts h (Inside y s kept) r u p l = ap length p.0 ∙ (length-set r.sections.items (offset_of h y) (Some s) ∙ l)

@@ -1,4 +1,4 @@
--- Places that are made pending.
+-- Places that are made pending. Working definitions: no public clause cites them.
 use Rattle.std.specs.Prelude.{◌≡◌, ℕ, List, length, slice_index_or, Option, Some, None, Bool, true, ◌&&◌, ◌||◌, ◌==◌}
 use Rattle.std.specs.List.{list_any}
 use Rattle.av_types.specs.Division.{divided}

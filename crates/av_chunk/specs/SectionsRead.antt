@@ -1,5 +1,5 @@
--- What the readers of sections answer.
-use Rattle.std.specs.Prelude.{◌≡◌, ◌≢◌, ℕ, ◌<◌, ℤ, List, [], ◌∷◌, ◌++◌, Option, Some, None, Bool, true, false, nat_lt, length, slice_get, slice_index_or, slice_set, codes, if◌then◌else◌}
+-- What the readers of sections answer. Working definitions: no public clause cites them.
+use Rattle.std.specs.Prelude.{◌≡◌, ◌≢◌, ℕ, ◌<◌, ◌≤◌, ℤ, List, [], ◌∷◌, ◌++◌, Option, Some, None, Bool, true, false, nat_lt, length, slice_get, slice_index_or, slice_set, codes, if◌then◌else◌}
 use Rattle.std.specs.List.{flat_map}
 use Rattle.av_types.specs.Faults.{fault_number, least}
 use Rattle.av_types.specs.Places.{is_section_of}
@@ -87,24 +87,24 @@ abbrev pub SlotHas : List BlockState → (ℕ → BlockState) → Option Section
 SlotHas table cell None = ⊥
 SlotHas table cell (Some s) = HasCells table cell s
 
+-- the section of a number as it was found, or none where it was not
+abbrev pub SlotFinds : List BlockState → ℤ → Option (List NamedTag) → Option Section → Type 0
+SlotFinds table y found None = found ≡ None
+SlotFinds table y found (Some s) = HasCells table (block_cell (block_states_of (or_missing y found))) s
+
 -- Each section of the height as it was found among these, and the others.
 pub record HoldSections (h : Height) (table : List BlockState) (rows : List (List NamedTag)) (r : Sections) : Type 0 where
   pub count : length r.sections.items ≡ h.sections
   pub count_kept : length r.kept.items ≡ h.sections
-  pub cells : (y : ℤ) → is_section_of h y ≡ true → SlotHas table (block_cell (block_states_of (or_missing y (last_numbered y rows)))) (slice_index_or r.sections.items (offset_of h y) None)
+  pub found : (y : ℤ) → is_section_of h y ≡ true → SlotFinds table y (last_numbered y rows) (slice_index_or r.sections.items (offset_of h y) None)
   pub rests : (y : ℤ) → is_section_of h y ≡ true → section_or_missing y (slice_index_or r.kept.items (offset_of h y) None) ≡ section_rest (or_missing y (last_numbered y rows))
   pub others : (y : ℤ) → is_section_of h y ≡ false → found_outside y r.outside.items ≡ last_numbered y rows
 
--- an air section
-abbrev pub SlotIsFilled : Option Section → Type 0
-SlotIsFilled None = ⊥
-SlotIsFilled (Some s) = IsFilled s 0
-
--- before any was found
+-- all missing, before any was found
 pub record AreMissing (h : Height) (r : Sections) : Type 0 where
   pub count : length r.sections.items ≡ h.sections
   pub count_kept : length r.kept.items ≡ h.sections
-  pub filled : (i : ℕ) → i < h.sections → SlotIsFilled (slice_index_or r.sections.items i None)
+  pub empty_sections : (i : ℕ) → slice_index_or r.sections.items i None ≡ None
   pub empty : (i : ℕ) → slice_index_or r.kept.items i None ≡ None
   pub none : r.outside.items ≡ []
 
@@ -120,15 +120,39 @@ FitsHeight h (Inside y s kept) = is_section_of h y ≡ true
 FitsHeight h (Outside o) = Unit {0}
 
 -- what all sections so far are read as
-pub record AreRead (h : Height) (rows : List (List NamedTag)) (old new : List BlockState) (r : Sections) : Type 0 where
+pub record AreFound (h : Height) (rows : List (List NamedTag)) (old new : List BlockState) (r : Sections) : Type 0 where
   pub no_fault : flat_map (section_faults h) rows ≡ []
   pub states : new ≡ with_states old (flat_map (section_states h) rows)
   pub held : HoldSections h new rows r
+
+-- air where there was no section, and all others as they were
+abbrev pub SlotFilled : Option Section → Option Section → Type 0
+SlotFilled None (Some s) = IsFilled s 0
+SlotFilled (Some x) now = now ≡ Some x
+SlotFilled None None = ⊥
+
+pub record AreFilled (old new : List (Option Section)) : Type 0 where
+  pub count : length new ≡ length old
+  pub slots : (i : ℕ) → i < length old → SlotFilled (slice_index_or old i None) (slice_index_or new i None)
+
+-- the first slots filled
+pub record FilledBelow (n : ℕ) (old now : List (Option Section)) : Type 0 where
+  pub filled : (i : ℕ) → i < n → SlotFilled (slice_index_or old i None) (slice_index_or now i None)
+  pub same : (i : ℕ) → n ≤ i → slice_index_or now i None ≡ slice_index_or old i None
+
+-- what all sections are read as
+pub record AreRead (h : Height) (rows : List (List NamedTag)) (old new : List BlockState) (r : Sections) : Type 0 where
+  pub no_fault : flat_map (section_faults h) rows ≡ []
+  pub states : new ≡ with_states old (flat_map (section_states h) rows)
+  pub count : length r.sections.items ≡ h.sections
+  pub cells : (y : ℤ) → is_section_of h y ≡ true → SlotHas new (block_cell (block_states_of (or_missing y (last_numbered y rows)))) (slice_index_or r.sections.items (offset_of h y) None)
+  pub rests : (y : ℤ) → is_section_of h y ≡ true → section_or_missing y (slice_index_or r.kept.items (offset_of h y) None) ≡ section_rest (or_missing y (last_numbered y rows))
+  pub others : (y : ℤ) → is_section_of h y ≡ false → found_outside y r.outside.items ≡ last_numbered y rows
 
 pub record AreRefusedBy (h : Height) (rows : List (List NamedTag)) (old : List BlockState) (e : Fault) : Type 0 where
   pub first : judged (flat_map (section_faults h) rows) old (flat_map (section_states h) rows) ≡ Some (fault_number e)
 
 -- after some sections: read, or the first fault of them so far
 abbrev pub AreJudged : Height → List (List NamedTag) → List BlockState → List BlockState → Sections → Option Fault → Type 0
-AreJudged h rows old new r None = AreRead h rows old new r
+AreJudged h rows old new r None = AreFound h rows old new r
 AreJudged h rows old new r (Some e) = e ≢ OutOfMemory → AreRefusedBy h rows old e

@@ -1,4 +1,4 @@
--- What the reader of a chunk's scheduled ticks answers.
+-- What the reader of a chunk's scheduled ticks answers. Working definitions: no public clause cites them.
 use Rattle.std.specs.Prelude.{◌≡◌, ◌≢◌, ℕ, List, [], ◌++◌, Option, Some, true, false}
 use Rattle.std.specs.List.{list_any, flat_map}
 use Rattle.av_types.specs.Faults.{fault_number, least}

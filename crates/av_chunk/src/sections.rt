@@ -9,7 +9,7 @@ ghost use Rattle.av_nbt.specs.View.{view, views, named_view, named_views};
 ghost use Rattle.av_state.specs.Table.{states};
 ghost use Rattle.av_section.specs.Reading.{OnlyGrows};
 ghost use Rattle.av_document.specs.Chunk.{is_other};
-ghost use Rattle.av_chunk.specs.SectionsRead.{AreStates, AreRefused, IsSectionRead, IsSectionRefused, AreMissing, IsPlaced, FitsHeight, AreRead, AreRefusedBy};
+ghost use Rattle.av_chunk.specs.SectionsRead.{AreStates, AreRefused, IsSectionRead, IsSectionRefused, AreMissing, IsPlaced, FitsHeight, SlotFilled, AreFilled, AreFound, AreRead, AreRefusedBy};
 ghost use Rattle.av_chunk.specs.Rest.{offset_of, opened};
 ghost use Rattle.av_chunk.specs.Working.{checked_number, compound_in, tags_in, has_bad_number};
 
@@ -139,7 +139,7 @@ pub(crate) fn index_of_block(y: i32, height: Height) -> usize
 }
 
 impl Sections {
-    /// Sections of air, which keep nothing.
+    /// All sections missing.
     fn missing(alloc: Global, height: Height) -> Result<Self, Fault>
         ensures ok { IfOk result (AreMissing height) }
         ensures err { IfErr result (λ e. e ≡ OutOfMemory) }
@@ -147,7 +147,7 @@ impl Sections {
         let mut sections = Vec::new(alloc);
         let mut kept = Vec::new(alloc);
         for _ in 0..height.sections {
-            sections.push(Some(Section::filled(alloc, 0)?))?;
+            sections.push(None)?;
             kept.push(None)?;
         }
         Ok(Sections {
@@ -177,15 +177,37 @@ impl Sections {
     }
 }
 
-/// The sections of a chunk. Of several faults the first is answered; want of memory comes before all others.
-pub(crate) fn read_sections(
+/// Puts a section of air where there is none.
+fn fill(alloc: Global, slot: &mut Option<Section>) -> Result<(), Fault>
+    ensures ok { OnOk result (SlotFilled slot.old slot.new) }
+    ensures err { IfErr result (λ e. e ≡ OutOfMemory) }
+{
+    if slot.is_none() {
+        *slot = Some(Section::filled(alloc, 0)?);
+    }
+    Ok(())
+}
+
+/// Puts a section of air wherever there is none.
+fn fill_all(alloc: Global, sections: &mut Vec<Option<Section>>) -> Result<(), Fault>
+    ensures ok { OnOk result (AreFilled sections.old.items sections.new.items) }
+    ensures err { IfErr result (λ e. e ≡ OutOfMemory) }
+{
+    for index in 0..sections.len() {
+        fill(alloc, &mut sections[index])?;
+    }
+    Ok(())
+}
+
+/// The sections that a chunk has. Of several faults the first is answered; want of memory comes before all others.
+fn find_sections(
     alloc: Global,
     sections: Vec<Tag>,
     height: Height,
     table: &mut StateTable,
 ) -> Result<Sections, Fault>
     requires { has_bad_number height (views sections.items) ≡ false }
-    ensures ok { IfOk result (AreRead height (opened (views sections.items)) (states table.old) (states table.new)) }
+    ensures ok { IfOk result (AreFound height (opened (views sections.items)) (states table.old) (states table.new)) }
     ensures err { IfErr result (λ e. e ≢ OutOfMemory → AreRefusedBy height (opened (views sections.items)) (states table.old) e) }
     ensures table { OnlyGrows (states table.old) (states table.new) }
 {
@@ -201,4 +223,22 @@ pub(crate) fn read_sections(
         None => Ok(read),
         Some(fault) => Err(fault),
     }
+}
+
+/// The sections of a chunk, with air for those that it does not have. Of several faults the first is answered; want of
+/// memory comes before all others.
+pub(crate) fn read_sections(
+    alloc: Global,
+    sections: Vec<Tag>,
+    height: Height,
+    table: &mut StateTable,
+) -> Result<Sections, Fault>
+    requires { has_bad_number height (views sections.items) ≡ false }
+    ensures ok { IfOk result (AreRead height (opened (views sections.items)) (states table.old) (states table.new)) }
+    ensures err { IfErr result (λ e. e ≢ OutOfMemory → AreRefusedBy height (opened (views sections.items)) (states table.old) e) }
+    ensures table { OnlyGrows (states table.old) (states table.new) }
+{
+    let mut read = find_sections(alloc, sections, height, table)?;
+    fill_all(alloc, &mut read.sections)?;
+    Ok(read)
 }

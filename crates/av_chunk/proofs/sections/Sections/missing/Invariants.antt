@@ -1,5 +1,4 @@
-use Rattle.std.proofs.Common.{◌≡◌, ℕ, ◌<◌, ◌≤◌, None, length, get_or}
-use Rattle.av_chunk.specs.SectionsRead.{SlotIsFilled}
+use Rattle.std.proofs.Common.{◌≡◌, ℕ, ◌≤◌, None, length, get_or}
 use Rattle.av_chunk.proofs.sections.Sections.missing.Given as goal
 
 abbrev pub invariant-loop : goal.invariant-loop
@@ -8,6 +7,6 @@ invariant-loop l = record {
   end : l.end ≡ l.fn.height.sections;
   count : length l.sections.items ≡ l.counter;
   count_kept : length l.kept.items ≡ l.counter;
-  filled : (i : ℕ) → i < l.counter → SlotIsFilled (get_or l.sections.items i None);
+  empty_sections : (i : ℕ) → get_or l.sections.items i None ≡ None;
   empty : (i : ℕ) → get_or l.kept.items i None ≡ None;
 }

@@ -6,7 +6,7 @@ use Rattle.av_section.specs.Reading.{OnlyGrows}
 use Rattle.av_chunk.specs.Working.{has_bad_number}
 use Rattle.av_chunk.specs.Rest.{opened}
 use Rattle.av_chunk.specs.SectionsRead.{AreJudged}
-use Rattle.av_chunk.proofs.sections.read_sections.Given as goal
+use Rattle.av_chunk.proofs.sections.find_sections.Given as goal
 
 abbrev pub invariant-loop-section : goal.invariant-loop-section
 invariant-loop-section l = record {
