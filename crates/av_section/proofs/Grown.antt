@@ -5,7 +5,7 @@ use Rattle.std.proofs.lemmas.List.Elements.{Contains-append_left, Contains-push,
 use Rattle.std.proofs.lemmas.Bool.{cases_lt, lt-ltb, le-ltb}
 use Rattle.av_pack.specs.Packing.{bits_for, longs_for, packed_at}
 use Rattle.av_pack.proofs.Laws.{bits_for-low, bits_for-high, bits_for-enough}
-use Rattle.av_section.specs.Packed.{IsPacked, IsRepacked, number_in}
+use Rattle.av_section.specs.Packed.{IsPackedSection, IsRepacked, number_in}
 use Rattle.av_section.proofs.Distinct.{few_below, Distinct-push}
 
 -- a palette's length is below that of all numbers, where one is missing
@@ -16,8 +16,8 @@ room_for palette n distinct new fits small =
     omega (arith, length-append palette (n ∷ []), few)
 
 -- a new number at the end of the palette, and the same indices with the bits that are needed then
-pub packed_pushed : (palette : List ℕ) (old new : List ℤ) (bits wider n : ℕ) → n < 65536 → IsPacked palette old bits → (Contains palette n → ⊥) → length palette < 65536
-    → wider ≡ bits_for (length palette + 1) → IsRepacked bits old wider new → IsPacked (palette ++ n ∷ []) new wider
+pub packed_pushed : (palette : List ℕ) (old new : List ℤ) (bits wider n : ℕ) → n < 65536 → IsPackedSection palette old bits → (Contains palette n → ⊥) → length palette < 65536
+    → wider ≡ bits_for (length palette + 1) → IsRepacked bits old wider new → IsPackedSection (palette ++ n ∷ []) new wider
 packed_pushed palette old new bits wider n fits p fresh room needed same =
     let long : length (palette ++ n ∷ []) ≡ length palette + 1 = length-append palette (n ∷ []) in
     let few : length (palette ++ n ∷ []) ≤ 65536 = omega (arith, long) in
@@ -35,7 +35,7 @@ packed_pushed palette old new bits wider n fits p fresh room needed same =
     }
 
 -- the number at each place stays
-pub number_pushed : (palette more : List ℕ) (old new : List ℤ) (bits wider : ℕ) → IsPacked palette old bits → IsRepacked bits old wider new
+pub number_pushed : (palette more : List ℕ) (old new : List ℤ) (bits wider : ℕ) → IsPackedSection palette old bits → IsRepacked bits old wider new
     → (i : ℕ) → (if nat_lt i 4096 then number_in (palette ++ more) new wider i else 0) ≡ (if nat_lt i 4096 then number_in palette old bits i else 0)
 number_pushed palette more old new bits wider p same i = elim (cases_lt i 4096) [
   | inl low ↦ rw (lt-ltb i 4096 low, same.entries i low) (get_or_append_left palette more 0 (packed_at bits old i) (p.below i low))
@@ -47,12 +47,12 @@ unchanged bits longs count = record { count = count; entries = λ i h. refl }
 
 -- a palette to which a number was appended, or was not
 pub record IsGrown (done : Bool) (palette new : List ℕ) (longs : List ℤ) (bits n : ℕ) : Type 0 where
-  pub packed : IsPacked new longs bits
+  pub packed : IsPackedSection new longs bits
   pub numbers : (i : ℕ) → (if nat_lt i 4096 then number_in new longs bits i else 0) ≡ (if nat_lt i 4096 then number_in palette longs bits i else 0)
   pub prepared : (m : ℕ) → Contains palette m → Contains new m
   pub there : done ≡ true → Contains new n
 
-grown_or_not : (done : Bool) (palette : List ℕ) (longs : List ℤ) (bits n : ℕ) → n < 65536 → IsPacked palette longs bits → (Contains palette n → ⊥) → length palette < 65536
+grown_or_not : (done : Bool) (palette : List ℕ) (longs : List ℤ) (bits n : ℕ) → n < 65536 → IsPackedSection palette longs bits → (Contains palette n → ⊥) → length palette < 65536
     → bits_for (length palette + 1) ≡ bits → IsGrown done palette (if done then palette ++ n ∷ [] else palette) longs bits n
 grown_or_not false palette longs bits n fits p fresh room needed = record { packed = p; numbers = λ i. refl; prepared = λ m h. h; there = λ e. absurd (true≢false (sym e)) }
 grown_or_not true palette longs bits n fits p fresh room needed = record {
@@ -62,6 +62,6 @@ grown_or_not true palette longs bits n fits p fresh room needed = record {
   there = λ e. Contains-push palette n;
 }
 
-pub grown : (done : Bool) (palette new : List ℕ) (longs : List ℤ) (bits n : ℕ) → n < 65536 → IsPacked palette longs bits → (Contains palette n → ⊥) → length palette < 65536
+pub grown : (done : Bool) (palette new : List ℕ) (longs : List ℤ) (bits n : ℕ) → n < 65536 → IsPackedSection palette longs bits → (Contains palette n → ⊥) → length palette < 65536
     → bits_for (length palette + 1) ≡ bits → new ≡ (if done then palette ++ n ∷ [] else palette) → IsGrown done palette new longs bits n
 grown done palette new longs bits n fits p fresh room needed e = subst (λ xs. IsGrown done palette xs longs bits n) (sym e) (grown_or_not done palette longs bits n fits p fresh room needed)

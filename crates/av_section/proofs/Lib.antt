@@ -13,3 +13,4 @@ pub mod Written
 pub mod WrittenStates
 pub mod InOrder
 pub mod StoredEntries
+pub mod WrittenOne

@@ -6,14 +6,14 @@ use Rattle.std.proofs.lemmas.Bool.{cases_eq}
 use Rattle.std.proofs.lemmas.List.Elements.{All-cons, All-nil}
 use Rattle.av_pack.proofs.Laws.{packed_at-zeros}
 use Rattle.av_pack.specs.Packing.{bits_for, longs_for, packed_at, SetsEntry}
-use Rattle.av_section.specs.Packed.{IsPacked}
+use Rattle.av_section.specs.Packed.{IsPackedSection}
 
 -- a whole list written over another
 pub written_back : {A : Type 0} (n : ℕ) (new rest : List A) → length new ≡ n → take n (new ++ rest) ≡ new
 written_back n new rest e = subst (λ k. take k (new ++ rest) ≡ new) e (take-append_seam new rest)
 
 -- one index set to one of the palette
-pub packed_set : (palette : List ℕ) (old new : List ℤ) (bits place index : ℕ) → IsPacked palette old bits → index < length palette → SetsEntry bits old new place index → IsPacked palette new bits
+pub packed_set : (palette : List ℕ) (old new : List ℤ) (bits place index : ℕ) → IsPackedSection palette old bits → index < length palette → SetsEntry bits old new place index → IsPackedSection palette new bits
 packed_set palette old new bits place index packed low sets = record {
   distinct = packed.distinct;
   small = packed.small;
@@ -30,7 +30,7 @@ packed_set palette old new bits place index packed low sets = record {
 }
 
 -- one number everywhere
-pub packed_one : (number count : ℕ) → number < 65536 → count ≡ longs_for 4 → IsPacked (number ∷ []) (replicate count (pos 0)) 4
+pub packed_one : (number count : ℕ) → number < 65536 → count ≡ longs_for 4 → IsPackedSection (number ∷ []) (replicate count (pos 0)) 4
 unfolding bits_for
 packed_one number count fits many = record {
   small = All-cons (λ n. n < 65536) number [] fits (All-nil (λ n. n < 65536));

@@ -1,4 +1,5 @@
 -- The numbers of a list, each once.
+-- Working definitions. No public clause cites them.
 use Rattle.std.specs.Prelude.{◌≡◌, ◌≢◌, ℕ, ◌<◌, ◌≤◌, List, length, All, AllPairs, Contains, slice_index}
 
 -- none of them is there twice, all of the list are there, and where they are as many they are the list

@@ -1,4 +1,5 @@
 -- A section made of numbered entries and the index of each place into them.
+-- Working definitions. No public clause cites them.
 use Rattle.std.specs.Prelude.{◌≡◌, ℕ, ◌<◌, List, Option, Some, None, false, slice_get, slice_index, slice_index_or}
 use Rattle.av_types.specs.declared.fault.Fault.{Fault}
 use Rattle.av_types.specs.declared.fault.Fault.TheVariants.{OutOfMemory, BadPacked, BadWaterLevel, TooManyStates}
@@ -15,7 +16,7 @@ pub record HasNumbers (numbers indices : List ℕ) (s : Section) : Type 0 where
   pub pending : (i : ℕ) → is_pending s i ≡ false
 
 -- each place has the number of the form of the entry of its index, and none is pending
-pub record IsSectionOf (entries : List BlockState) (indices : Option (List ℕ)) (old new : List BlockState) (s : Section) : Type 0 where
+pub record IsNumberedSection (entries : List BlockState) (indices : Option (List ℕ)) (old new : List BlockState) (s : Section) : Type 0 where
   pub places : List ℕ
   pub places_are : indices ≡ Some places
   pub forms : List BlockState

@@ -1,4 +1,5 @@
 -- What a judge of one part of a section answers where it refuses.
+-- Working definitions. No public clause cites them.
 use Rattle.std.specs.Prelude.{◌≡◌, Option, None}
 use Rattle.av_types.specs.declared.fault.Fault.{Fault}
 use Rattle.av_types.specs.declared.fault.Fault.TheVariants.{OutOfMemory, BadPalette, BadPacked}

@@ -3,7 +3,7 @@ use Rattle.std.specs.Prelude.{◌≡◌, ◌≢◌, ℕ, ◌<◌, ◌≤◌, ◌
 use Rattle.av_pack.specs.Packing.{bits_for, longs_for, packed_at}
 
 -- No number is in the palette twice, the indices have the bits that its length asks for, and each is below its length.
-pub record IsPacked (palette : List ℕ) (longs : List ℤ) (bits : ℕ) : Type 0 where
+pub record IsPackedSection (palette : List ℕ) (longs : List ℤ) (bits : ℕ) : Type 0 where
   pub distinct : AllPairs (λ x y. x ≢ y) palette
   pub small : All (λ number. number < 65536) palette
   pub few : length palette ≤ 65536

@@ -2,7 +2,7 @@
 use Rattle.std.specs.Prelude.{◌≡◌, ℕ, ◌<◌, nat_lt, ◌==◌, List, ℤ, map, slice_index_or, Bool, false, Contains, if◌then◌else◌}
 use Rattle.std.specs.List.{range_with_len}
 use Rattle.av_state.specs.BlockState.{BlockState, air}
-use Rattle.av_section.specs.Packed.{IsPacked, number_in}
+use Rattle.av_section.specs.Packed.{IsPackedSection, number_in}
 use Rattle.av_section.specs.Places.{has_place}
 use Rattle.av_section.specs.declared.section.Section.{Section}
 
@@ -49,7 +49,7 @@ pub record IsFilled (s : Section) (number : ℕ) : Type 0 where
 -- The palette, longs and bits that a section consists of: the bits and longs that the palette's length asks for, each index
 -- below that length, and the number at a place is the palette's at the index of the place.
 pub record AreParts (s : Section) (palette : List ℕ) (longs : List ℤ) (bits : ℕ) : Type 0 where
-  pub packed : IsPacked palette longs bits
+  pub packed : IsPackedSection palette longs bits
   pub numbers : (i : ℕ) → i < 4096 → number_at s i ≡ number_in palette longs bits i
   pub prepared : (number : ℕ) → Contains palette number → CanSet s number
 

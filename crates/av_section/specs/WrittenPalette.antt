@@ -1,4 +1,5 @@
 -- The numbers of a written palette, and the index of each place into it.
+-- Working definitions. No public clause cites them.
 use Rattle.std.specs.Prelude.{◌≡◌, ◌≢◌, ℕ, ◌<◌, ◌≤◌, List, [], length, map, nat_eq, slice_index, false}
 use Rattle.std.specs.List.{list_any}
 use Rattle.indexmap.specs.IndexSet.{insert_all}

@@ -1,5 +1,6 @@
 //! The indices of a section's places into its palette.
-ghost use Rattle.std.specs.Prelude.{◌≡◌, ◌<◌, ◌≤◌, ◌+◌, ℕ, Some, map, option_map, length, slice_index, All, Contains, IfOk, IfErr};
+ghost use Rattle.std.specs.Prelude.{◌≡◌, ◌<◌, ◌≤◌, ◌+◌, ℕ, nat_eq, Some, map, option_map, length, slice_index, All, Contains, IfOk, IfErr, OnOk};
+ghost use Rattle.indexmap.specs.IndexSet.{insert_key};
 ghost use Rattle.std.specs.Option.{option_copied};
 ghost use Rattle.av_types.specs.declared.fault.Fault.TheVariants.{OutOfMemory};
 ghost use Rattle.av_nbt.specs.View.{view};
@@ -12,6 +13,9 @@ use av_pack::{bits_for, unpack};
 use av_types::Fault;
 use indexmap::IndexSet;
 use std::alloc::{AllocError, Global};
+
+/// Up to how many numbers each is compared with each other.
+const FEW: usize = 32;
 
 /// The longs of a data tag, none where there is no tag.
 pub(crate) fn data_longs<'a>(tag: Option<&'a Tag>) -> Option<&'a [i64]>
@@ -44,10 +48,35 @@ pub(crate) fn longs_indices(alloc: Global, longs: &[i64], count: usize) -> Resul
     Ok(indices)
 }
 
+/// Puts a number at the end, where it is not there yet.
+fn add_new(once: &mut Vec<u16>, number: u16) -> Result<(), AllocError>
+    ensures { OnOk result (once.new.items ≡ insert_key nat_eq once.old.items number) }
+{
+    if once.contains(&number) {
+        return Ok(());
+    }
+    once.push(number)?;
+    Ok(())
+}
+
+/// The numbers of a list, each once, in the order in which they come first: each is compared with those before it.
+fn distinct_by_pairs(alloc: Global, numbers: &[u16]) -> Result<Vec<u16>, AllocError>
+    ensures { IfOk result (λ once. AreDistinct numbers.now once.items) }
+{
+    let mut once = Vec::with_capacity(alloc, numbers.len())?;
+    for number in numbers {
+        add_new(&mut once, *number)?;
+    }
+    Ok(once)
+}
+
 /// The numbers of a list, each once, in the order in which they come first.
 pub(crate) fn distinct(alloc: Global, numbers: &[u16]) -> Result<Vec<u16>, AllocError>
     ensures { IfOk result (λ once. AreDistinct numbers.now once.items) }
 {
+    if numbers.len() <= FEW {
+        return distinct_by_pairs(alloc, numbers);
+    }
     let mut once = IndexSet::new(alloc);
     for number in numbers {
         once.insert(*number)?;

@@ -55,7 +55,7 @@ pub(crate) fn written_order(
 {
     let mut seen = vec![in alloc; UNSEEN; palette.len()]?;
     let mut numbers = Vec::new(alloc);
-    let mut found = Vec::new(alloc);
+    let mut found = Vec::with_capacity(alloc, indices.len())?;
     for index in indices {
         found.push(written_index(palette, &mut seen, &mut numbers, *index)?)?;
     }

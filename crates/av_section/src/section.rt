@@ -2,7 +2,7 @@
 ghost use Rattle.std.specs.Prelude.{◌≡◌, ◌<◌, ◌≤◌, ◌^◌, ◌+◌, ◌↔◌, ◌++◌, [], ◌∷◌, ℕ, IsTrue, IfOk, IfErr, is_ok, if◌then◌else◌, length, slice_index, Contains};
 ghost use Rattle.av_types.specs.declared.fault.Fault.TheVariants.{OutOfMemory};
 ghost use Rattle.av_pack.specs.Packing.{bits_for, longs_for, packed_at};
-ghost use Rattle.av_section.specs.Packed.{IsPacked, IsRepacked};
+ghost use Rattle.av_section.specs.Packed.{IsPackedSection, IsRepacked};
 ghost use Rattle.std.proofs.Props.{props};
 
 use crate::indices::{data_longs, distinct, index_of, longs_indices, mapped, places_in};
@@ -27,7 +27,7 @@ pub struct Section {
     longs: Vec<i64>,
     bits: u32,
     pending: PlaceSet,
-    pub ghost packed: { IsPacked palette.items longs.items bits } by { Prim.hlevel props },
+    pub ghost packed: { IsPackedSection palette.items longs.items bits } by { Prim.hlevel props },
 }
 
 /// Whether a number is in the palette.
@@ -70,7 +70,7 @@ impl Section {
     ghost use Rattle.av_state.specs.States.{state_of};
     ghost use Rattle.av_section.specs.BlockStates.{palette_tag, data_tag, indices_if, packed_indices, all_zero};
     ghost use Rattle.av_section.specs.Distinct.{AreDistinct};
-    ghost use Rattle.av_section.specs.Indexed.{IsSectionOf, IsNoSection, HasNumbers};
+    ghost use Rattle.av_section.specs.Indexed.{IsNumberedSection, IsNoSection, HasNumbers};
     ghost use Rattle.av_section.specs.Section.{number_at, is_pending, CanSet, KeepsPlaces, SetsNumber, SetsPending, IsFilled, AreParts, HasNumbersBelow, section_states};
     ghost use Rattle.av_section.specs.Reading.{IsRead, IsRefused, OnlyGrows};
 
@@ -103,7 +103,7 @@ impl Section {
 
     /// The section of one entry, which is at every place.
     fn uniform(alloc: Global, entries: &[State], table: &mut StateTable) -> Result<Self, Fault>
-        ensures ok { IfOk result (IsSectionOf (map state_of entries.now) (indices_if (length entries.now == 1) all_zero) (states table.old) (states table.new)) }
+        ensures ok { IfOk result (IsNumberedSection (map state_of entries.now) (indices_if (length entries.now == 1) all_zero) (states table.old) (states table.new)) }
         ensures err { IfErr result (IsNoSection (map state_of entries.now) (indices_if (length entries.now == 1) all_zero) (states table.old)) }
         ensures table { OnlyGrows (states table.old) (states table.new) }
     {
@@ -124,7 +124,7 @@ impl Section {
     ) -> Result<Self, Fault>
         requires some { 0 < length entries.now }
         requires few { length entries.now ≤ 4096 }
-        ensures ok { IfOk result (IsSectionOf (map state_of entries.now) (packed_indices (length entries.now) longs.now) (states table.old) (states table.new)) }
+        ensures ok { IfOk result (IsNumberedSection (map state_of entries.now) (packed_indices (length entries.now) longs.now) (states table.old) (states table.new)) }
         ensures err { IfErr result (IsNoSection (map state_of entries.now) (packed_indices (length entries.now) longs.now) (states table.old)) }
         ensures table { OnlyGrows (states table.old) (states table.new) }
     {
@@ -311,6 +311,31 @@ impl Section {
     /// The palette tag, and the data tag where the palette has more than one entry. The palette has the states of the
     /// section's places, each once, in the order of their first place. Refuses with OutOfMemory alone.
     pub fn write(&self, alloc: Global, table: &StateTable) -> Result<(Tag, Option<Tag>), Fault>
+        requires { HasNumbersBelow self.now (length (states table.now)) }
+        ensures palette { IfOk result (λ tags. view tags.0 ≡ palette_tag (section_states (states table.now) self.now)) }
+        ensures longs { IfOk result (λ tags. option_map view tags.1 ≡ data_tag (section_states (states table.now) self.now)) }
+        ensures err { IfErr result (λ e. e ≡ OutOfMemory) }
+    {
+        if self.palette.len() == 1 {
+            return self.write_one(alloc, table);
+        }
+        self.write_any(alloc, table)
+    }
+
+    /// What is written of a palette of one entry, which is at every place.
+    fn write_one(&self, alloc: Global, table: &StateTable) -> Result<(Tag, Option<Tag>), Fault>
+        requires below { HasNumbersBelow self.now (length (states table.now)) }
+        requires one { length self.now.palette.items ≡ 1 }
+        ensures palette { IfOk result (λ tags. view tags.0 ≡ palette_tag (section_states (states table.now) self.now)) }
+        ensures longs { IfOk result (λ tags. option_map view tags.1 ≡ data_tag (section_states (states table.now) self.now)) }
+        ensures err { IfErr result (λ e. e ≡ OutOfMemory) }
+    {
+        let palette = palette_tag(alloc, table, self.palette.as_slice())?;
+        Ok((palette, None))
+    }
+
+    /// What is written of any palette.
+    fn write_any(&self, alloc: Global, table: &StateTable) -> Result<(Tag, Option<Tag>), Fault>
         requires { HasNumbersBelow self.now (length (states table.now)) }
         ensures palette { IfOk result (λ tags. view tags.0 ≡ palette_tag (section_states (states table.now) self.now)) }
         ensures longs { IfOk result (λ tags. option_map view tags.1 ≡ data_tag (section_states (states table.now) self.now)) }
