@@ -21,3 +21,6 @@ pub use block::block_at;
 pub use chunk::{Chunk, Reading};
 pub use light::ChunkLight;
 pub use rest::{ChunkRest, OutsideSection, SectionTags};
+
+#[cfg(test)]
+mod tests;

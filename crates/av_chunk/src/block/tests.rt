@@ -1,5 +1,6 @@
 //! Blocks of small regions, written by hand.
 use crate::block_at;
+use crate::tests::joined;
 use av_state::State;
 use av_types::{Fault, Height, Pos, RegionPos};
 use std::alloc::Global;
@@ -24,16 +25,45 @@ const WATER_17: &[u8] =
 /// The ends of `block_states`, of the section and of the root.
 const ENDS: &[u8] = b"\x00\x00\x00";
 
-/// The region of the chunk (-1, -1) alone, in its sector, with that payload.
+/// The root's begin, with an `xPos` of -2.
+const OTHER_PLACE: &[u8] =
+    b"\x0a\x00\x00\x03\x00\x04xPos\xff\xff\xff\xfe\x03\x00\x04zPos\xff\xff\xff\xff";
+
+const NO_SECTIONS: &[u8] = b"\x09\x00\x08sections\x0a\x00\x00\x00\x00";
+
+const TWO_SECTIONS: &[u8] = b"\x09\x00\x08sections\x0a\x00\x00\x00\x02";
+
+/// The number of another section and the begin of its `block_states`.
+const THIRD: &[u8] = b"\x01\x00\x01Y\x03\x0a\x00\x0cblock_states";
+
+/// A palette of one entry.
+const PALETTE: &[u8] = b"\x09\x00\x07palette\x0a\x00\x00\x00\x01";
+
+/// An entry without a name.
+const NAMELESS: &[u8] = b"\x08\x00\x04name\x00\x01a\x00";
+
+/// One long, where a palette of one entry has none or 256.
+const ONE_LONG: &[u8] = b"\x0c\x00\x04data\x00\x00\x00\x01\x00\x00\x00\x00\x00\x00\x00\x00";
+
+/// Water at (0, 64, -1), which is of the next chunk.
+const TICK_OUTSIDE: &[u8] = b"\x09\x00\x0bfluid_ticks\x0a\x00\x00\x00\x01\
+\x08\x00\x01i\x00\x0fminecraft:water\x03\x00\x01x\x00\x00\x00\x00\x03\x00\x01y\x00\x00\x00\x40\
+\x03\x00\x01z\xff\xff\xff\xff\x03\x00\x01t\x00\x00\x00\x00\x03\x00\x01p\x00\x00\x00\x00\x00";
+
+/// A tick without a fluid.
+const TICK_OF_NOTHING: &[u8] = b"\x09\x00\x0bfluid_ticks\x0a\x00\x00\x00\x01\x01\x00\x01i\x00\x00";
+
+const END: &[u8] = b"\x00";
+
+/// The region of the chunk (-1, -1) alone, in all the sectors that a chunk can have, with that payload.
 fn region_of(alloc: Global, payload: &[u8]) -> Result<Vec<u8>, Fail> {
     let mut file = vec![in alloc; 0u8; 4092]?;
-    file.extend_from_slice(&[0, 0, 2, 2])?;
+    file.extend_from_slice(&[0, 0, 2, 255])?;
     file.resize(8192, 0)?;
     let length = u32::try_from(payload.len())?.saturating_add(1);
     file.extend_from_slice(&length.to_be_bytes())?;
     file.push(3)?;
     file.extend_from_slice(payload)?;
-    file.resize(16384, 0)?;
     Ok(file)
 }
 
@@ -156,5 +186,151 @@ fn chunks_that_are_not_read(rt: HostRuntime) -> Result<(), Fail> {
         b"\x0a\x00\x00\x08\x00\x06Status\x00\x05empty\x00",
     )?;
     assert!(rt; is_unloaded(&found(rt.alloc(), &kept, -1, 64)));
+    Ok(())
+}
+
+/// The fault of a chunk, with the parts of its document.
+fn fault_of(alloc: Global, parts: &[&[u8]]) -> Result<Option<Fault>, Fail> {
+    let file = region_of(alloc, &joined(alloc, parts)?)?;
+    Ok(found(alloc, &file, -1, 64).err())
+}
+
+/// Of several faults the first by its number is answered, wherever its cause stands.
+#[test]
+fn the_first_fault_is_answered(rt: HostRuntime) -> Result<(), Fail> {
+    let alloc = rt.alloc();
+    let cases: [(&[&[u8]], Fault); 10] = [
+        (&[OTHER_PLACE, FULL, NO_SECTIONS, END], Fault::WrongPlace),
+        (&[OTHER_PLACE, FULL, END], Fault::BadChunk),
+        (
+            &[OTHER_PLACE, FULL, SECTIONS, FOURTH, PALETTE, NAMELESS, ENDS],
+            Fault::WrongPlace,
+        ),
+        (
+            &[PLACE, FULL, SECTIONS, FOURTH, PALETTE, NAMELESS, ENDS],
+            Fault::BadPalette,
+        ),
+        (
+            &[
+                PLACE,
+                FULL,
+                TWO_SECTIONS,
+                THIRD,
+                PALETTE,
+                AIR,
+                ONE_LONG,
+                END,
+                END,
+                FOURTH,
+                PALETTE,
+                NAMELESS,
+                ENDS,
+            ],
+            Fault::BadPalette,
+        ),
+        (
+            &[PLACE, FULL, TICK_OUTSIDE, NO_SECTIONS, END],
+            Fault::BadTick,
+        ),
+        (
+            &[PLACE, FULL, TICK_OF_NOTHING, NO_SECTIONS, END],
+            Fault::BadTick,
+        ),
+        (
+            &[
+                PLACE,
+                FULL,
+                TICK_OUTSIDE,
+                SECTIONS,
+                FOURTH,
+                PALETTE,
+                AIR,
+                ONE_LONG,
+                ENDS,
+            ],
+            Fault::BadPacked,
+        ),
+        (
+            &[
+                PLACE,
+                FULL,
+                TICK_OF_NOTHING,
+                SECTIONS,
+                FOURTH,
+                PALETTE,
+                WATER_17,
+                ENDS,
+            ],
+            Fault::BadTick,
+        ),
+        (
+            &[PLACE, FULL, SECTIONS, FOURTH, PALETTE, WATER_17, ENDS],
+            Fault::BadWaterLevel,
+        ),
+    ];
+    for (parts, fault) in cases {
+        assert_eq!(rt; fault_of(alloc, parts)?, Some(fault));
+    }
+    Ok(())
+}
+
+/// Palette entries with names of two bytes, so many from a number on.
+fn push_states(payload: &mut Vec<u8>, first: u16, count: u16) -> Result<(), Fail> {
+    let mut name = first;
+    for _ in 0..count {
+        payload.extend_from_slice(b"\x08\x00\x04Name\x00\x02")?;
+        payload.extend_from_slice(&name.to_be_bytes())?;
+        payload.push(0)?;
+        name = name.wrapping_add(1);
+    }
+    Ok(())
+}
+
+/// The begin of a section of a number, and of a palette of so many entries.
+fn push_section(payload: &mut Vec<u8>, y: u8, count: u16) -> Result<(), Fail> {
+    payload.extend_from_slice(&[1, 0, 1, b'Y', y])?;
+    payload.extend_from_slice(b"\x0a\x00\x0cblock_states\x09\x00\x07palette\x0a\x00\x00")?;
+    payload.extend_from_slice(&count.to_be_bytes())?;
+    Ok(())
+}
+
+/// 16 sections: 15 of 4,096 states each, and one of so many and then the last. No name comes twice.
+fn crowded(alloc: Global, count: u16, last: &[u8]) -> Result<Vec<u8>, Fail> {
+    // 820 longs
+    let mut data = Vec::from_slice(alloc, b"\x0c\x00\x04data\x00\x00\x03\x34")?;
+    data.resize(6571, 0)?;
+    data.extend_from_slice(&[0, 0])?;
+    let mut payload = joined(
+        alloc,
+        &[PLACE, FULL, b"\x09\x00\x08sections\x0a\x00\x00\x00\x10"],
+    )?;
+    let mut name = 0u16;
+    for y in 0..15 {
+        push_section(&mut payload, y, 4096)?;
+        push_states(&mut payload, name, 4096)?;
+        payload.extend_from_slice(&data)?;
+        name = name.wrapping_add(4096);
+    }
+    push_section(&mut payload, 15, count.saturating_add(1))?;
+    push_states(&mut payload, name, count)?;
+    payload.extend_from_slice(last)?;
+    payload.extend_from_slice(&data)?;
+    payload.push(0)?;
+    Ok(payload)
+}
+
+/// A table begins with ten states, so 65,525 more are as many as it has.
+#[test]
+fn states_can_be_too_many(rt: HostRuntime) -> Result<(), Fail> {
+    let alloc = rt.alloc();
+    let cases = [
+        (4085, AIR, None),
+        (4085, STONE, Some(Fault::TooManyStates)),
+        (4086, WATER_17, Some(Fault::BadWaterLevel)),
+    ];
+    for (count, last, fault) in cases {
+        let file = region_of(alloc, &crowded(alloc, count, last)?)?;
+        assert_eq!(rt; found(alloc, &file, -1, 64).err(), fault);
+    }
     Ok(())
 }
