@@ -25,4 +25,6 @@ measure block "$((8 * times))" "$top/crates/av_main/out/av_main" block "$work/r.
 measure decode "$times" "$proved" decode "$work/r.0.0.mca" 5 -- "$work/plain" decode "$work/r.0.0.mca" 5
 measure recode "$times" "$proved" recode "$work/r.0.0.mca" "$work/proved.mca" -- "$work/plain" recode "$work/r.0.0.mca" "$work/plain.mca"
 cmp "$work/proved.mca" "$work/plain.mca"
+measure rewrite "$times" "$proved" rewrite "$work/r.0.0.mca" "$work/proved.mca" -- "$work/plain" rewrite "$work/r.0.0.mca" "$work/plain.mca"
+cmp "$work/proved.mca" "$work/plain.mca"
 measure turn "$times" "$proved" turn 10000 -- "$work/plain" turn 10000

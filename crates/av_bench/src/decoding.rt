@@ -21,7 +21,7 @@ fn decode_region(alloc: Global, region: &Region<'_>, tally: &mut Tally) -> Resul
 
 /// Decodes every chunk of a region so many times. The line has the number of chunks and of tags, and the sum of all
 /// that stands in them.
-pub fn decode_rounds(alloc: Global, bytes: &[u8], rounds: u32) -> Result<String, Fault> {
+pub(crate) fn decode_rounds(alloc: Global, bytes: &[u8], rounds: u32) -> Result<String, Fault> {
     let region = Region::read(bytes)?;
     let mut tally = Tally::default();
     let mut chunks = 0u64;

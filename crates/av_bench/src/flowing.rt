@@ -137,7 +137,7 @@ fn play_world(alloc: Global, kinds: &Kinds, play: &mut Play) -> Result<(), Fault
 }
 
 /// So many worlds, in each of which a source spreads and each block that it wakes is turned once.
-pub fn play_worlds(alloc: Global, worlds: u64) -> Result<String, Fault> {
+pub(crate) fn play_worlds(alloc: Global, worlds: u64) -> Result<String, Fault> {
     let kinds = water_kinds(alloc)?;
     let mut play = Play::default();
     if 1 < kinds.count() {

@@ -1,12 +1,14 @@
 //! The program that `bench/run.sh` times: hot paths of the crates over a whole region, one a command.
 #![tactic(auto)]
 
-pub mod decoding;
-pub mod flowing;
-pub mod recoding;
-pub mod tally;
+mod decoding;
+mod flowing;
+mod recoding;
+mod rewriting;
+mod tally;
 
 use anyhow::{Result, bail};
+use av_types::Height;
 use std::alloc::{AllocError, Global};
 use std::rt::{Env, Files};
 use std::{env, fs};
@@ -27,11 +29,18 @@ fn run<R: Env + Files + AllocGlobal>(rt: &R, words: &[&str]) -> Result<String> {
             let size = written.len();
             Ok(format!(in alloc; "bytes {size}")?)
         }
+        ["rewrite", input, output] => {
+            let bytes = fs::read(rt, *input)?;
+            let written = rewriting::rewrite(alloc, bytes.as_slice(), Height::game())?;
+            fs::write(rt, *output, written.as_slice())?;
+            let size = written.len();
+            Ok(format!(in alloc; "bytes {size}")?)
+        }
         ["turn", worlds] => {
             let worlds: u64 = worlds.parse()?;
             Ok(flowing::play_worlds(alloc, worlds)?)
         }
-        _ => bail!("av_bench decode FILE ROUNDS | recode IN OUT | turn WORLDS"),
+        _ => bail!("av_bench decode FILE ROUNDS | recode IN OUT | rewrite IN OUT | turn WORLDS"),
     }
 }
 

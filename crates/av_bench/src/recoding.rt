@@ -1,5 +1,6 @@
 //! Decoding every chunk of a region, and writing a region of what was decoded.
-ghost use Rattle.std.specs.Prelude.{◌≡◌, IfOk, vec_len};
+ghost use Rattle.std.specs.Prelude.{◌≤◌, IfOk, map, option_map};
+ghost use Rattle.av_bench.specs.Regions.{AreMadeOf, AreStamps, IsMadeOf, IsRecoded, IsRegionOf};
 
 use av_nbt::{decode, encode};
 use av_region::{Region, write};
@@ -8,30 +9,38 @@ use std::alloc::Global;
 
 const CHUNKS: usize = 1024;
 
-/// The payload of a chunk, decoded and encoded again.
-fn recode_chunk(alloc: Global, payload: Option<&[u8]>) -> Result<Option<Vec<u8>>, Fault> {
-    match payload {
+/// A payload, decoded and encoded again.
+fn recode_payload(alloc: Global, payload: &[u8]) -> Result<Vec<u8>, Fault>
+    ensures { IfOk result (λ bytes. IsRecoded payload.now bytes.items) }
+{
+    let root = decode(alloc, payload)?;
+    encode(alloc, &root)
+}
+
+/// The chunk at an index, if there is one, decoded and encoded again.
+fn recode_chunk(alloc: Global, region: &Region<'_>, index: usize) -> Result<Option<Vec<u8>>, Fault>
+    requires { index ≤ 1023 }
+    ensures { IfOk result (λ made. IsMadeOf (λ _. IsRecoded) region.now.bytes.now index (option_map (λ v. v.items) made)) }
+{
+    match region.payload(index)? {
         None => Ok(None),
-        Some(payload) => {
-            let root = decode(alloc, payload)?;
-            Ok(Some(encode(alloc, &root)?))
-        }
+        Some(payload) => Ok(Some(recode_payload(alloc, payload)?)),
     }
 }
 
 fn recode_chunks(alloc: Global, region: &Region<'_>) -> Result<Vec<Option<Vec<u8>>>, Fault>
-    ensures { IfOk result (λ payloads. vec_len payloads ≡ 1024) }
+    ensures { IfOk result (λ payloads. AreMadeOf (λ _. IsRecoded) region.now.bytes.now 1024 (map (option_map (λ v. v.items)) payloads.items)) }
 {
     let mut payloads = Vec::new(alloc);
     for index in 0..CHUNKS {
-        payloads.push(recode_chunk(alloc, region.payload(index)?)?)?;
+        payloads.push(recode_chunk(alloc, region, index)?)?;
     }
     Ok(payloads)
 }
 
 /// The timestamps of a region.
-pub fn stamps_of(alloc: Global, region: &Region<'_>) -> Result<Vec<u32>, Fault>
-    ensures { IfOk result (λ stamps. vec_len stamps ≡ 1024) }
+pub(crate) fn stamps_of(alloc: Global, region: &Region<'_>) -> Result<Vec<u32>, Fault>
+    ensures { IfOk result (λ stamps. AreStamps region.now.bytes.now 1024 stamps.items) }
 {
     let mut stamps = Vec::new(alloc);
     for index in 0..CHUNKS {
@@ -41,7 +50,9 @@ pub fn stamps_of(alloc: Global, region: &Region<'_>) -> Result<Vec<u32>, Fault>
 }
 
 /// A region file with every chunk of a region decoded and encoded again.
-pub fn recode(alloc: Global, bytes: &[u8]) -> Result<Vec<u8>, Fault> {
+pub(crate) fn recode(alloc: Global, bytes: &[u8]) -> Result<Vec<u8>, Fault>
+    ensures { IfOk result (λ file. IsRegionOf (λ _. IsRecoded) bytes.now file.items) }
+{
     let region = Region::read(bytes)?;
     let payloads = recode_chunks(alloc, &region)?;
     let stamps = stamps_of(alloc, &region)?;

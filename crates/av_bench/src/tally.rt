@@ -3,9 +3,9 @@ use av_nbt::{Named, Root, Tag};
 
 /// The number of tags, and the sum of all numbers and bytes, which wraps round.
 #[derive(Clone, Copy, Debug, Default)]
-pub struct Tally {
-    pub tags: u64,
-    pub sum: i64,
+pub(crate) struct Tally {
+    pub(crate) tags: u64,
+    pub(crate) sum: i64,
 }
 
 fn byte_sum(bytes: &[u8]) -> i64 {
@@ -34,7 +34,7 @@ fn long_sum(longs: &[i64]) -> i64 {
 
 impl Tally {
     /// Adds a document.
-    pub fn add_root(&mut self, root: &Root) {
+    pub(crate) fn add_root(&mut self, root: &Root) {
         add_all(self, root.tags.as_slice());
     }
 

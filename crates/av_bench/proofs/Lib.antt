@@ -1,0 +1,5 @@
+pub mod Growing
+pub mod Whole
+pub mod Reading
+pub mod Rewritten
+pub mod Slots
