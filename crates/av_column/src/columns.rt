@@ -1,5 +1,6 @@
 //! Some layers of the chunk at x 0 and z 0.
-ghost use Rattle.std.specs.Prelude.{◌≡◌, ◌<◌, ◌≤◌, ◌+◌, ◌*◌, ◌-◌, ℕ, ◌+ℤ◌, ◌-ℤ◌, ◌≤ℤ◌, ◌<ℤ◌, pos, negsuc, nat_abs, length, vec_len, [], replicate, drop, slice_get, IsTrue, Some, None, IfOk, IfErr, if◌then◌else◌, true, false};
+ghost use Rattle.std.specs.Prelude.{◌≡◌, ◌<◌, ◌≤◌, ◌+◌, ◌*◌, ◌-◌, ℕ, ◌+ℤ◌, ◌-ℤ◌, ◌≤ℤ◌, ◌<ℤ◌, pos, negsuc, nat_abs, length, vec_len, [], replicate, drop, slice_get, IsTrue, Some, None, IfOk, IfErr, if◌then◌else◌, true, false, nat_lt, ◌↔◌};
+ghost use Rattle.std.specs.List.{list_all};
 ghost use Rattle.arrayvec.specs.ArrayVec.{array_vec_len};
 ghost use Rattle.av_rules.specs.Kinds.{kind_count};
 ghost use Rattle.av_cells.specs.Rule.{HasKinds};
@@ -47,6 +48,13 @@ fn steps_from(low: i32, x: i32) -> usize
     (x - low) as usize
 }
 
+/// Whether each number is below a count.
+fn are_below(numbers: &[u16], count: usize) -> bool
+    ensures { result ≡ list_all (λ n. nat_lt n count) numbers.now }
+{
+    numbers.iter().all(|number| usize::from(*number) < count)
+}
+
 impl Column {
     /// Whether a block is one of these layers.
     fn is_there(&self, pos: Pos) -> bool
@@ -56,7 +64,7 @@ impl Column {
     }
 
     /// The place of a block in the list.
-    #[tactic(auto, using(crate::specs::Columns::there_of, crate::specs::Columns::slot_within))]
+    #[tactic(auto, using(crate::specs::Limits::there_of, crate::proofs::Slots::slot_within))]
     fn slot(&self, pos: Pos) -> usize
         requires { IsTrue (is_there self.now.bottom self.now.layers pos) }
         ensures value { result ≡ slot self.now.bottom pos }
@@ -71,7 +79,7 @@ impl Column {
     ///
     /// # Errors
     /// `OutOfMemory`.
-    #[tactic(auto, using(crate::specs::Columns::filled_has_kinds))]
+    #[tactic(auto, using(crate::proofs::Numbers::filled_has_kinds))]
     pub fn filled(alloc: Global, bottom: i32, layers: u32, number: u16) -> Result<Column, Fault>
         requires low { negsuc 1023 ≤ℤ bottom }
         requires high { (bottom +ℤ pos layers) ≤ℤ pos 1024 }
@@ -95,13 +103,11 @@ impl Column {
     }
 
     /// Whether each block's number has a kind.
-    #[tactic(auto, using(crate::specs::Columns::all_have_kinds))]
     pub fn has_kinds(&self, kinds: &Kinds) -> bool
-        ensures { IsTrue result → HasKinds (kind_count kinds.now)
+        ensures { IsTrue result ↔ HasKinds (kind_count kinds.now)
             (world_of self.now.bottom self.now.layers self.now.numbers.items self.now.waiting.items) }
     {
-        let count = kinds.count();
-        self.numbers.iter().all(|number| (*number as usize) < count)
+        are_below(self.numbers.as_slice(), kinds.count())
     }
 
     /// The entries, in the order in which they were added.
@@ -140,7 +146,7 @@ impl Column {
 
 impl Cells for Column {
     ghost use Rattle.av_cells.specs.World.{World, Lists};
-    ghost use Rattle.av_column.specs.Columns.{there_is_near};
+    ghost use Rattle.av_column.specs.Limits.{there_is_near};
 
     ghost world = { λ c. world_of c.bottom c.layers c.numbers.items c.waiting.items };
 

@@ -215,6 +215,12 @@ fn the_bottom_of_the_world_is_a_floor(rt: HostRuntime) -> Result<(), Fail> {
         assert_eq!(rt; number_at(&column, side), Some(LEVEL_1));
     }
     assert_eq!(rt; number_at(&column, at(8, -65, 8)), None);
+
+    let mut column = Column::filled(rt.alloc(), -64, 4, AIR)?;
+    put(&mut column, at(8, -64, 8), SOURCE);
+    put(&mut column, at(10, -64, 8), SOURCE);
+    turned(&rt, &mut column, &kinds, at(8, -64, 8))?;
+    assert_eq!(rt; number_at(&column, at(9, -64, 8)), Some(SOURCE));
     Ok(())
 }
 
@@ -283,7 +289,7 @@ fn a_set_wakes_what_does_not_wait(rt: HostRuntime) -> Result<(), Fail> {
 }
 
 /// Whether a loaded block has a hole.
-#[tactic(auto, using(crate::specs::Columns::there_is_inner))]
+#[tactic(auto, using(crate::proofs::Slots::there_is_inner))]
 fn drops_at(rt: &impl Abort, column: &Column, kinds: &Kinds, pos: Pos) -> bool {
     assert!(rt; column.loaded(pos));
     assert!(rt; column.has_kinds(kinds));

@@ -1,5 +1,5 @@
 use Rattle.std.proofs.Common.{replicate, ◌*◌, false}
-use Rattle.av_column.specs.Columns.{filled_has_kinds}
+use Rattle.av_column.proofs.Numbers.{filled_has_kinds}
 use Rattle.av_column.proofs.columns.Column.filled.Goals as goal
 
 pub returns-clause-kinds : goal.returns-clause-kinds

@@ -1,5 +1,6 @@
 use Rattle.std.proofs.Common.{ap, ◌∙◌, slice_set, slice_index_or, false, true, ◌≡◌}
-use Rattle.av_column.specs.Columns.{world_of, world_adds, not_pending, lists_more, lists_of, slot, read_false}
+use Rattle.av_column.specs.Columns.{world_of, lists_of, slot}
+use Rattle.av_column.proofs.Writes.{world_adds, not_pending, lists_more, read_false}
 use Rattle.av_column.proofs.columns.ColumnCells.add.Goals as goal
 
 pub returns-clause-changed : goal.returns-clause-changed

@@ -1,5 +1,6 @@
 use Rattle.std.proofs.Common.{ap, ◌∙◌, slice_set}
-use Rattle.av_column.specs.Columns.{world_of, world_set}
+use Rattle.av_column.specs.Columns.{world_of}
+use Rattle.av_column.proofs.Writes.{world_set}
 use Rattle.av_column.proofs.columns.ColumnCells.set.Goals as goal
 
 pub returns-clause-changed : goal.returns-clause-changed
