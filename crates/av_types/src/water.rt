@@ -17,7 +17,7 @@ pub enum Wet {
 impl Wet {
     ghost use Rattle.av_types.specs.Water.{amount_of, is_wet, is_source};
 
-    /// How much water there is, in eighths of a block: 8 of a source and of falling water, 0 where it is dry.
+    /// How much water there is, in eighths of a source: 8 of a source and of falling water, 0 where it is dry.
     pub fn amount(self) -> u8
         ensures { result ≡ amount_of self }
     {
