@@ -78,6 +78,29 @@ fn the_highest_bits_of_a_long(rt: HostRuntime) -> Result<(), Fail> {
 }
 
 #[test]
+fn bits_that_hold_no_entry_are_ignored(rt: HostRuntime) -> Result<(), Fail> {
+    let values = remainders(rt.alloc())?;
+    let mut longs = pack(rt.alloc(), &values, 5)?;
+    assert_eq!(rt; longs.len(), 342);
+    // the four highest bits of a long, and all above the four entries of the last one
+    longs[0] |= 0xF << 60;
+    longs[341] |= -1 << 20;
+    assert_eq!(rt;
+        unpack(rt.alloc(), &longs, 5)?.as_slice(),
+        values.as_slice()
+    );
+    assert_eq!(rt; get_at(&longs, 5, Place::new(11)), 11);
+    assert_eq!(rt; get_at(&longs, 5, Place::new(4095)), 15);
+    // they stay when an entry is set
+    set_at(&mut longs, 5, Place::new(4095), 0);
+    assert_eq!(rt;
+        longs.get(341).copied(),
+        Some((-1 << 20) + 12 + 13 * 32 + 14 * 1024)
+    );
+    Ok(())
+}
+
+#[test]
 fn half_bytes(rt: HostRuntime) -> Result<(), Fail> {
     let mut bytes = vec![in rt.alloc(); 0; 2048]?;
     bytes[64] = 0xDE;
