@@ -76,36 +76,38 @@ fn faults_print_their_lines(rt: HostRuntime) -> Result<(), Fail> {
     let place = ChunkPos { x: -3, z: 40 };
     let device = String::from_str(alloc, "r.0.0.mca")?;
     let lines = [
-        (Fault::OutOfMemory, "fault 01: OutOfMemory"),
-        (Fault::RegionRange, "fault 02: RegionRange"),
-        (Fault::RepeatedRegion, "fault 03: RepeatedRegion"),
-        (Fault::ShortHeader, "fault 04: ShortHeader"),
-        (Fault::BadLocation, "fault 05: BadLocation"),
-        (Fault::TruncatedChunk, "fault 06: TruncatedChunk"),
-        (Fault::BadLength, "fault 07: BadLength"),
-        (Fault::ExternalChunk, "fault 08: ExternalChunk"),
-        (Fault::Compression(2), "fault 09: Compression 2"),
-        (Fault::BadNbt, "fault 10: BadNbt"),
-        (Fault::OldLayout, "fault 11: OldLayout"),
-        (Fault::BadChunk, "fault 12: BadChunk"),
-        (Fault::WrongPlace, "fault 13: WrongPlace"),
-        (Fault::BadPalette, "fault 14: BadPalette"),
-        (Fault::BadPacked, "fault 15: BadPacked"),
-        (Fault::BadTick, "fault 16: BadTick"),
-        (Fault::BadWaterLevel, "fault 17: BadWaterLevel"),
-        (Fault::TooManyStates, "fault 18: TooManyStates"),
-        (Fault::BadTable, "fault 19: BadTable"),
-        (Fault::BadEdit(3), "fault 20: BadEdit 3"),
-        (Fault::EditTick(0), "fault 21: EditTick 0"),
-        (Fault::EditOutside(17), "fault 22: EditOutside 17"),
-        (Fault::BadCount, "fault 23: BadCount"),
-        (Fault::ChunkTooLarge(place), "fault 24: ChunkTooLarge -3 40"),
-        (Fault::Device(device), "fault 25: Device r.0.0.mca"),
-        (Fault::Broken, "fault 26: Broken"),
+        (Fault::OutOfMemory, 1, "fault 01: OutOfMemory"),
+        (Fault::RegionRange, 2, "fault 02: RegionRange"),
+        (Fault::RepeatedRegion, 3, "fault 03: RepeatedRegion"),
+        (Fault::ShortHeader, 4, "fault 04: ShortHeader"),
+        (Fault::BadLocation, 5, "fault 05: BadLocation"),
+        (Fault::TruncatedChunk, 6, "fault 06: TruncatedChunk"),
+        (Fault::BadLength, 7, "fault 07: BadLength"),
+        (Fault::ExternalChunk, 8, "fault 08: ExternalChunk"),
+        (Fault::Compression(2), 9, "fault 09: Compression 2"),
+        (Fault::BadNbt, 10, "fault 10: BadNbt"),
+        (Fault::OldLayout, 11, "fault 11: OldLayout"),
+        (Fault::BadChunk, 12, "fault 12: BadChunk"),
+        (Fault::WrongPlace, 13, "fault 13: WrongPlace"),
+        (Fault::BadPalette, 14, "fault 14: BadPalette"),
+        (Fault::BadPacked, 15, "fault 15: BadPacked"),
+        (Fault::BadTick, 16, "fault 16: BadTick"),
+        (Fault::BadWaterLevel, 17, "fault 17: BadWaterLevel"),
+        (Fault::TooManyStates, 18, "fault 18: TooManyStates"),
+        (Fault::BadTable, 19, "fault 19: BadTable"),
+        (Fault::BadEdit(3), 20, "fault 20: BadEdit 3"),
+        (Fault::EditTick(0), 21, "fault 21: EditTick 0"),
+        (Fault::EditOutside(17), 22, "fault 22: EditOutside 17"),
+        (Fault::BadCount, 23, "fault 23: BadCount"),
+        (
+            Fault::ChunkTooLarge(place),
+            24,
+            "fault 24: ChunkTooLarge -3 40",
+        ),
+        (Fault::Device(device), 25, "fault 25: Device r.0.0.mca"),
+        (Fault::Broken, 26, "fault 26: Broken"),
     ];
-    let mut number = 0;
-    for (fault, line) in lines {
-        number += 1;
+    for (fault, number, line) in lines {
         assert_eq!(rt; fault.number(), number);
         assert_eq!(rt; fault.to_string(alloc)?.as_str(), line);
     }
