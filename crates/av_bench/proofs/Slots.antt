@@ -6,7 +6,7 @@ use Rattle.av_types.specs.declared.place.Height.{Height}
 use Rattle.av_state.specs.BlockState.{BlockState}
 use Rattle.av_bench.specs.declared.rewriting.Slot.{Slot}
 use Rattle.av_bench.specs.Regions.{AreMadeOf, IsMadeOf}
-use Rattle.av_bench.specs.Rewriting.{AreSlots, IsSlot, WasRead, WereRead}
+use Rattle.av_bench.specs.Rewriting.{AreSlots, IsSlot, SlotWasRead, SlotsWereRead}
 use Rattle.av_bench.proofs.Growing.{one_more_seen}
 
 at_seam : {X : Type 0} (xs : List X) (x : X) (ys : List X) → slice_get (xs ++ x ∷ ys) (length xs) ≡ Some x
@@ -20,7 +20,7 @@ slot_here h region table count slots done slot left split s =
     s.each (length done) slot (subst (λ (xs : List Slot). slice_get xs (length done) ≡ Some slot) split (at_seam done slot left))
 
 pub read_here : (table : List BlockState) (sections : ℕ) (slots done : List Slot) (slot : Slot) (left : List Slot)
-    → done ++ slot ∷ left ≡ slots → WereRead table sections slots → WasRead table sections slot
+    → done ++ slot ∷ left ≡ slots → SlotsWereRead table sections slots → SlotWasRead table sections slot
 read_here table sections slots done slot left split w = record {
   height = w.height;
   region = w.region;

@@ -59,14 +59,14 @@ pub record AreSlots (h : Height) (region : List ℕ) (table : List BlockState) (
   pub each : (index : ℕ) (slot : Slot) → slice_get slots index ≡ Some slot → IsSlot h region table index slot
 
 -- a slot that was read somewhere, of a height with so many sections
-pub record WasRead (table : List BlockState) (sections : ℕ) (slot : Slot) : Type 0 where
+pub record SlotWasRead (table : List BlockState) (sections : ℕ) (slot : Slot) : Type 0 where
   pub height : Height
   pub region : List ℕ
   pub index : ℕ
   pub is_slot : IsSlot height region table index slot
   pub lit : sections ≡ height.sections
 
-pub record WereRead (table : List BlockState) (sections : ℕ) (slots : List Slot) : Type 0 where
+pub record SlotsWereRead (table : List BlockState) (sections : ℕ) (slots : List Slot) : Type 0 where
   pub height : Height
   pub region : List ℕ
   pub count : ℕ

@@ -7,7 +7,7 @@ ghost use Rattle.av_region.specs.Region.{Holds};
 ghost use Rattle.av_chunk.specs.Light.{section_count};
 ghost use Rattle.av_chunk.specs.Writing.{states_of_kinds};
 ghost use Rattle.av_bench.specs.Regions.{AreMadeOf, IsMadeOf, IsRegionOf};
-ghost use Rattle.av_bench.specs.Rewriting.{AreSlots, IsRewritten, IsSlot, WasRead, WereRead};
+ghost use Rattle.av_bench.specs.Rewriting.{AreSlots, IsRewritten, IsSlot, SlotWasRead, SlotsWereRead};
 
 use crate::recoding::stamps_of;
 use av_chunk::{Chunk, ChunkLight, ChunkRest, Reading};
@@ -92,7 +92,7 @@ fn write_chunk(
     kinds: &Kinds,
     light: &ChunkLight,
 ) -> Result<Vec<u8>, Fault>
-    requires { WasRead (states_of_kinds kinds.now) (section_count light.now) (Slot.Full chunk rest) }
+    requires { SlotWasRead (states_of_kinds kinds.now) (section_count light.now) (Slot.Full chunk rest) }
     ensures { (h : Height) (region : List ℕ) (index : ℕ) → IsSlot h region (states_of_kinds kinds.now) index (Slot.Full chunk rest)
         → IfOk result (λ bytes. IsMadeOf (IsRewritten h) region index (Some bytes.items)) }
 {
@@ -107,7 +107,7 @@ fn write_slot(
     kinds: &Kinds,
     light: &ChunkLight,
 ) -> Result<Option<Vec<u8>>, Fault>
-    requires { WasRead (states_of_kinds kinds.now) (section_count light.now) slot }
+    requires { SlotWasRead (states_of_kinds kinds.now) (section_count light.now) slot }
     ensures { (h : Height) (region : List ℕ) (index : ℕ) → IsSlot h region (states_of_kinds kinds.now) index slot.entry
         → IfOk result (λ made. IsMadeOf (IsRewritten h) region index (option_map (λ v. v.items) made)) }
 {
@@ -125,7 +125,7 @@ fn write_slots(
     kinds: &Kinds,
     light: &ChunkLight,
 ) -> Result<Vec<Option<Vec<u8>>>, Fault>
-    requires { WereRead (states_of_kinds kinds.now) (section_count light.now) slots.items }
+    requires { SlotsWereRead (states_of_kinds kinds.now) (section_count light.now) slots.items }
     ensures { (h : Height) (region : List ℕ) (count : ℕ) → AreSlots h region (states_of_kinds kinds.now) count slots.entry.items
         → IfOk result (λ payloads. AreMadeOf (IsRewritten h) region count (map (option_map (λ v. v.items)) payloads.items)) }
 {

@@ -4,13 +4,13 @@ use Rattle.av_types.specs.declared.place.Height.{Height}
 use Rattle.av_chunk.specs.Light.{section_count}
 use Rattle.av_chunk.specs.Writing.{states_of_kinds}
 use Rattle.av_bench.specs.Regions.{AreMadeOf}
-use Rattle.av_bench.specs.Rewriting.{AreSlots, IsRewritten, WereRead}
+use Rattle.av_bench.specs.Rewriting.{AreSlots, IsRewritten, SlotsWereRead}
 use Rattle.av_bench.proofs.rewriting.write_slots.Given as goal
 
 abbrev pub invariant-loop-slot : goal.invariant-loop-slot
 invariant-loop-slot l = record {
   split : l.yielded ++ into_iter_items l.slot-iterator ≡ l.fn.slots.items;
-  read : WereRead (states_of_kinds l.fn.kinds) (section_count l.fn.light) l.fn.slots.items;
+  read : SlotsWereRead (states_of_kinds l.fn.kinds) (section_count l.fn.light) l.fn.slots.items;
   so_far : (h : Height) (region : List ℕ) (count : ℕ) → AreSlots h region (states_of_kinds l.fn.kinds) count l.fn.slots.items
       → AreMadeOf (IsRewritten h) region (length l.yielded) (map (option_map (λ v. v.items)) l.payloads.items);
 }
