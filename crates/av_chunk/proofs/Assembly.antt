@@ -28,7 +28,9 @@ use Rattle.av_document.specs.Ticks.{lies_in}
 use Rattle.av_document.specs.Law.{HasInts}
 use Rattle.av_document.specs.Stored.{IsStored}
 use Rattle.av_document.proofs.Ints.{ints_read}
-use Rattle.av_document.specs.Chunk.{root_tags, sections, ticks, sections_of, section_number, is_bad_at, with_number, are_bad_sections, is_bad_list, numbered, section_states, first_fault, DenotesChunk, block_cell, block_states_of, tags_at, cell_of}
+use Rattle.av_document.specs.Working.{is_bad_at, with_number, are_bad_sections}
+use Rattle.av_document.proofs.Judged.{judged}
+use Rattle.av_document.specs.Chunk.{root_tags, sections, ticks, sections_of, section_number, is_bad_list, numbered, section_states, first_fault, DenotesChunk, block_cell, block_states_of, tags_at, cell_of}
 use Rattle.av_document.proofs.Positions.{within_from, place_of-lt}
 use Rattle.av_chunk.specs.declared.chunk.Chunk.{Chunk}
 use Rattle.av_chunk.specs.declared.rest.ChunkRest.{ChunkRest}
@@ -106,7 +108,7 @@ last_is_first h y before (ms ∷ rows) e = last_of h y before ms rows (λ z bad.
 
 good_rows : (h : Height) (o : Option (List (List NamedTag))) → is_bad_list h o ≡ false → are_bad_sections h [] (or_else [] o) ≡ false
 good_rows h None e = refl
-good_rows h (Some rows) e = e
+good_rows h (Some rows) e = sym (judged h rows) ∙ e
 
 -- ---- a slot after its places were made pending
 

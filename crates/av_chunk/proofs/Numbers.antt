@@ -13,7 +13,9 @@ use Rattle.std.proofs.Common.{◌&&◌, if◌then◌else◌, codes}
 use Rattle.std.proofs.Math.Bool.{or-true, or-false}
 use Rattle.av_types.specs.Places.{is_section_of}
 use Rattle.av_nbt.specs.Place.{tag_of}
-use Rattle.av_document.specs.Chunk.{section_number, is_other, is_bad_at, with_number, are_bad_sections, is_bad_list}
+use Rattle.av_document.specs.Chunk.{section_number, is_other, is_bad_list}
+use Rattle.av_document.specs.Working.{is_bad_at, with_number, are_bad_sections}
+use Rattle.av_document.proofs.Judged.{judged}
 
 other_step : (o : Option (List NamedTag)) (r : Option (List (List NamedTag))) (b : Bool) → lacks r ≡ b → lacks (o >>= λ y. r >>= λ ys. Some (y ∷ ys)) ≡ lacks o || b
 other_step None r b e = refl
@@ -91,7 +93,7 @@ is_bad_list-each h ts = list_is h (each compound_of ts) ∙ bad_from h [] ts
   where
     list_is : (h : Height) (o : Option (List (List NamedTag))) → is_bad_list h o ≡ list_from h [] o
     list_is h None = refl
-    list_is h (Some rows) = refl
+    list_is h (Some rows) = judged h rows
 
 pub is_bad_list-at : (h : Height) (t : Option Nbt) (ts : List Nbt) → t >>= items_of_list ≡ Some ts → is_bad_list h (t >>= compounds_of) ≡ are_bad_items h [] ts
 is_bad_list-at h None ts e = cc

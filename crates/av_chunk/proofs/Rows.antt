@@ -11,7 +11,8 @@ use Rattle.av_nbt.specs.Shape.{◌>>=◌, compound_of, compounds_of, items_of_li
 use Rattle.std.proofs.Common.{ℤ, true≢false}
 use Rattle.std.proofs.Math.Bool.{or-true}
 use Rattle.std.specs.Ordering.{int_eq}
-use Rattle.av_document.specs.Chunk.{with_number, is_bad_list}
+use Rattle.av_document.specs.Chunk.{is_bad_list}
+use Rattle.av_document.specs.Working.{with_number}
 use Rattle.av_chunk.proofs.Numbers.{lacks-each, is_bad_list-each}
 use Rattle.av_nbt.specs.View.{view, views}
 use Rattle.av_document.specs.Ticks.{is_bad_tick, water_entry, with_water, foreign}

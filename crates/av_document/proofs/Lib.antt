@@ -1,6 +1,7 @@
 pub mod Tags
 pub mod Rows
 pub mod Numbers
+pub mod Judged
 pub mod Sections
 pub mod Positions
 pub mod WrittenTicks

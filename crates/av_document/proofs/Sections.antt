@@ -11,7 +11,8 @@ use Rattle.av_types.specs.Places.{is_section_of}
 use Rattle.av_nbt.specs.Nbt.{NamedTag}
 use Rattle.av_nbt.specs.Place.{tag_of}
 use Rattle.av_nbt.specs.Shape.{compound_of}
-use Rattle.av_document.specs.Chunk.{is_other, is_bad_at, with_number, are_bad_sections, section_faults}
+use Rattle.av_document.specs.Chunk.{is_other, section_faults}
+use Rattle.av_document.specs.Working.{is_bad_at, with_number, are_bad_sections}
 use Rattle.av_document.specs.Layout.{kept_section, all_of}
 use Rattle.av_document.proofs.Rows.{GivesNumbered}
 use Rattle.av_document.proofs.Numbers.{rises_from, lt_from}

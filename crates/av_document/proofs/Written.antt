@@ -24,6 +24,7 @@ use Rattle.av_document.specs.Ticks.{lies_in, is_bad_tick, int_at, with_water, fo
 use Rattle.av_document.specs.Chunk.{root_tags, has_level, status_of, is_full, sections_of, sections, ticks, section_number, is_in_height, numbered, tags_at, is_other, is_bad_list, is_bad_chunk, is_at, is_elsewhere, block_faults, section_faults, loaded_faults, faults, block_cell, block_states_of, cell_of, section_rest, Rest, outside_at, DenotesChunk}
 use Rattle.av_document.specs.Layout.{compounds, section_layout, section_numbers, block_at, section_at, all_of, ticks_layout, chunk_layout}
 use Rattle.av_document.specs.Law.{sooner, IsMeant, IsLawful, WrittenDenotes}
+use Rattle.av_document.proofs.Judged.{judged}
 use Rattle.av_document.proofs.Tags.{tag_of-place_same, tag_of-place_other, two_places}
 use Rattle.av_document.proofs.Rows.{compounds_of-compounds, numbered-all_of, numbered-number, GivesNumbered}
 use Rattle.av_document.proofs.Numbers.{byte_number, height_number, section_numbers-rise}
@@ -240,7 +241,7 @@ module _ (c : ChunkPos) (h : Height) (d : Document) (cells now : Pos → BlockSt
     status = ap (λ o. lacks (o >>= text_of)) (stays (codes "Status") refl refl) ∙ good.status;
     place_x = ap (λ o. lacks (o >>= int_of)) (stays (codes "xPos") refl refl) ∙ good.place_x;
     place_z = ap (λ o. lacks (o >>= int_of)) (stays (codes "zPos") refl refl) ∙ good.place_z;
-    section_list = ap (is_bad_list h) new_sections ∙ are_good_sections h row_at gives_numbered gives_shaped (negsuc 200) [] section_numbers tt section_numbers-rise;
+    section_list = ap (is_bad_list h) new_sections ∙ judged h rows ∙ are_good_sections h row_at gives_numbered gives_shaped (negsuc 200) [] section_numbers tt section_numbers-rise;
     tick_list = ap (is_other compounds_of) (ticks_there (compounds all_ticks) (compounds rows) old) ∙ ap lacks (compounds_of-compounds all_ticks);
     here =
         ap (λ o. not (is_at c (o >>= int_of) (int_at (codes "zPos") new))) (stays (codes "xPos") refl refl)

@@ -85,22 +85,27 @@ abbrev pub is_other : {A : Type 0} → (Nbt → Option A) → Option Nbt → Boo
 is_other shape None = false
 is_other shape (Some t) = lacks (shape t)
 
--- A section has a number that none before it has. One in the height has a Compound as its `block_states`, or none.
-abbrev pub is_bad_at : Height → List ℤ → List NamedTag → Option ℤ → Bool
-is_bad_at h before ms None = true
-is_bad_at h before ms (Some y) = list_any (int_eq y) before || (is_section_of h y && is_other compound_of (tag_of (codes "block_states") ms))
+-- A section has a number, and one in the height has a Compound as its `block_states`, or none.
+abbrev pub is_bad_numbered : Height → List NamedTag → Option ℤ → Bool
+is_bad_numbered h ms None = true
+is_bad_numbered h ms (Some y) = is_section_of h y && is_other compound_of (tag_of (codes "block_states") ms)
 
-abbrev pub with_number : List ℤ → Option ℤ → List ℤ
-with_number before None = before
-with_number before (Some y) = y ∷ before
+abbrev pub is_bad_section : Height → List NamedTag → Bool
+is_bad_section h ms = is_bad_numbered h ms (section_number ms)
 
-abbrev pub are_bad_sections : Height → List ℤ → List (List NamedTag) → Bool
-are_bad_sections h before [] = false
-are_bad_sections h before (ms ∷ rows) = is_bad_at h before ms (section_number ms) || are_bad_sections h (with_number before (section_number ms)) rows
+-- one of them has the number
+abbrev pub is_numbered_in : List (List NamedTag) → Option ℤ → Bool
+is_numbered_in rows None = false
+is_numbered_in rows (Some y) = is_some (numbered y rows)
+
+-- two of them have the same number
+abbrev pub share_a_number : List (List NamedTag) → Bool
+share_a_number [] = false
+share_a_number (ms ∷ rows) = is_numbered_in rows (section_number ms) || share_a_number rows
 
 abbrev pub is_bad_list : Height → Option (List (List NamedTag)) → Bool
 is_bad_list h None = true
-is_bad_list h (Some rows) = are_bad_sections h [] rows
+is_bad_list h (Some rows) = list_any (is_bad_section h) rows || share_a_number rows
 
 abbrev pub is_bad_chunk : Height → List NamedTag → Bool
 is_bad_chunk h root = lacks (int_at (codes "xPos") root) || lacks (int_at (codes "zPos") root) || is_bad_list h (sections_of root) || is_other compounds_of (tag_of (codes "fluid_ticks") root)

@@ -3,3 +3,4 @@ pub mod Chunk
 pub mod Layout
 pub mod Law
 pub mod Stored
+pub mod Working

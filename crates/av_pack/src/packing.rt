@@ -1,7 +1,7 @@
 //! The 4,096 block indices of a section, packed into longs
 //! (<https://minecraft.wiki/w/Chunk_format#Block_format>): entries stand in each long from the low
 //! bits up, and none spans two longs. An entry has 4 to 16 bits.
-ghost use Rattle.std.specs.Prelude.{◌≡◌, ◌≢◌, ◌<◌, ◌≤◌, ◌+◌, ◌*◌, ◌/◌, ◌%◌, ◌-◌, ◌^◌, ◌↔◌, ◌⊎◌, ◌++◌, Err, IfOk, IfErr, OnOk, length, All};
+ghost use Rattle.std.specs.Prelude.{◌≡◌, ◌≢◌, ◌<◌, ◌≤◌, ◌+◌, ◌*◌, ◌/◌, ◌%◌, ◌-◌, ◌^◌, ◌↔◌, ◌⊎◌, ◌++◌, ℕ, Err, IfOk, IfErr, OnOk, length, All};
 ghost use Rattle.std.specs.Int.{cast_signed, w64};
 ghost use Rattle.av_types.specs.declared.fault.Fault.TheVariants.{OutOfMemory, BadPacked};
 ghost use Rattle.av_pack.specs.Packing.{bits_for, longs_for, packed_at, low_first, packed, unpacked, IsPacked, SetsEntry};
@@ -21,6 +21,7 @@ pub fn bits_for(len: usize) -> u32
     ensures low { 4 ≤ result }
     ensures high { result ≤ 16 }
     ensures enough { len ≤ 2 ^ result }
+    ensures least { (bits : ℕ) → 4 ≤ bits → len ≤ 2 ^ bits → result ≤ bits }
 {
     let mut bits = 4;
     while len > 1 << bits {
