@@ -1,6 +1,6 @@
 #!/usr/bin/env bash
 # Runs the program with words that it takes and words that it refuses, and with files that are odd, and compares each
-# status and first line.
+# status and what is written to each of the two streams.
 #   scripts/check_words.sh [PROGRAM]    by default ./anvilwater
 set -eu
 top=$(cd "$(dirname "$0")/.." && pwd)
@@ -10,27 +10,42 @@ work=$(mktemp -d)
 trap 'rm -rf "$work"' EXIT
 cd "$top"
 
-# expect STATUS LINE WORDS..: of standard output and standard error together
+# expect STATUS LINE WORDS..: a state is one line of standard output, a fault one line of standard error; refused words
+# begin standard error with the line, and a call for help standard output. The other stream has nothing.
 expect() {
-  local status=$1 line=$2 answer answered=0
+  local status=$1 line=$2 answered=0 said=err silent=out right=true
   shift 2
-  answer=$("$program" "$@" 2>&1) || answered=$?
+  case "$status $*" in '0 '* | *--help) said=out silent=err ;; esac
+  "$program" "$@" > "$work/out" 2> "$work/err" || answered=$?
   asked=$((asked + 1))
-  if [ "$answered" != "$status" ] || [ "$(printf '%s\n' "$answer" | head -n 1)" != "$line" ]; then
+  [ "$answered" = "$status" ] && [ ! -s "$work/$silent" ] || right=false
+  if [ "$status" = 2 ]; then
+    [ "$(head -n 1 "$work/$said")" = "$line" ] || right=false
+  else
+    printf '%s\n' "$line" | cmp -s - "$work/$said" || right=false
+  fi
+  if ! $right; then
     wrong=$((wrong + 1))
-    echo "$*: status $answered, $answer"
+    echo "$*: expected $status, $line; status $answered, output '$(cat "$work/out")', errors '$(cat "$work/err")'"
   fi
 }
 
-# region FILE PAYLOAD: a region with one chunk, at index 0, of a short payload that is written for printf
-region() {
-  local size
-  size=$(printf "$2" | wc -c)
+# sector FILE BYTES: a region with one chunk, at index 0, whose sector begins with bytes that are written for printf
+sector() {
   printf '\0\0\2\1' > "$1"
   truncate -s 8192 "$1"
-  printf "\\0\\0\\0\\$(printf %o $((size + 1)))\\3$2" >> "$1"
+  printf "$2" >> "$1"
   truncate -s 12288 "$1"
 }
+
+# region FILE PAYLOAD: such a region, with the chunk's payload, that is written for printf
+region() {
+  local size
+  size=$(($(printf "$2" | wc -c) + 1))
+  sector "$1" "\\0\\0$(printf '\\%03o\\%03o' $((size / 256)) $((size % 256)))\\3$2"
+}
+
+not_a_region="the file's name is not r.X.Z.mca, with X and Z the region's coordinates"
 
 expect 0 minecraft:stone block samples/r.0.0.mca 4 67 15
 expect 0 minecraft:stone block -- samples/r.-1.-1.mca -13 62 -14
@@ -38,11 +53,103 @@ expect 0 unloaded block samples/r.0.0.mca 4 320 15
 expect 1 "fault 25: Device missing/r.0.0.mca" block missing/r.0.0.mca 0 0 0
 expect 1 "fault 25: Device missing.toml" block --table missing.toml missing/r.0.0.mca 0 0 0
 expect 1 "fault 19: BadTable" block --table README.md missing/r.0.0.mca 0 0 0
-expect 2 "the file's name is not r.X.Z.mca, with X and Z the region's coordinates" block README.md 0 0 0
+expect 2 "$not_a_region" block README.md 0 0 0
 expect 2 "error: the following required arguments were not provided:" block samples/r.0.0.mca 0 0
 expect 2 "error: unexpected argument '-1' found" block samples/r.0.0.mca 0 -1 0
 expect 2 "error: 'anvilwater' requires a subcommand but one was not provided"
 expect 2 "Reads Minecraft region files" --help
+
+# The file is read before its name is, and the name before the region.
+for name in r.60001.0 r.0.60001 r.-60001.0 r.2147483647.0 r.2147483648.0 r.-2147483649.0 r.00.0 r.-0.0; do
+  expect 1 "fault 25: Device $work/$name.mca" block "$work/$name.mca" 0 0 0
+  head -c 100 /dev/zero > "$work/$name.mca"
+done
+for name in r.60001.0 r.0.60001 r.-60001.0 r.2147483647.0; do
+  expect 1 "fault 02: RegionRange" block "$work/$name.mca" 0 0 0
+done
+for name in r.2147483648.0 r.-2147483649.0 r.00.0 r.-0.0; do
+  expect 2 "$not_a_region" block "$work/$name.mca" 0 0 0
+done
+: > "$work/r.60000.-60000.mca"
+expect 0 unloaded block "$work/r.60000.-60000.mca" 0 0 0
+mkdir "$work/r.1.1.mca"
+expect 1 "fault 25: Device $work/r.1.1.mca" block "$work/r.1.1.mca" 0 0 0
+
+# Writing that fails is no success.
+if [ -c /dev/full ]; then
+  answered=0
+  "$program" block samples/r.0.0.mca 4 67 15 > /dev/full 2> "$work/err" || answered=$?
+  asked=$((asked + 1))
+  if [ "$answered" != 1 ]; then
+    wrong=$((wrong + 1))
+    echo "output to /dev/full: status $answered"
+  fi
+fi
+
+# Regions without chunks, and one that ends in its header.
+one="$work/r.0.0.mca"
+for size in 0 8192; do
+  head -c "$size" /dev/zero > "$one"
+  expect 0 unloaded block "$one" 1 2 3
+done
+head -c 100 /dev/zero > "$one"
+expect 1 "fault 04: ShortHeader" block "$one" 1 2 3
+
+# Chunk (-1, -1), whose section 4 has stone at its last place of y 64 and air elsewhere.
+stone=crates/av_main/data/r.-1.-1.mca
+expect 0 minecraft:stone block -- "$stone" -1 64 -1
+expect 0 minecraft:air block -- "$stone" -2 64 -1
+expect 0 unloaded block -- "$stone" -1 320 -1
+
+# That file, cut. What is wanted of it ends with the chunk's 4 bytes of length and the bytes that those count.
+length=$((16#$(od -An -tx1 -j8192 -N4 "$stone" | tr -d ' ')))
+cut="$work/r.-1.-1.mca"
+while read -r size status line; do
+  head -c "$size" "$stone" > "$cut"
+  expect "$status" "$line" block -- "$cut" -1 64 -1
+done << END
+0 0 unloaded
+1 1 fault 04: ShortHeader
+8191 1 fault 04: ShortHeader
+8192 1 fault 06: TruncatedChunk
+$((8195 + length)) 1 fault 06: TruncatedChunk
+$((8196 + length)) 0 minecraft:stone
+12287 0 minecraft:stone
+END
+
+# The first bytes of a sector.
+while read -r bytes line; do
+  sector "$one" "$bytes"
+  expect 1 "$line" block "$one" 0 0 0
+done << 'END'
+\0\0\0\5\3\12\0\0\0 fault 12: BadChunk
+\0\0\0\5\2\12\0\0\0 fault 09: Compression 2
+\0\0\0\1\203 fault 08: ExternalChunk
+\0\0\0\0 fault 07: BadLength
+\0\0\20\0\3 fault 06: TruncatedChunk
+END
+
+# Payloads that spell no root: a negative length, elements of no kind, a name twice, a byte after the root, each proper
+# beginning of a root, and a chain of 512 Lists one in another. That root and a chain of 511 are read, but are no chunk.
+for payload in '\12\0\0\7\0\1a\377\377\377\377\0' '\12\0\0\11\0\1a\0\0\0\0\1\0' \
+  '\12\0\0\1\0\1a\0\1\0\1a\0\0' '\12\0\0\0\0'; do
+  region "$one" "$payload"
+  expect 1 "fault 10: BadNbt" block "$one" 0 0 0
+done
+root=(12 0 0 11 0 1 141 0 377 377 377 377 0)
+region "$one" ""
+expect 1 "fault 10: BadNbt" block "$one" 0 0 0
+for size in {1..12}; do
+  region "$one" "$(printf '\\%s' "${root[@]:0:size}")"
+  expect 1 "fault 10: BadNbt" block "$one" 0 0 0
+done
+region "$one" "$(printf '\\%s' "${root[@]}")"
+expect 1 "fault 12: BadChunk" block "$one" 0 0 0
+lists=$(printf '\\11\\0\\0\\0\\1%.0s' {1..510})
+region "$one" "\\12\\0\\0\\11\\0\\1a$lists\\0\\0\\0\\0\\0\\0"
+expect 1 "fault 12: BadChunk" block "$one" 0 0 0
+region "$one" "\\12\\0\\0\\11\\0\\1a\\11\\0\\0\\0\\1$lists\\0\\0\\0\\0\\0\\0"
+expect 1 "fault 10: BadNbt" block "$one" 0 0 0
 
 # The height is the table's.
 printf 'version = 3\nmin_section = 0\nsections = 16\n' > "$work/high.toml"
@@ -53,10 +160,10 @@ expect 0 unloaded block --table "$work/high.toml" samples/r.0.0.mca 4 256 15
 
 # No memory is asked for by a declared length that the bytes left can't fill: 2^31 - 1 longs, and as many Compounds.
 ulimit -v 400000
-region "$work/r.0.0.mca" '\12\0\0\14\0\1a\177\377\377\377\0'
-expect 1 "fault 10: BadNbt" block "$work/r.0.0.mca" 0 0 0
-region "$work/r.0.0.mca" '\12\0\0\11\0\1a\12\177\377\377\377\0'
-expect 1 "fault 10: BadNbt" block "$work/r.0.0.mca" 0 0 0
+region "$one" '\12\0\0\14\0\1a\177\377\377\377\0'
+expect 1 "fault 10: BadNbt" block "$one" 0 0 0
+region "$one" '\12\0\0\11\0\1a\12\177\377\377\377\0'
+expect 1 "fault 10: BadNbt" block "$one" 0 0 0
 
 echo "$asked calls, $wrong wrong"
 [ "$wrong" -eq 0 ]

@@ -70,7 +70,7 @@ found_in_file file r h p payload found w o q d = denoted w o payload d.document 
 
 pub refused_in_file : (file : List ℕ) (r : RegionPos) (h : Height) (p : Pos) (payload : List ℕ) (e : Fault) → (IsShort file → ⊥) → is_of_region r p ≡ true → Holds file (index_at p) payload
     → IsPayloadRefused payload h p e → IsBlockRefused file r h p e
-refused_in_file file r h p payload e w o q (no_memory m) = memory m
+refused_in_file file r h p payload e w o q (no_memory m) = memory w o m payload q
 refused_in_file file r h p payload e w o q (no_spelling b s) = spelling w o b payload q s
 refused_in_file file r h p payload e w o q (bad_document d s f) = document w o payload d q s f
 

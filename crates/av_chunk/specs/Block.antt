@@ -43,9 +43,9 @@ pub data IsFound (file : List ℕ) (r : RegionPos) (h : Height) (p : Pos) (found
       → fault_in h (root_tags d) p ≡ None → found ≡ block_in h (root_tags d) p → IsFound file r h p found
 
 -- Why nothing is answered: the file's header, the chunk's sectors, bytes that spell no document, or the first fault of its document.
--- Want of memory has no cause in the file.
+-- Want of memory is answered of a chunk that is there alone.
 pub data IsBlockRefused (file : List ℕ) (r : RegionPos) (h : Height) (p : Pos) (e : Fault) : Type 0 where
-  memory : e ≡ OutOfMemory → IsBlockRefused file r h p e
+  memory : ¬ IsShort file → is_of_region r p ≡ true → e ≡ OutOfMemory → (payload : List ℕ) → Holds file (index_at p) payload → IsBlockRefused file r h p e
   header : e ≡ ShortHeader → IsShort file → IsBlockRefused file r h p e
   sectors : ¬ IsShort file → is_of_region r p ≡ true → IsChunkFault file (index_at p) e → IsBlockRefused file r h p e
   spelling : ¬ IsShort file → is_of_region r p ≡ true → e ≡ BadNbt → (payload : List ℕ) → Holds file (index_at p) payload → SpellsNone payload → IsBlockRefused file r h p e

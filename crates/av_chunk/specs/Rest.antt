@@ -12,11 +12,12 @@ use Rattle.av_document.specs.Chunk.{SectionRest, Rest, section_rest}
 use Rattle.av_chunk.specs.declared.rest.SectionTags.{SectionTags}
 use Rattle.av_chunk.specs.declared.rest.OutsideSection.{OutsideSection}
 
--- where the section of a number stands among those of the height
+-- a number from 0 on as it is, and 0 for one below
 abbrev pub natural : ℤ → ℕ
 natural (pos n) = n
 natural (negsuc n) = 0
 
+-- where the section of a number stands among those of the height
 abbrev pub offset_of : Height → ℤ → ℕ
 offset_of h y = natural (y -ℤ h.min_section)
 
@@ -39,7 +40,7 @@ abbrev pub first_some : {A : Type 0} → Option A → Option A → Option A
 first_some None o = o
 first_some (Some x) o = Some x
 
--- the section out of the height with a number
+-- the last section out of the height with a number; no rest that was read has two of a number
 abbrev pub found_outside : ℤ → List OutsideSection → Option (List NamedTag)
 found_outside y [] = None
 found_outside y (o ∷ os) = first_some (found_outside y os) (if int_eq y o.y then Some (named_views o.tags.items) else None)

@@ -75,10 +75,11 @@ pub record IsSectionRefused (h : Height) (ms : List NamedTag) (old : List BlockS
 abbrev pub or_missing : ℤ → Option (List NamedTag) → List NamedTag
 or_missing y found = or_else (record { name = codes "Y"; tag = byte y } ∷ []) found
 
--- the last section of a number
+-- the section, if it has the number
 abbrev pub if_numbered : ℤ → List NamedTag → Option (List NamedTag)
 if_numbered y ms = if is_number y (section_number ms) then Some ms else None
 
+-- the last section of a number
 abbrev pub last_numbered : ℤ → List (List NamedTag) → Option (List NamedTag)
 last_numbered y [] = None
 last_numbered y (ms ∷ rows) = first_some (last_numbered y rows) (if_numbered y ms)

@@ -21,9 +21,6 @@ text_at n ms = tag_of n ms >>= text_of
 abbrev pub byte_at : List ℕ → List NamedTag → Option ℤ
 byte_at n ms = tag_of n ms >>= byte_of
 
-abbrev pub members_at : List ℕ → List NamedTag → Option (List NamedTag)
-members_at n ms = tag_of n ms >>= compound_of
-
 abbrev pub compound_in : Option Nbt → Option (List NamedTag)
 compound_in o = o >>= compound_of
 

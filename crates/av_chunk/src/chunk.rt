@@ -87,6 +87,7 @@ impl Chunk {
     ghost use Rattle.av_chunk.specs.Reading.{IsReading, IsRefusal};
 
     /// The chunk of a document at its place. New states are numbered after those of the table, in the order of the file.
+    /// The root has a spelling of at most 1,044,475 bytes, as one that was decoded from a region's payload has.
     ///
     /// Of the faults that hold, the first by its number is answered: `OldLayout` where there is a `Level`; `BadChunk`
     /// where a tag that every chunk has is missing or of another kind, or a section's number comes twice; `WrongPlace`

@@ -17,7 +17,9 @@ pub struct SectionTags {
 /// A section out of the height, as it was read.
 #[derive(Drop)]
 pub struct OutsideSection {
+    /// Its number, the Byte `Y`.
     pub y: i8,
+    /// All its tags in order.
     pub tags: Vec<Named>,
 }
 

@@ -3,7 +3,7 @@ ghost use Rattle.std.specs.Prelude.{◌≡◌, option_map};
 ghost use Rattle.std.specs.Option.{option_copied};
 ghost use Rattle.av_nbt.specs.View.{views, named_views};
 ghost use Rattle.av_document.specs.Ticks.{int_at};
-ghost use Rattle.av_chunk.specs.Working.{text_at, byte_at, members_at, items_at};
+ghost use Rattle.av_chunk.specs.Working.{text_at, byte_at, items_at};
 
 use av_nbt::{Named, Tag, find};
 
@@ -26,13 +26,6 @@ pub(crate) fn text_at<'a>(tags: &'a [Named], name: &[u8]) -> Option<&'a [u8]>
     ensures { option_copied result ≡ text_at name.now (named_views tags.now) }
 {
     find(tags, name)?.as_text()
-}
-
-/// The tags of the Compound of a name.
-pub(crate) fn members_at<'a>(tags: &'a [Named], name: &[u8]) -> Option<&'a [Named]>
-    ensures { option_map named_views (option_copied result) ≡ members_at name.now (named_views tags.now) }
-{
-    find(tags, name)?.as_members()
 }
 
 /// The tags of the List of a name.

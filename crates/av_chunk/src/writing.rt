@@ -20,6 +20,9 @@ impl Chunk {
     /// The document of a chunk, after so many ticks were run: all that its rest has, in the places where it stood, with
     /// the states of its blocks, its light, and its scheduled ticks, each due so many ticks sooner.
     /// It can be encoded, and reads as the same chunk. Refuses with OutOfMemory alone.
+    ///
+    /// No section of the chunk is out, each of its blocks' numbers is of the table, each entry lies in the chunk and is
+    /// due at a time that fits an Int after these ticks, and the light has as many sections as the height.
     pub fn write(
         &self,
         alloc: Global,

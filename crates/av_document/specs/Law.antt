@@ -31,7 +31,8 @@ pub record IsLawful (c : ChunkPos) (h : Height) (cells : Pos → BlockState) (wa
   pub within : AllByRecursion (λ e. lies_in c h e.pos ≡ true) water
   pub apart : are_apart water ≡ true
 
--- What is written for a rest that was read denotes the same cells, the entries sooner by the ticks that were run, and the same rest.
+-- What is written for a rest that was read from a well-formed document, with cells and entries that a loaded chunk can have, denotes
+-- the same cells, the entries sooner by the ticks that were run, and the same rest.
 abbrev pub WrittenDenotes : Type 0
 WrittenDenotes = (c : ChunkPos) (h : Height) (d : Document) (cells now : Pos → BlockState) (water then : List Entry) (sources : Pos → Bool) (rest : Rest) (light : ℤ → List ℕ) (n : ℕ)
     → IsWellFormed d → DenotesChunk c h d cells water rest → IsLawful c h now then → DenotesChunk c h (chunk_layout c h now then sources rest light n) now (map (sooner n) then) rest
@@ -59,7 +60,8 @@ pub record HasInts (n : ℕ) (e : Entry) : Type 0 where
   pub int_due : FitsSigned w32 (e.due -ℤ pos n)
   pub int_priority : FitsSigned w32 e.priority
 
--- What is written for a rest that was read from a document of at most 1,044,475 bytes has a spelling.
+-- What is written for a rest that was read from a document of at most 1,044,475 bytes has a spelling, with cells and entries that a
+-- loaded chunk can have, entries whose numbers fit an Int with the ticks run, and 2,048 bytes of light for each section of the height.
 abbrev pub WrittenIsWellFormed : Type 0
 WrittenIsWellFormed = (c : ChunkPos) (h : Height) (d : Document) (bytes : List ℕ) (cells now : Pos → BlockState) (water then : List Entry) (sources : Pos → Bool) (rest : Rest) (light : ℤ → List ℕ) (n : ℕ)
     → SpellsDocument d bytes → length bytes ≤ 1044475 → DenotesChunk c h d cells water rest → IsLawful c h now then
@@ -72,15 +74,16 @@ pub record SpellsChunk (c : ChunkPos) (h : Height) (bytes : List ℕ) (cells : P
   pub spelled : SpellsDocument read bytes
   pub denotes : DenotesChunk c h read cells water rest
 
--- From bytes to values and back: the bytes that are written for a rest that was read from bytes spell the same rest, with the
--- cells of now, and the entries of now sooner by the ticks that were run.
+-- From bytes to values and back: the bytes that are written for a rest that was read from at most 1,044,475 bytes spell the same
+-- rest, with the cells of now, and the entries of now sooner by the ticks that were run; under the conditions of the law above.
 abbrev pub WrittenComesBack : Type 0
 WrittenComesBack = (c : ChunkPos) (h : Height) (bytes : List ℕ) (cells now : Pos → BlockState) (water then : List Entry) (sources : Pos → Bool) (rest : Rest) (light : ℤ → List ℕ) (n : ℕ)
     → SpellsChunk c h bytes cells water rest → length bytes ≤ 1044475 → IsLawful c h now then
     → AllByRecursion (HasInts n) then → ((y : ℤ) → is_section_of h y ≡ true → length (light y) ≡ 2048)
     → SpellsChunk c h (written_document (chunk_layout c h now then sources rest light n)) now (map (sooner n) then) rest
 
--- Read and written with no ticks run, the bytes of a loaded chunk spell the same chunk, whatever the light.
+-- Read and written with no ticks run, the bytes of a loaded chunk, at most 1,044,475, spell the same chunk, whatever light of 2,048
+-- bytes a section.
 abbrev pub ReadThenWritten : Type 0
 ReadThenWritten = (c : ChunkPos) (h : Height) (bytes : List ℕ) (cells : Pos → BlockState) (water : List Entry) (sources : Pos → Bool) (rest : Rest) (light : ℤ → List ℕ)
     → SpellsChunk c h bytes cells water rest → length bytes ≤ 1044475 → ((y : ℤ) → is_section_of h y ≡ true → length (light y) ≡ 2048)

@@ -13,10 +13,11 @@ use Rattle.av_state.specs.BlockState.{BlockState}
 use Rattle.av_section.specs.BlockStates.{palette_tag, data_tag}
 use Rattle.av_document.specs.Chunk.{SectionRest, Rest}
 
--- a List of Compounds
+-- a Compound of these tags
 abbrev pub compound_with : List NamedTag → Nbt
 compound_with ms = compound (members_of ms)
 
+-- a List of Compounds
 abbrev pub compounds : List (List NamedTag) → Nbt
 compounds rows = list kind.Compound (items_of (map compound_with rows))
 
@@ -38,11 +39,12 @@ states_of cell = map cell (range_with_len 0 4096)
 abbrev pub section_layout : SectionRest → (ℕ → BlockState) → List ℕ → List NamedTag
 section_layout rest cell light = place (codes "BlockLight") (byte_array light) (place (codes "block_states") (states_layout rest.states (states_of cell)) rest.tags)
 
--- each number that a section can have, rising
+-- so many numbers below 0, rising to -1
 abbrev pub below_zero : ℕ → List ℤ
 below_zero zero = []
 below_zero (suc n) = negsuc n ∷ below_zero n
 
+-- each number that a section can have, rising
 abbrev pub section_numbers : List ℤ
 section_numbers = below_zero 128 ++ map pos (range_with_len 0 128)
 

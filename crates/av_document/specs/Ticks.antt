@@ -42,12 +42,12 @@ numbers_of ms = do
 abbrev pub water_entry : List NamedTag → Option Entry
 water_entry ms = if is_water_name (or_else [] (fluid_of ms)) then numbers_of ms else None
 
--- water out of its chunk
+-- a water entry out of its chunk or of the height
 abbrev pub is_outside : ChunkPos → Height → Option Entry → Bool
 is_outside c h None = false
 is_outside c h (Some e) = not (lies_in c h e.pos)
 
--- a tick without a fluid, or water out of its chunk
+-- a tick without a fluid, or a water entry out of its chunk or of the height
 abbrev pub is_bad_tick : ChunkPos → Height → List NamedTag → Bool
 is_bad_tick c h ms = lacks (fluid_of ms) || is_outside c h (water_entry ms)
 

@@ -13,8 +13,9 @@ use Rattle.av_main.specs.declared.block.refusal.Refusal.TheVariants as refusal
 use Rattle.av_main.specs.Names.{FitsRegion, IsFileNameOf, region_name_of}
 use Rattle.av_main.specs.Output.{answer_line}
 
--- the path ends in the name of this region
+-- the path ends in the name of this region, whose coordinates are numbers of 32 bits
 pub record IsPathOf (path : List ℕ) (region : RegionPos) : Type 0 where
+  pub fits : FitsRegion region
   pub name : List ℕ
   pub file_name : IsFileNameOf path name
   pub named : name ≡ region_name_of region

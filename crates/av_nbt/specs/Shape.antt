@@ -1,5 +1,5 @@
 -- What a tag holds, where it is of the kind that is wanted.
-use Rattle.std.specs.Prelude.{ℕ, ℤ, List, [], ◌∷◌, Option, Some, None, Bool, true, false, not}
+use Rattle.std.specs.Prelude.{ℕ, ℤ, List, [], ◌∷◌, Option, Some, None, Bool, true, false}
 use Rattle.av_nbt.specs.Nbt.{Nbt, byte, int, text, list, compound, long_array, Items, no_items, item, Members, no_members, member, NamedTag}
 
 abbrev pub members_in : Members → List NamedTag
@@ -59,8 +59,3 @@ lacks (Some x) = false
 abbrev pub or_else : {A : Type 0} → A → Option A → A
 or_else d None = d
 or_else d (Some x) = x
-
--- where the tag is there, it has the shape
-abbrev pub if_there : {A : Type 0} → (Nbt → Option A) → Option Nbt → Bool
-if_there f None = true
-if_there f (Some t) = not (lacks (f t))

@@ -46,14 +46,18 @@ pub enum Tag {
 #[cycle(tags)]
 #[derive(Debug, PartialEq, Eq, Drop)]
 pub struct Named {
+    /// The name's bytes.
     pub name: Vec<u8>,
+    /// The tag.
     pub tag: Tag,
 }
 
 /// A whole document: a Compound under a name.
 #[derive(Debug, PartialEq, Eq, Drop)]
 pub struct Root {
+    /// The Compound's name.
     pub name: Vec<u8>,
+    /// The tags in it, in order.
     pub tags: Vec<Named>,
 }
 

@@ -8,7 +8,8 @@ abbrev pub least_bits : ℕ → ℕ → ℕ → ℕ
 least_bits zero b count = b
 least_bits (suc tries) b count = if nat_le count (2 ^ b) then b else least_bits tries (suc b) count
 
--- the bits of an entry, for a palette of that length: the least that will do, and at least 4
+-- the bits of an entry, for a palette of that length: the least that will do, and at least 4; the clauses of the call `bits_for` prove
+-- that it is the least number b from 4 on with count <= 2^b
 unfoldable pub bits_for : ℕ → ℕ
 bits_for count = least_bits 12 4 count
 

@@ -14,6 +14,7 @@ use byteorder::{BigEndian, ByteOrder};
 /// `ChunkPos::index` gives it.
 #[derive(Clone, Copy)]
 pub struct Region<'a> {
+    /// The bytes of the whole file.
     pub bytes: &'a [u8],
     pub ghost header: { 1 ≤ length bytes.now → 8192 ≤ length bytes.now },
 }

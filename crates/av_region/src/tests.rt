@@ -146,6 +146,10 @@ fn chunks_without_gaps_and_every_timestamp(rt: HostRuntime) -> Result<(), Fail> 
 #[test]
 fn a_chunk_of_256_sectors(rt: HostRuntime) -> Result<(), Fail> {
     let payload = vec![in rt.alloc(); 0u8; 1_044_476]?;
+    assert_eq!(rt;
+        written_alone(rt.alloc(), &payload).err(),
+        Some(Fault::ChunkTooLarge(ChunkPos { x: -32, z: 64 }))
+    );
     let mut payloads: [Option<&[u8]>; 1024] = [None; 1024];
     payloads[33] = Some(payload.as_slice());
     payloads[1000] = Some(payload.as_slice());

@@ -63,7 +63,7 @@ fn repacked(alloc: Global, longs: &[i64], bits: u32, wider: u32) -> Result<Vec<i
 }
 
 impl Section {
-    ghost use Rattle.std.specs.Prelude.{All, Some, true, false, map, option_map, ◌==◌, OnOk};
+    ghost use Rattle.std.specs.Prelude.{All, IsOk, Some, true, false, map, option_map, ◌==◌, OnOk};
     ghost use Rattle.std.specs.Option.{option_copied};
     ghost use Rattle.av_nbt.specs.View.{view};
     ghost use Rattle.av_state.specs.Table.{states};
@@ -252,6 +252,9 @@ impl Section {
         ensures same { KeepsPlaces self.old self.new }
         ensures ok { OnOk result (All (CanSet self.new) numbers.now) }
         ensures err { IfErr result (λ e. e ≡ OutOfMemory) }
+
+        // Numbers that can be set already take no memory.
+        ensures succeeds { All (CanSet self.old) numbers.now → IsOk result }
     {
         for number in numbers {
             self.prepare_one(*number)?;
@@ -264,6 +267,7 @@ impl Section {
         ensures same { KeepsPlaces self.old self.new }
         ensures ok { OnOk result (CanSet self.new number) }
         ensures err { IfErr result (λ e. e ≡ OutOfMemory) }
+        ensures succeeds { CanSet self.old number → IsOk result }
     {
         if has_number(self.palette.as_slice(), number) {
             return Ok(());
@@ -309,7 +313,8 @@ impl Section {
     }
 
     /// The palette tag, and the data tag where the palette has more than one entry. The palette has the states of the
-    /// section's places, each once, in the order of their first place. Refuses with OutOfMemory alone.
+    /// section's places, each once, in the order of their first place. The numbers of the places are the table's.
+    /// Refuses with OutOfMemory alone.
     pub fn write(&self, alloc: Global, table: &StateTable) -> Result<(Tag, Option<Tag>), Fault>
         requires { HasNumbersBelow self.now (length (states table.now)) }
         ensures palette { IfOk result (λ tags. view tags.0 ≡ palette_tag (section_states (states table.now) self.now)) }

@@ -1,3 +1,4 @@
+//! Sections by hand, read, set and written.
 use crate::Section;
 use av_nbt::{Kind, Named, Tag};
 use av_state::StateTable;
@@ -121,7 +122,8 @@ fn one_state_has_no_longs(rt: HostRuntime) -> Result<(), Fail> {
     Ok(())
 }
 
-/// 17 states, the index of place i being i mod 17: the states are numbered from 10 on.
+/// 17 states, numbered from 10 on, and twelve indices of 5 bits in a long. All longs are 0 except long 1, which is 12,
+/// and the last: place 12 has index 12, places 4092 to 4095 have 12, 13, 14 and 15, and all others have 0.
 #[test]
 fn places_have_the_numbers_of_their_states(rt: HostRuntime) -> Result<(), Fail> {
     let alloc = rt.alloc();

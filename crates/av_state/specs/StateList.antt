@@ -47,6 +47,12 @@ pub record Numbers (old : List BlockState) (s : BlockState) (new : List BlockSta
   pub has_number : number_in new form ≡ Some n
   pub is_there : slice_get new n ≡ Some form
 
+-- the state is new
+pub record IsNew (states : List BlockState) (s : BlockState) : Type 0 where
+  pub form : BlockState
+  pub is_meant : meant s ≡ Some form
+  pub is_new : number_in states form ≡ None
+
 -- the state is new, and the list has as many as it may have
 pub record IsOneTooMany (states : List BlockState) (s : BlockState) : Type 0 where
   pub form : BlockState

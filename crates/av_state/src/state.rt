@@ -15,7 +15,9 @@ use std::hash::{Hash, Hasher};
 /// One property of a state, as `lit` = `true`.
 #[derive(Debug, Drop, PartialEq, Eq)]
 pub struct Property {
+    /// The property's name.
     pub key: Vec<u8>,
+    /// Its value, as text.
     pub value: Vec<u8>,
 }
 
@@ -47,7 +49,9 @@ impl Clone for Property {
 /// 65,535 bytes, as those of a file are.
 #[derive(Debug, Drop, PartialEq, Eq)]
 pub struct State {
+    /// The block's name, as `minecraft:stone`.
     pub name: Vec<u8>,
+    /// The properties, by rising keys.
     pub properties: Vec<Property>,
     pub ghost storable: { IsTrue (is_short name.items && list_all is_short_property (properties_of properties.items) && keys_rise (properties_of properties.items)) },
 }

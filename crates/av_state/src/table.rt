@@ -26,7 +26,7 @@ impl StateTable {
     ghost use Rattle.std.specs.Prelude.{◌<◌, ◌↔◌, ◌≢◌, length, IfOk, IfErr, IfSome, OnErr, slice_get, option_and_then, Some, None, false};
     ghost use Rattle.av_types.specs.declared.fault.Fault.TheVariants.{OutOfMemory, BadWaterLevel, TooManyStates};
     ghost use Rattle.av_state.specs.BlockState.{meant, wet_of};
-    ghost use Rattle.av_state.specs.StateList.{first_states, most_states, number_in, Numbers, IsOneTooMany};
+    ghost use Rattle.av_state.specs.StateList.{first_states, most_states, number_in, Numbers, IsNew, IsOneTooMany};
     ghost use Rattle.av_state.specs.Table.{states};
 
     /// The table of the ten first states: air, and water of the levels 0 to 8. Refuses with `OutOfMemory` alone.
@@ -105,6 +105,7 @@ impl StateTable {
         ensures no_level { (result ≡ Err BadWaterLevel) ↔ (meant (state_of state.now) ≡ None) }
         ensures too_many { (result ≡ Err TooManyStates) ↔ IsOneTooMany (states self.old) (state_of state.now) }
         ensures memory { IfErr result (λ e. e ≢ BadWaterLevel → e ≢ TooManyStates → e ≡ OutOfMemory) }
+        ensures of_new { IfErr result (λ e. e ≡ OutOfMemory → IsNew (states self.old) (state_of state.now)) }
         ensures unchanged { OnErr result (states self.new ≡ states self.old) }
     {
         match state.form() {

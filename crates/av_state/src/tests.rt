@@ -116,6 +116,19 @@ fn sorts_properties_and_prints(rt: HostRuntime) -> Result<(), Fail> {
     Ok(())
 }
 
+/// Whether two tables have the same states under the numbers 0 to 9.
+fn have_the_same_first_ten(table: &StateTable, other: &StateTable) -> bool {
+    for number in 0u16..10 {
+        if usize::from(number) >= table.len() || usize::from(number) >= other.len() {
+            return false;
+        }
+        if table.state(number) != other.state(number) {
+            return false;
+        }
+    }
+    true
+}
+
 #[test]
 fn takes_65535_states(rt: HostRuntime) -> Result<(), Fail> {
     let alloc = rt.alloc();
@@ -137,6 +150,7 @@ fn takes_65535_states(rt: HostRuntime) -> Result<(), Fail> {
         assert_eq!(rt; block.name.as_slice(), name.as_bytes());
         assert_eq!(rt; table.number_of(block), Some(number));
     }
+    assert!(rt; have_the_same_first_ten(&table, &StateTable::new(alloc)?));
     Ok(())
 }
 

@@ -113,7 +113,8 @@ impl TickList {
         ensures err { IfErr result (λ e. e ≡ OutOfMemory) }
         ensures unchanged { OnErr result (entries self.new ≡ entries self.old) }
 
-        // With room it succeeds, and it uses up at most one place.
+        // Where the position is pending it succeeds, and with room; and it uses up at most one place.
+        ensures pending { is_pending entry.pos (entries self.old) ≡ true → IsOk result }
         ensures succeeds { 0 < room self.old → IsOk result }
         ensures room { room self.old ≤ room self.new + 1 }
     {

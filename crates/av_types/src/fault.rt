@@ -30,7 +30,7 @@ pub enum Fault {
     BadNbt,
     /// 11: a layout from before 1.18.
     OldLayout,
-    /// 12: a tag that every chunk has is missing or of another kind.
+    /// 12: a tag that every chunk has is missing or of another kind, as a section's `Y` too, or a `Y` comes twice.
     BadChunk,
     /// 13: a chunk stands at another chunk's place.
     WrongPlace,
@@ -38,7 +38,7 @@ pub enum Fault {
     BadPalette,
     /// 15: a section's packed indices do not fit its palette.
     BadPacked,
-    /// 16: a fluid tick without a fluid, or water outside its chunk.
+    /// 16: a fluid tick without a fluid, or a water entry out of its chunk or of the height.
     BadTick,
     /// 17: water with a level that is not 0 to 15.
     BadWaterLevel,

@@ -4,8 +4,9 @@ use crate::place::Pos;
 /// A scheduled tick of water: a block that is to be turned.
 #[derive(Clone, Copy, Debug, Default, PartialEq, Eq)]
 pub struct Entry {
+    /// The block.
     pub pos: Pos,
-    /// The tick in which it is due, counted from the moment at which the world was saved; 0 and below is overdue.
+    /// The tick in which it is due, counted from the moment at which the world was saved; below 0 is overdue.
     pub due: i64,
     /// Among entries that are due at the same time, a lower priority goes first.
     pub priority: i32,
@@ -18,5 +19,6 @@ pub struct Made {
     pub maker: u64,
     /// Which of the entries that this turn made it is, counted from 0.
     pub number: u8,
+    /// The entry itself.
     pub entry: Entry,
 }
