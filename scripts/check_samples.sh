@@ -1,7 +1,7 @@
 #!/usr/bin/env bash
 # Asks the program for each block of samples/blocks.txt, without a block table and with the shipped one, whose height is
 # the game's too, and compares its lines with the expected ones. The shipped table has to be the one that the tests of
-# av_rules read.
+# av_rules_tests read.
 #   scripts/check_samples.sh [PROGRAM]    by default ./anvilwater
 set -eu
 top=$(cd "$(dirname "$0")/.." && pwd)
@@ -18,9 +18,9 @@ while read -r file x y z state; do
     fi
   done
 done < "$top/samples/blocks.txt"
-if ! sed -n '/^    r#"/,/^"#;/p' "$top/crates/av_rules/src/tests.rt" | sed -e '1s/^    r#"//' -e '$d' | cmp -s - "$top/tables/blocks.toml"; then
+if ! sed -n '/^    r#"/,/^"#;/p' "$top/crates/av_rules_tests/src/tests.rt" | sed -e '1s/^    r#"//' -e '$d' | cmp -s - "$top/tables/blocks.toml"; then
   wrong=$((wrong + 1))
-  echo "tables/blocks.toml is not the table of crates/av_rules/src/tests.rt"
+  echo "tables/blocks.toml is not the table of crates/av_rules_tests/src/tests.rt"
 fi
 echo "$asked blocks asked, $wrong wrong"
 [ "$wrong" -eq 0 ]

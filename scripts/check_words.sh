@@ -52,6 +52,8 @@ expect 0 minecraft:stone block -- samples/r.-1.-1.mca -13 62 -14
 expect 0 unloaded block samples/r.0.0.mca 4 320 15
 expect 1 "fault 25: Device missing/r.0.0.mca" block missing/r.0.0.mca 0 0 0
 expect 1 "fault 25: Device missing.toml" block --table missing.toml missing/r.0.0.mca 0 0 0
+expect 1 "fault 25: Device missing/r.0.0.mca" block --table tables/blocks.toml missing/r.0.0.mca 0 0 0
+expect 1 "fault 25: Device missing/README" block missing/README 0 0 0
 expect 1 "fault 19: BadTable" block --table README.md missing/r.0.0.mca 0 0 0
 expect 2 "$not_a_region" block README.md 0 0 0
 expect 2 "error: the following required arguments were not provided:" block samples/r.0.0.mca 0 0
@@ -100,6 +102,8 @@ stone=crates/av_main/data/r.-1.-1.mca
 expect 0 minecraft:stone block -- "$stone" -1 64 -1
 expect 0 minecraft:air block -- "$stone" -2 64 -1
 expect 0 unloaded block -- "$stone" -1 320 -1
+expect 0 unloaded block -- "$stone" -33 64 -1
+expect 0 unloaded block -- "$stone" 1 64 -1
 
 # That file, cut. What is wanted of it ends with the chunk's 4 bytes of length and the bytes that those count.
 length=$((16#$(od -An -tx1 -j8192 -N4 "$stone" | tr -d ' ')))
@@ -117,10 +121,10 @@ $((8196 + length)) 0 minecraft:stone
 12287 0 minecraft:stone
 END
 
-# The first bytes of a sector.
+# The first bytes of a sector. A fault is answered whatever the y is.
 while read -r bytes line; do
   sector "$one" "$bytes"
-  expect 1 "$line" block "$one" 0 0 0
+  expect 1 "$line" block "$one" 0 900 0
 done << 'END'
 \0\0\0\5\3\12\0\0\0 fault 12: BadChunk
 \0\0\0\5\2\12\0\0\0 fault 09: Compression 2

@@ -3,25 +3,29 @@ use crate::fault::Fault;
 use crate::nbt::{Named, Root, Tag, find};
 use crate::section::Section;
 use crate::state::{StateTable, int_of, text_of};
+use crate::world::Pending;
 use std::collections::HashSet;
 use std::mem;
 
 const LOWEST_SECTION: i8 = -4;
-const SECTIONS: usize = 24;
-const LIGHT_BYTES: usize = 2048;
+pub const SECTIONS: usize = 24;
+pub const LIGHT_BYTES: usize = 2048;
 
+#[derive(Clone, Copy)]
 pub struct Entry {
-    x: i32,
-    y: i32,
-    z: i32,
-    due: i64,
-    priority: i32,
+    pub x: i32,
+    pub y: i32,
+    pub z: i32,
+    pub due: i64,
+    pub priority: i32,
 }
 
 pub struct Chunk {
     /// Of the whole height, lowest first.
-    sections: Vec<Section>,
+    pub sections: Vec<Section>,
     ticks: Vec<Entry>,
+    pending: Pending,
+    soonest: i64,
 }
 
 /// What a chunk keeps as read. The tags that are written anew stand in it as empty lists.
@@ -72,7 +76,7 @@ fn compounds(list: Option<Tag>) -> Result<Vec<Vec<Named>>, Fault> {
     }
 }
 
-fn place_in_height(y: i8) -> Option<usize> {
+pub fn place_in_height(y: i8) -> Option<usize> {
     let place = usize::try_from(i32::from(y) - i32::from(LOWEST_SECTION)).ok()?;
     (place < SECTIONS).then_some(place)
 }
@@ -111,8 +115,19 @@ impl Chunk {
             kept.push((y, tags));
         }
         add_missing(&mut kept);
+        let mut pending = Pending::new(SECTIONS);
+        for entry in &ticks {
+            pending.insert(entry.x, entry.y, entry.z);
+        }
+        let soonest = soonest_of(&ticks);
+        let chunk = Chunk {
+            sections,
+            ticks,
+            pending,
+            soonest,
+        };
         Ok(Some((
-            Chunk { sections, ticks },
+            chunk,
             Rest {
                 name,
                 tags,
@@ -130,16 +145,61 @@ impl Chunk {
         Some(self.sections[place].get(cell as usize))
     }
 
-    /// The chunk's tags, with no light and no tick run.
-    pub fn write(&self, rest: &Rest, table: &StateTable) -> Root {
+    pub fn set(&mut self, x: i32, y: i32, z: i32, number: u16) {
+        if let Some(place) = i8::try_from(y.div_euclid(16))
+            .ok()
+            .and_then(place_in_height)
+        {
+            let cell = 256 * y.rem_euclid(16) + 16 * z.rem_euclid(16) + x.rem_euclid(16);
+            self.sections[place].set(cell as usize, number);
+        }
+    }
+
+    /// Appends an entry, unless one of its block waits.
+    pub fn add(&mut self, entry: Entry) {
+        if self.pending.insert(entry.x, entry.y, entry.z) {
+            self.soonest = self.soonest.min(entry.due);
+            self.ticks.push(entry);
+        }
+    }
+
+    /// Moves the entries that are due out of the list.
+    pub fn take_due(&mut self, now: u32, due: &mut Vec<Entry>) {
+        let now = i64::from(now);
+        if self.soonest > now {
+            return;
+        }
+        let pending = &mut self.pending;
+        self.ticks.retain(|entry| {
+            if entry.due <= now {
+                pending.remove(entry.x, entry.y, entry.z);
+                due.push(*entry);
+            }
+            entry.due > now
+        });
+        self.soonest = soonest_of(&self.ticks);
+    }
+
+    /// The chunk's tags, after so many ticks. Its light is that given, or dark.
+    pub fn write(
+        &self,
+        rest: &Rest,
+        is_source: &impl Fn(u16) -> bool,
+        table: &StateTable,
+        light: Option<&[u8]>,
+        elapsed: u32,
+    ) -> Root {
         let mut tags = rest.tags.clone();
         let sections = rest
             .sections
             .iter()
-            .map(|(y, tags)| self.write_section(*y, tags, rest, table))
+            .map(|(y, tags)| self.write_section(*y, tags, rest, table, light))
             .collect();
         put(&mut tags, b"sections", Tag::List(10, sections));
-        let own = self.ticks.iter().map(|entry| self.write_tick(entry, table));
+        let own = self
+            .ticks
+            .iter()
+            .map(|entry| self.write_tick(entry, is_source, elapsed));
         let ticks = rest.foreign.iter().cloned().chain(own).collect();
         put(&mut tags, b"fluid_ticks", Tag::List(10, ticks));
         Root {
@@ -148,7 +208,14 @@ impl Chunk {
         }
     }
 
-    fn write_section(&self, y: i8, tags: &[Named], rest: &Rest, table: &StateTable) -> Tag {
+    fn write_section(
+        &self,
+        y: i8,
+        tags: &[Named],
+        rest: &Rest,
+        table: &StateTable,
+        light: Option<&[u8]>,
+    ) -> Tag {
         let mut tags = tags.to_vec();
         if let Some(place) = place_in_height(y) {
             let (palette, longs) = self.sections[place].write(table);
@@ -165,16 +232,19 @@ impl Chunk {
             put(
                 &mut tags,
                 b"BlockLight",
-                Tag::ByteArray(vec![0; LIGHT_BYTES]),
+                Tag::ByteArray(light.map_or_else(
+                    || vec![0; LIGHT_BYTES],
+                    |light| light[LIGHT_BYTES * place..][..LIGHT_BYTES].to_vec(),
+                )),
             );
         }
         Tag::Compound(tags)
     }
 
-    fn write_tick(&self, entry: &Entry, table: &StateTable) -> Tag {
+    fn write_tick(&self, entry: &Entry, is_source: &impl Fn(u16) -> bool, elapsed: u32) -> Tag {
         let source = self
             .number(entry.x, entry.y, entry.z)
-            .is_some_and(|number| table.state(number).is_source());
+            .is_some_and(is_source);
         let fluid: &[u8] = if source {
             b"minecraft:water"
         } else {
@@ -192,10 +262,18 @@ impl Chunk {
             int(b"x", entry.x),
             int(b"y", entry.y),
             int(b"z", entry.z),
-            int(b"t", entry.due as i32),
+            int(b"t", (entry.due - i64::from(elapsed)) as i32),
             int(b"p", entry.priority),
         ])
     }
+}
+
+fn soonest_of(ticks: &[Entry]) -> i64 {
+    ticks
+        .iter()
+        .map(|entry| entry.due)
+        .min()
+        .unwrap_or(i64::MAX)
 }
 
 /// The sections' numbers, each there once; in the height `block_states` is a Compound.

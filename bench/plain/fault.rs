@@ -18,6 +18,7 @@ pub enum Fault {
     BadTick,
     BadWaterLevel,
     TooManyStates,
+    BadEdit,
 }
 
 impl fmt::Display for Fault {
@@ -38,6 +39,7 @@ impl fmt::Display for Fault {
             Fault::BadTick => 16,
             Fault::BadWaterLevel => 17,
             Fault::TooManyStates => 18,
+            Fault::BadEdit => 20,
         };
         write!(f, "fault {number:02}: {self:?}")
     }

@@ -1,11 +1,15 @@
 //! A plain counterpart of Anvilwater's hot paths, to measure it by. Ordinary Rust over std alone.
 mod chunk;
 mod fault;
+mod folder;
+mod light;
 mod nbt;
 mod region;
+mod rules;
 mod section;
 mod state;
 mod water;
+mod world;
 
 use chunk::Chunk;
 use region::{CHUNKS, Region};
@@ -14,7 +18,7 @@ use std::error::Error;
 use std::fs;
 
 /// The region's coordinates, of a path that ends in `r.X.Z.mca`.
-fn region_of(path: &str) -> Option<(i32, i32)> {
+pub fn region_of(path: &str) -> Option<(i32, i32)> {
     let name = path.rsplit('/').next()?;
     let (x, z) = name
         .strip_prefix("r.")?
@@ -23,7 +27,7 @@ fn region_of(path: &str) -> Option<(i32, i32)> {
     Some((x.parse().ok()?, z.parse().ok()?))
 }
 
-fn chunk_at(region: (i32, i32), index: usize) -> (i32, i32) {
+pub fn chunk_at(region: (i32, i32), index: usize) -> (i32, i32) {
     (
         32 * region.0 + (index % CHUNKS % 32) as i32,
         32 * region.1 + (index / 32) as i32,
@@ -111,7 +115,12 @@ fn rewrite(input: &str, output: &str) -> Result<String, Box<dyn Error>> {
     let write = |slot: Slot| match slot {
         Slot::Absent => None,
         Slot::Kept(payload) => Some(payload),
-        Slot::Full(read) => Some(nbt::encode(&read.0.write(&read.1, &table))),
+        Slot::Full(read) => {
+            let is_source = |number| table.state(number).is_source();
+            Some(nbt::encode(
+                &read.0.write(&read.1, &is_source, &table, None, 0),
+            ))
+        }
     };
     let payloads: Vec<Option<Vec<u8>>> = slots.into_iter().map(write).collect();
     let written = region::write(&payloads, &stamps);
@@ -129,8 +138,11 @@ fn run(words: &[&str]) -> Result<String, Box<dyn Error>> {
             let (turns, amounts) = water::run(worlds.parse()?);
             Ok(format!("turns {turns} amounts {amounts}"))
         }
+        ["run", input, output, table, edits, ticks] => {
+            folder::run(input, output, table, edits, ticks.parse()?)
+        }
         _ => Err(
-            "plain block FILE X Y Z | decode FILE ROUNDS | recode IN OUT | rewrite IN OUT | turn WORLDS"
+            "plain block FILE X Y Z | decode FILE ROUNDS | recode IN OUT | rewrite IN OUT | turn WORLDS | run IN OUT TABLE EDITS TICKS"
                 .into(),
         ),
     }

@@ -97,6 +97,46 @@ impl Section {
         self.palette[index as usize]
     }
 
+    /// The numbers that places can have.
+    pub fn palette(&self) -> &[u16] {
+        &self.palette
+    }
+
+    /// Calls for each place with its number.
+    pub fn for_each(&self, mut visit: impl FnMut(usize, u16)) {
+        if self.longs.is_empty() {
+            (0..CELLS).for_each(|place| visit(place, self.palette[0]));
+        } else {
+            for (place, index) in self.indices().into_iter().enumerate() {
+                visit(place, self.palette[usize::from(index)]);
+            }
+        }
+    }
+
+    pub fn set(&mut self, place: usize, number: u16) {
+        let known = self.palette.iter().position(|other| *other == number);
+        let index = known.unwrap_or_else(|| {
+            self.palette.push(number);
+            self.palette.len() - 1
+        });
+        let bits = bits_for(self.palette.len());
+        if self.longs.is_empty() {
+            if self.palette.len() == 1 {
+                return;
+            }
+            self.longs = vec![0; longs_for(bits)];
+            self.bits = bits;
+        } else if bits != self.bits {
+            self.longs = pack(&self.indices(), bits);
+            self.bits = bits;
+        }
+        let per_long = (64 / self.bits) as usize;
+        let shift = self.bits * (place % per_long) as u32;
+        let mask = ((1u64 << self.bits) - 1) << shift;
+        let long = &mut self.longs[place / per_long];
+        *long = (*long as u64 & !mask | (index as u64) << shift) as i64;
+    }
+
     /// The palette in the order of first places, and the packed indices if it has more than one entry.
     pub fn write(&self, table: &StateTable) -> (Vec<Tag>, Option<Vec<i64>>) {
         if self.longs.is_empty() {

@@ -25,16 +25,38 @@ impl State {
             }
         }
         let name = name.ok_or(Fault::BadPalette)?;
-        match name.as_slice() {
-            b"minecraft:air" => properties.clear(),
+        State { name, properties }.kept()
+    }
+
+    fn kept(mut self) -> Result<State, Fault> {
+        match self.name.as_slice() {
+            b"minecraft:air" => self.properties.clear(),
             b"minecraft:water" => {
-                let level = properties.iter().find(|(key, _)| key == b"level");
+                let level = self.properties.iter().find(|(key, _)| key == b"level");
                 let level = level.map_or(Ok(0), |(_, value)| level_of(value))?;
-                properties = vec![(b"level".to_vec(), level.to_string().into_bytes())];
+                self.properties = vec![(b"level".to_vec(), level.to_string().into_bytes())];
             }
-            _ => properties.sort(),
+            _ => self.properties.sort(),
         }
-        Ok(State { name, properties })
+        Ok(self)
+    }
+
+    /// The state that an edit names, as `NAME` or `NAME[k=v,..]`.
+    pub fn parse(text: &str) -> Result<State, Fault> {
+        let (name, pairs) = match text.strip_suffix(']').and_then(|text| text.split_once('[')) {
+            Some((name, pairs)) => (name, pairs.split(',').collect()),
+            None => (text, Vec::new()),
+        };
+        let pair = |pair: &str| {
+            let (key, value) = pair.split_once('=').ok_or(Fault::BadEdit)?;
+            Ok((key.into(), value.into()))
+        };
+        let properties = pairs.into_iter().map(pair).collect::<Result<_, _>>()?;
+        State {
+            name: name.into(),
+            properties,
+        }
+        .kept()
     }
 
     pub fn is_source(&self) -> bool {
@@ -123,6 +145,11 @@ impl StateTable {
         self.states.push(state.clone());
         self.numbers.insert(state, number);
         Ok(number)
+    }
+
+    /// In the order of their numbers.
+    pub fn states(&self) -> &[State] {
+        &self.states
     }
 
     pub fn state(&self, number: u16) -> &State {

@@ -1,3 +1,4 @@
 pub mod Loaded
 pub mod Wakes
 pub mod Sections
+pub mod GridBlocks

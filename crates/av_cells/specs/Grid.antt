@@ -56,6 +56,14 @@ abbrev pub waited_in : Option Filling → ℕ → Option Filling
 waited_in None i = None
 waited_in (Some f) i = Some (waited f i)
 
+-- one block of a section pending no longer
+abbrev pub cleared : Filling → ℕ → Filling
+cleared f i = record { number = f.number; pending = λ j. if nat_eq j i then false else f.pending j }
+
+abbrev pub cleared_in : Option Filling → ℕ → Option Filling
+cleared_in None i = None
+cleared_in (Some f) i = Some (cleared f i)
+
 -- the sections that a test picks, the others, and some sections put over others
 abbrev pub only : (SectionPos → Bool) → Grid → Grid
 only b g s = if b s then g s else None

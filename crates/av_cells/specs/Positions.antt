@@ -1,9 +1,7 @@
 -- Neighbours of a block, and the blocks that a turn can see.
-use Rattle.std.specs.Prelude.{pos, negsuc, ◌+ℤ◌, ◌-ℤ◌, ◌≤ℤ◌, Bool, ◌&&◌, List, [], ◌∷◌}
-use Rattle.std.specs.Ordering.{int_eq}
+use Rattle.std.specs.Prelude.{pos, negsuc, ◌+ℤ◌, ◌-ℤ◌, ◌≤ℤ◌, List, [], ◌∷◌}
+pub use Rattle.av_types.specs.Places.{same_pos, same_chunk, same_section}
 use Rattle.av_types.specs.declared.place.Pos.{Pos}
-use Rattle.av_types.specs.declared.place.ChunkPos.{ChunkPos}
-use Rattle.av_types.specs.declared.place.SectionPos.{SectionPos}
 use Rattle.av_types.specs.declared.water.Direction.{Direction}
 use Rattle.av_types.specs.declared.water.Direction.TheVariants.{North, South, West, East}
 
@@ -23,16 +21,6 @@ above p = record { x = p.x; y = p.y +ℤ pos 1; z = p.z }
 -- the block and those next to it, in the order in which they are woken
 abbrev pub around : Pos → List Pos
 around p = p ∷ below p ∷ above p ∷ step p North ∷ step p South ∷ step p West ∷ step p East ∷ []
-
--- the same block, the same chunk, the same section
-abbrev pub same_pos : Pos → Pos → Bool
-same_pos p q = int_eq p.x q.x && int_eq p.y q.y && int_eq p.z q.z
-
-abbrev pub same_chunk : ChunkPos → ChunkPos → Bool
-same_chunk a b = int_eq a.x b.x && int_eq a.z b.z
-
-abbrev pub same_section : SectionPos → SectionPos → Bool
-same_section s t = int_eq s.x t.x && int_eq s.y t.y && int_eq s.z t.z
 
 -- something holds of the block and of those next to it
 pub record ForAround (P : Pos → Type 0) (p : Pos) : Type 0 where

@@ -1,7 +1,8 @@
 -- A world as the rule sees it, and its changes.
-use Rattle.std.specs.Prelude.{ℕ, List, [], ◌∷◌, ◌++◌, Bool, true, not, ◌&&◌, if◌then◌else◌}
+use Rattle.std.specs.Prelude.{Option, ℕ, List, [], ◌∷◌, ◌++◌, Bool, true, false, not, ◌&&◌, if◌then◌else◌}
 use Rattle.av_types.specs.declared.place.Pos.{Pos}
 use Rattle.av_types.specs.declared.place.ChunkPos.{ChunkPos}
+use Rattle.av_types.specs.declared.place.Height.{Height}
 use Rattle.av_types.specs.declared.tick.Entry.{Entry}
 use Rattle.av_types.specs.Places.{chunk_of}
 use Rattle.av_cells.specs.Positions.{same_pos, same_chunk}
@@ -34,6 +35,15 @@ with_entry_if b w e =
 abbrev pub with_entry : World → Entry → World
 with_entry w e = with_entry_if (not (w.pending e.pos)) w e
 
+-- the entry's block pending no longer
+abbrev pub without_entry : World → Entry → World
+without_entry w e =
+    record {
+      loaded = w.loaded;
+      number = w.number;
+      pending = λ q. if same_pos q e.pos then false else w.pending q;
+    }
+
 -- the entries of each chunk, in order
 abbrev pub Lists : Type 0
 Lists = ChunkPos → List Entry
@@ -46,3 +56,9 @@ listed_if b lists e c = if b && same_chunk c (chunk_of e.pos) then lists c ++ e 
 abbrev pub listed_all : Lists → List Entry → Lists
 listed_all lists [] = lists
 listed_all lists (e ∷ es) = listed_all (listed_if true lists e) es
+
+-- what a world has besides blocks and lists: its height, its chunks in the order (z, x), and whether it is broken
+pub record Site : Type 0 where
+  pub height : Option Height
+  pub chunks : List ChunkPos
+  pub broken : Bool

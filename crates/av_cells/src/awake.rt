@@ -43,6 +43,7 @@ fn wake<C: Cells, const N: usize>(
     ensures changed { change (C.world cells.new) made.new.items
         ≡ woken (kinds_of kinds.now) now pos (change (C.world cells.old) made.old.items) }
     ensures listed { Appends made.old.items made.new.items (C.lists cells.old) (C.lists cells.new) }
+    ensures site { C.site cells.new ≡ C.site cells.old }
     ensures states { SameStates (C.world cells.old) (C.world cells.new) }
     ensures length { array_vec_len made.new ≤ array_vec_len made.old + 1 }
     ensures room { (q : Pos) → C.room cells.old q ≤ C.room cells.new q + 1 }
@@ -85,6 +86,7 @@ fn wake_all<C: Cells, const N: usize>(
     ensures changed { change (C.world cells.new) made.new.items
         ≡ woken_all (kinds_of kinds.now) now positions.now (change (C.world cells.old) made.old.items) }
     ensures listed { Appends made.old.items made.new.items (C.lists cells.old) (C.lists cells.new) }
+    ensures site { C.site cells.new ≡ C.site cells.old }
     ensures states { SameStates (C.world cells.old) (C.world cells.new) }
     ensures length { array_vec_len made.new ≤ array_vec_len made.old + length positions.now }
     ensures room { (q : Pos) → C.room cells.old q ≤ C.room cells.new q + length positions.now }
@@ -116,6 +118,7 @@ pub fn set_awake_onto<C: Cells, const N: usize>(
     ensures changed { change (C.world cells.new) made.new.items
         ≡ set_awake (kinds_of kinds.now) now pos number (change (C.world cells.old) made.old.items) }
     ensures listed { Appends made.old.items made.new.items (C.lists cells.old) (C.lists cells.new) }
+    ensures site { C.site cells.new ≡ C.site cells.old }
     ensures loaded { (C.world cells.new).loaded ≡ (C.world cells.old).loaded }
     ensures length { array_vec_len made.new ≤ array_vec_len made.old + 7 }
     ensures room { (q : Pos) → C.room cells.old q ≤ C.room cells.new q + 7 }
@@ -143,6 +146,7 @@ pub fn set_awake<C: Cells>(
     ensures changed { change (C.world cells.new) result.items
         ≡ set_awake (kinds_of kinds.now) now pos number (change (C.world cells.old) []) }
     ensures listed { C.lists cells.new ≡ listed_all (C.lists cells.old) result.items }
+    ensures site { C.site cells.new ≡ C.site cells.old }
     ensures loaded { (C.world cells.new).loaded ≡ (C.world cells.old).loaded }
     ensures kinds { HasKinds (kind_count kinds.now) (C.world cells.new) }
     ensures room { (q : Pos) → C.room cells.old q ≤ C.room cells.new q + 7 }

@@ -2,7 +2,7 @@
 ghost use Rattle.std.specs.Prelude.{◌≡◌, ◌≤◌, ◌<◌, ◌+◌, ℕ, IsTrue, OnOk, IfErr, not};
 ghost use Rattle.av_types.specs.declared.fault.Fault.TheVariants.{OutOfMemory};
 ghost use Rattle.av_cells.specs.Positions.{InReach, ForAround, ForTurned, IsNearOrigin};
-ghost use Rattle.av_cells.specs.World.{World, Lists, with_number, with_entry, listed_if};
+ghost use Rattle.av_cells.specs.World.{World, Lists, Site, with_number, with_entry, listed_if};
 
 use av_types::{Entry, Fault, Pos};
 
@@ -26,6 +26,9 @@ pub trait Cells {
     /// Whether to set a block to a number takes no memory.
     ghost can_set: { Self → Pos → ℕ → Type 0 };
 
+    /// What no call changes: the height, the chunks that were inserted, and whether the world is broken.
+    ghost site: { Self → Site };
+
     /// Whether a block is loaded.
     fn loaded(&self, pos: Pos) -> bool
         ensures { result ≡ (world self.now).loaded pos };
@@ -45,6 +48,7 @@ pub trait Cells {
         requires prepared { can_set self.old pos number }
         ensures changed { world self.new ≡ with_number (world self.old) pos number }
         ensures lists { lists self.new ≡ lists self.old }
+        ensures site { site self.new ≡ site self.old }
         ensures room { (q : Pos) → room self.old q ≤ room self.new q }
         ensures prepared { (q : Pos) (n : ℕ) → can_set self.old q n → can_set self.new q n };
 
@@ -56,6 +60,7 @@ pub trait Cells {
         ensures changed { world self.new ≡ with_entry (world self.old) entry }
         ensures lists { lists self.new
             ≡ listed_if (not ((world self.old).pending entry.pos)) (lists self.old) entry }
+        ensures site { site self.new ≡ site self.old }
         ensures room { (q : Pos) → room self.old q ≤ room self.new q + 1 }
         ensures prepared { (q : Pos) (n : ℕ) → can_set self.old q n → can_set self.new q n };
 
@@ -69,6 +74,7 @@ pub trait Cells {
         ensures fault { IfErr result (λ e. e ≡ OutOfMemory) }
         ensures same { world self.new ≡ world self.old }
         ensures lists { lists self.new ≡ lists self.old }
+        ensures site { site self.new ≡ site self.old }
         ensures keeps_room { (q : Pos) → room self.old q ≤ room self.new q }
         ensures keeps_prepared { (q : Pos) (n : ℕ) → can_set self.old q n → can_set self.new q n }
         ensures room { OnOk result
@@ -86,6 +92,7 @@ pub trait Cells {
         ensures fault { IfErr result (λ e. e ≡ OutOfMemory) }
         ensures same { world self.new ≡ world self.old }
         ensures lists { lists self.new ≡ lists self.old }
+        ensures site { site self.new ≡ site self.old }
         ensures keeps_room { (q : Pos) → room self.old q ≤ room self.new q }
         ensures keeps_prepared { (q : Pos) (n : ℕ) → can_set self.old q n → can_set self.new q n }
         ensures room { OnOk result

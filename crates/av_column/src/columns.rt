@@ -145,7 +145,7 @@ impl Column {
 }
 
 impl Cells for Column {
-    ghost use Rattle.av_cells.specs.World.{World, Lists};
+    ghost use Rattle.av_cells.specs.World.{World, Lists, Site};
     ghost use Rattle.av_column.specs.Limits.{there_is_near};
 
     ghost world = { λ c. world_of c.bottom c.layers c.numbers.items c.waiting.items };
@@ -155,6 +155,8 @@ impl Cells for Column {
     ghost room = { λ c _. 512 - array_vec_len c.entries };
 
     ghost can_set = { λ _ _ _. Unit {0} };
+
+    ghost site = { λ _. record { height = None; chunks = []; broken = false } };
 
     ghost near = { λ c p h. there_is_near c.bottom c.layers c.low c.high p h };
 

@@ -3,7 +3,7 @@ mod Taken
 mod TakenTags
 mod Again
 mod AgainTags
-mod LawProofs
+pub mod LawProofs
 pub mod Written
 mod Bytes
 mod Loops

@@ -14,6 +14,3 @@ pub use members::{exchange, find, place, remove};
 pub use reader::{decode, spelling_is_unique};
 pub use tag::{Kind, Named, Root, Tag};
 pub use writer::{encode, written_is_spelling};
-
-#[cfg(test)]
-mod tests;

@@ -5,8 +5,6 @@ mod document;
 pub mod kinds;
 pub mod row;
 pub mod rules;
-#[cfg(test)]
-mod tests;
 
 pub use kinds::Kinds;
 pub use row::Row;

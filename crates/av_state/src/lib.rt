@@ -3,8 +3,6 @@
 
 pub mod state;
 pub mod table;
-#[cfg(test)]
-mod tests;
 
 pub use state::{Property, State};
 pub use table::StateTable;

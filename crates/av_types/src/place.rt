@@ -191,7 +191,7 @@ impl Place {
 }
 
 impl Height {
-    ghost use Rattle.av_types.specs.Places.{IsSectionOf, IsBlockOf};
+    ghost use Rattle.av_types.specs.Places.{IsSectionOf, IsBlockOf, section_index};
 
     /// Whether a section of that number is in the height.
     pub fn has_section(self, y: i32) -> bool
@@ -205,6 +205,16 @@ impl Height {
         ensures { IsTrue result ↔ IsBlockOf self y }
     {
         self.has_section(y.div_euclid(16))
+    }
+
+    /// Where a section of the height stands among its sections, the lowest first, by its number.
+    pub fn section_index(self, y: i32) -> usize
+        requires { IsSectionOf self y }
+        ensures value { result ≡ section_index self y }
+        ensures number { y ≡ self.min_section +ℤ pos result }
+        ensures bound { result < self.sections }
+    {
+        (y - self.min_section) as usize
     }
 
     /// The height of the game's overworld since 1.18: sections -4 to 19, y -64 to 319

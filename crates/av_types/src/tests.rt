@@ -25,6 +25,11 @@ fn an_index_names_its_chunk(rt: HostRuntime) {
     assert!(rt; region.is_in_limits());
     assert_eq!(rt; region.chunk_at(0), ChunkPos { x: -32, z: 64 });
     assert_eq!(rt; region.chunk_at(1023), ChunkPos { x: -1, z: 95 });
+    // The index is x + 32 z, and not z + 32 x.
+    assert_eq!(rt; region.chunk_at(1), ChunkPos { x: -31, z: 64 });
+    assert_eq!(rt; region.chunk_at(32), ChunkPos { x: -32, z: 65 });
+    assert_eq!(rt; ChunkPos { x: 1, z: 0 }.index(), 1);
+    assert_eq!(rt; ChunkPos { x: 0, z: 1 }.index(), 32);
     assert!(rt; !RegionPos { x: 60001, z: 0 }.is_in_limits());
     assert!(rt; RegionPos { x: 0, z: -60000 }.is_in_limits());
     assert!(rt; !RegionPos { x: 0, z: -60001 }.is_in_limits());
@@ -38,6 +43,11 @@ fn the_game_is_384_blocks_high(rt: HostRuntime) {
     }
     assert!(rt; game.has_section(19));
     assert!(rt; !game.has_section(20));
+    // (a section's number, its index)
+    for (number, index) in [(-4, 0), (0, 4), (19, 23)] {
+        assert!(rt; game.has_section(number));
+        assert_eq!(rt; game.section_index(number), index);
+    }
 }
 
 #[test]

@@ -6,3 +6,5 @@ pub mod Regions
 pub mod Inside
 pub mod Apart
 pub mod Chosen
+pub mod Renumbered
+pub mod Sources

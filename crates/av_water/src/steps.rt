@@ -30,6 +30,7 @@ pub(crate) fn set_itself<C: Cells>(
     ensures changed { change (C.world cells.new) made.new.items
         ≡ set_awake (kinds_of kinds.now) now pos (number_of_wet wet) (change (C.world cells.old) made.old.items) }
     ensures listed { Appends made.old.items made.new.items (C.lists cells.old) (C.lists cells.new) }
+    ensures site { C.site cells.new ≡ C.site cells.old }
     ensures loaded { (C.world cells.new).loaded ≡ (C.world cells.old).loaded }
     ensures ready { (adds : ℕ)
         → IsReady (kind_count kinds.now) (C.world cells.old) (C.room cells.old)
@@ -56,6 +57,7 @@ pub(crate) fn set_below<C: Cells>(
     ensures changed { change (C.world cells.new) made.new.items
         ≡ set_awake (kinds_of kinds.now) now (below pos) (number_of_wet wet) (change (C.world cells.old) made.old.items) }
     ensures listed { Appends made.old.items made.new.items (C.lists cells.old) (C.lists cells.new) }
+    ensures site { C.site cells.new ≡ C.site cells.old }
     ensures loaded { (C.world cells.new).loaded ≡ (C.world cells.old).loaded }
     ensures ready { (adds : ℕ)
         → IsReady (kind_count kinds.now) (C.world cells.old) (C.room cells.old)
@@ -83,6 +85,7 @@ fn set_side<C: Cells>(
     ensures changed { change (C.world cells.new) made.new.items
         ≡ set_awake (kinds_of kinds.now) now (step pos direction) number (change (C.world cells.old) made.old.items) }
     ensures listed { Appends made.old.items made.new.items (C.lists cells.old) (C.lists cells.new) }
+    ensures site { C.site cells.new ≡ C.site cells.old }
     ensures loaded { (C.world cells.new).loaded ≡ (C.world cells.old).loaded }
     ensures ready { (adds : ℕ)
         → IsReady (kind_count kinds.now) (C.world cells.old) (C.room cells.old)
@@ -110,6 +113,7 @@ fn set_planned_side<C: Cells>(
     ensures changed { change (C.world cells.new) made.new.items
         ≡ set_planned (kinds_of kinds.now) now (step pos direction) plan (change (C.world cells.old) made.old.items) }
     ensures listed { Appends made.old.items made.new.items (C.lists cells.old) (C.lists cells.new) }
+    ensures site { C.site cells.new ≡ C.site cells.old }
     ensures loaded { (C.world cells.new).loaded ≡ (C.world cells.old).loaded }
     ensures ready { (adds : ℕ)
         → IsReady (kind_count kinds.now) (C.world cells.old) (C.room cells.old)
@@ -144,6 +148,7 @@ pub(crate) fn set_sides<C: Cells>(
         (set_planned (kinds_of kinds.now) now (step pos North) plan.north
         (change (C.world cells.old) made.old.items)))) }
     ensures listed { Appends made.old.items made.new.items (C.lists cells.old) (C.lists cells.new) }
+    ensures site { C.site cells.new ≡ C.site cells.old }
     ensures loaded { (C.world cells.new).loaded ≡ (C.world cells.old).loaded }
     ensures ready { IsReady (kind_count kinds.now) (C.world cells.new) (C.room cells.new)
         (C.can_set cells.new) made.new.items pos 0 }

@@ -32,6 +32,7 @@ fn spread<C: Cells>(
     ensures changed { change (C.world cells.new) made.new.items
         ≡ spread (kinds_of kinds.now) now pos (change (C.world cells.old) made.old.items) }
     ensures listed { Appends made.old.items made.new.items (C.lists cells.old) (C.lists cells.new) }
+    ensures site { C.site cells.new ≡ C.site cells.old }
     ensures loaded { (C.world cells.new).loaded ≡ (C.world cells.old).loaded }
     ensures kinds { HasKinds (kind_count kinds.now) (C.world cells.new) }
 {
@@ -51,6 +52,7 @@ fn fall<C: Cells>(cells: &mut C, kinds: &Kinds, now: u32, pos: Pos, made: &mut A
     ensures changed { change (C.world cells.new) made.new.items
         ≡ onward (kinds_of kinds.now) now pos (change (C.world cells.old) made.old.items) }
     ensures listed { Appends made.old.items made.new.items (C.lists cells.old) (C.lists cells.new) }
+    ensures site { C.site cells.new ≡ C.site cells.old }
     ensures loaded { (C.world cells.new).loaded ≡ (C.world cells.old).loaded }
     ensures kinds { HasKinds (kind_count kinds.now) (C.world cells.new) }
 {
@@ -70,6 +72,7 @@ fn go_on<C: Cells>(cells: &mut C, kinds: &Kinds, now: u32, pos: Pos, made: &mut 
     ensures changed { change (C.world cells.new) made.new.items
         ≡ onward (kinds_of kinds.now) now pos (change (C.world cells.old) made.old.items) }
     ensures listed { Appends made.old.items made.new.items (C.lists cells.old) (C.lists cells.new) }
+    ensures site { C.site cells.new ≡ C.site cells.old }
     ensures loaded { (C.world cells.new).loaded ≡ (C.world cells.old).loaded }
     ensures kinds { HasKinds (kind_count kinds.now) (C.world cells.new) }
 {
@@ -95,6 +98,7 @@ fn renew<C: Cells>(cells: &mut C, kinds: &Kinds, now: u32, pos: Pos, made: &mut 
     ensures changed { change (C.world cells.new) made.new.items
         ≡ renewed (kinds_of kinds.now) now pos (change (C.world cells.old) made.old.items) }
     ensures listed { Appends made.old.items made.new.items (C.lists cells.old) (C.lists cells.new) }
+    ensures site { C.site cells.new ≡ C.site cells.old }
     ensures loaded { (C.world cells.new).loaded ≡ (C.world cells.old).loaded }
     ensures kinds { HasKinds (kind_count kinds.now) (C.world cells.new) }
 {
@@ -134,6 +138,7 @@ pub fn turn<C: Cells>(cells: &mut C, kinds: &Kinds, now: u32, pos: Pos) -> Array
     ensures changed { change (C.world cells.new) result.items
         ≡ turn (kinds_of kinds.now) now pos (C.world cells.old) }
     ensures listed { C.lists cells.new ≡ listed_all (C.lists cells.old) result.items }
+    ensures site { C.site cells.new ≡ C.site cells.old }
     ensures loaded { (C.world cells.new).loaded ≡ (C.world cells.old).loaded }
     ensures kinds { HasKinds (kind_count kinds.now) (C.world cells.new) }
 {

@@ -16,6 +16,7 @@ invariant-loop-position g l =
       changed : woken_all (kinds_of l.kinds) l.now (drop l.position-index l.positions) (change (g.C.Cells.world l.cells) l.made.items)
           ≡ woken_all (kinds_of l.kinds) l.now l.positions (change (g.C.Cells.world l.initial.cells) l.initial.made.items);
       listed : Appends l.initial.made.items l.made.items (g.C.Cells.lists l.initial.cells) (g.C.Cells.lists l.cells);
+      site : g.C.Cells.site l.cells ≡ g.C.Cells.site l.initial.cells;
       states : SameStates (g.C.Cells.world l.initial.cells) (g.C.Cells.world l.cells);
       length : array_vec_len l.made ≤ array_vec_len l.initial.made + l.position-index;
       kept : (q : Pos) → g.C.Cells.room l.initial.cells q ≤ g.C.Cells.room l.cells q + l.position-index;

@@ -1,0 +1,258 @@
+-- Places on a board.
+use Rattle.std.proofs.Common.{IsTrue, ◌≡◌, ℕ, ℤ, pos, negsuc, ◌+◌, ◌-◌, ◌*◌, ◌<◌, ◌≤◌, ◌+ℤ◌, ◌-ℤ◌, ◌/◌, ◌%◌, ◌*ℤ◌, ◌<ℤ◌, ◌≤ℤ◌, ◌&&◌, Bool, true, false, cond, suc, zero, List, length, get_or, set, replicate, refl, sym, ap, ◌∙◌, subst, arith}
+use Rattle.std.proofs.lemmas.Int.{ints}
+use Rattle.std.specs.Prelude.{int_le, int_lt, nat_le}
+use Rattle.std.proofs.lemmas.List.{get_or-set_same, get_or-set_other}
+use Rattle.std.proofs.lemmas.Bool.{false≢true}
+use Rattle.std.proofs.lemmas.Bool.Decides.{nat_tests}
+use Rattle.av_types.specs.declared.place.Pos.{Pos}
+use Rattle.av_types.specs.declared.place.ChunkPos.{ChunkPos}
+use Rattle.av_types.specs.declared.place.Height.{Height}
+use Rattle.av_types.specs.Division.{divided}
+use Rattle.av_types.specs.Places.{chunk_of, section_of}
+use Rattle.av_types.specs.declared.place.SectionPos.{SectionPos}
+use Rattle.av_flood.specs.Offsets.{is_within, offset, IsNth, IsBeyond}
+use Rattle.av_flood.specs.Board.{corner, is_on, index_of, IsOff, IsPlace}
+use Rattle.av_flood.specs.Blocks.{IsNear, IsInner, IsNearOrigin, IsNearColumn, IsNearSection, spot, first_block, column_at, section_at}
+use Rattle.av_flood.specs.Flooding.{same_pos, Matters, IsNearAlong}
+use Rattle.av_flood.proofs.Same.{same_pos_is, same_pos_self}
+
+and_false_left : (a b : Bool) → a ≡ false → (a && b) ≡ false
+and_false_left true b e = grind arith
+and_false_left false b e = refl
+
+and_false_right : (a b : Bool) → b ≡ false → (a && b) ≡ false
+and_false_right true b e = e
+and_false_right false b e = refl
+
+and_both : (a b : Bool) → a ≡ true → b ≡ true → (a && b) ≡ true
+and_both true b e f = f
+and_both false b e f = e
+
+and_left : (a b : Bool) → (a && b) ≡ true → a ≡ true
+and_left true b e = refl
+and_left false b e = e
+
+and_right : (a b : Bool) → (a && b) ≡ true → b ≡ true
+and_right true b e = e
+and_right false b e = grind arith
+
+within_nth : (from x : ℤ) (size n : ℕ) → IsNth from size x n → is_within from size x ≡ true
+within_nth from x size n h =
+    let l = h.less in let e = h.is in
+    and_both (int_le from x) (int_lt x (from +ℤ pos size)) (grind (arith, ints)) (grind (arith, ints))
+
+offset_nth : (from x : ℤ) (size n : ℕ) → IsNth from size x n → n ≡ offset (x -ℤ from)
+offset_nth from x size n h = let e = h.is in ap offset (let f : pos n ≡ x -ℤ from = omega (arith, ints) in f)
+
+pub below_first : (from x : ℤ) (size : ℕ) → x <ℤ from → IsBeyond from size x
+below_first from x size h = record { beyond = and_false_left (int_le from x) (int_lt x (from +ℤ pos size)) (grind (arith, ints)) }
+
+pub after_last : (from x : ℤ) (size : ℕ) → (from +ℤ pos size) ≤ℤ x → IsBeyond from size x
+after_last from x size h = record { beyond = and_false_right (int_le from x) (int_lt x (from +ℤ pos size)) (grind (arith, ints)) }
+
+offset_back : (from x : ℤ) (size : ℕ) → is_within from size x ≡ true → x ≡ from +ℤ pos (offset (x -ℤ from))
+offset_back from x size h = on (x -ℤ from) refl (and_left (int_le from x) (int_lt x (from +ℤ pos size)) h) where
+  on : (z : ℤ) → x -ℤ from ≡ z → int_le from x ≡ true → x ≡ from +ℤ pos (offset z)
+  on (pos n) e l = omega (arith, ints)
+  on (negsuc n) e l = absurd (grind (arith, ints))
+
+offset_below : (from x : ℤ) (size : ℕ) → is_within from size x ≡ true → offset (x -ℤ from) < size
+offset_below from x size h = on (offset (x -ℤ from)) (offset_back from x size h) (and_right (int_le from x) (int_lt x (from +ℤ pos size)) h) where
+  on : (n : ℕ) → x ≡ from +ℤ pos n → int_lt x (from +ℤ pos size) ≡ true → n < size
+  on n e l = grind (arith, ints)
+
+-- two blocks of the board at one place are one
+same_offset : (from x y : ℤ) (size : ℕ) → is_within from size x ≡ true → is_within from size y ≡ true → offset (x -ℤ from) ≡ offset (y -ℤ from) → x ≡ y
+same_offset from x y size h k e = offset_back from x size h ∙ ap (λ n. from +ℤ pos n) e ∙ sym (offset_back from y size k)
+
+apart : (x y z a b c : ℕ) → x < 44 → z < 44 → a < 44 → c < 44 → 44 * (44 * y + z) + x ≡ 44 * (44 * b + c) + a → record { x_is : x ≡ a; y_is : y ≡ b; z_is : z ≡ c }
+apart x y z a b c l m n o e =
+    let q : 44 * y + z ≡ 44 * b + c = omega arith in
+    record { x_is = omega arith; y_is = omega arith; z_is = omega arith }
+
+pub same_index : (c : ChunkPos) (h : Height) (p q : Pos) → is_on c h p ≡ true → is_on c h q ≡ true → index_of c h p ≡ index_of c h q → p ≡ q
+same_index c h p q on_p on_q e =
+    let k = corner c h in
+    let xz_p = and_left (is_within k.x 44 p.x && is_within k.z 44 p.z) (is_within k.y (16 * h.sections) p.y) on_p in
+    let xz_q = and_left (is_within k.x 44 q.x && is_within k.z 44 q.z) (is_within k.y (16 * h.sections) q.y) on_q in
+    let xp = and_left (is_within k.x 44 p.x) (is_within k.z 44 p.z) xz_p in
+    let zp = and_right (is_within k.x 44 p.x) (is_within k.z 44 p.z) xz_p in
+    let yp = and_right (is_within k.x 44 p.x && is_within k.z 44 p.z) (is_within k.y (16 * h.sections) p.y) on_p in
+    let xq = and_left (is_within k.x 44 q.x) (is_within k.z 44 q.z) xz_q in
+    let zq = and_right (is_within k.x 44 q.x) (is_within k.z 44 q.z) xz_q in
+    let yq = and_right (is_within k.x 44 q.x && is_within k.z 44 q.z) (is_within k.y (16 * h.sections) q.y) on_q in
+    let same = apart (offset (p.x -ℤ k.x)) (offset (p.y -ℤ k.y)) (offset (p.z -ℤ k.z)) (offset (q.x -ℤ k.x)) (offset (q.y -ℤ k.y)) (offset (q.z -ℤ k.z))
+    (offset_below k.x p.x 44 xp) (offset_below k.z p.z 44 zp) (offset_below k.x q.x 44 xq) (offset_below k.z q.z 44 zq) e in
+    let x = same_offset k.x p.x q.x 44 xp xq same.x_is in
+    let y = same_offset k.y p.y q.y (16 * h.sections) yp yq same.y_is in
+    let z = same_offset k.z p.z q.z 44 zp zq same.z_is in
+    λ i. record { x = x i; y = y i; z = z i }
+
+module _ (c : ChunkPos) (h : Height) (p : Pos) where
+  pub off_x : IsBeyond (corner c h).x 44 p.x → IsOff c h p
+  off_x e = record { off = and_false_left (is_within (corner c h).x 44 p.x && is_within (corner c h).z 44 p.z) (is_within (corner c h).y (16 * h.sections) p.y) (and_false_left (is_within (corner c h).x 44 p.x) (is_within (corner c h).z 44 p.z) e.beyond) }
+
+  pub off_z : IsBeyond (corner c h).z 44 p.z → IsOff c h p
+  off_z e = record { off = and_false_left (is_within (corner c h).x 44 p.x && is_within (corner c h).z 44 p.z) (is_within (corner c h).y (16 * h.sections) p.y) (and_false_right (is_within (corner c h).x 44 p.x) (is_within (corner c h).z 44 p.z) e.beyond) }
+
+  pub off_y : IsBeyond (corner c h).y (16 * h.sections) p.y → IsOff c h p
+  off_y e = record { off = and_false_right (is_within (corner c h).x 44 p.x && is_within (corner c h).z 44 p.z) (is_within (corner c h).y (16 * h.sections) p.y) e.beyond }
+
+  pub placed : (x y z : ℕ) → IsNth (corner c h).x 44 p.x x → IsNth (corner c h).z 44 p.z z → IsNth (corner c h).y (16 * h.sections) p.y y → IsPlace c h p (44 * (44 * y + z) + x)
+  placed x y z a b d =
+      let k = corner c h in
+      let i = offset_nth k.x p.x 44 x a in
+      let j = offset_nth k.y p.y (16 * h.sections) y d in
+      let l = offset_nth k.z p.z 44 z b in
+      record {
+        on = and_both (is_within k.x 44 p.x && is_within k.z 44 p.z) (is_within k.y (16 * h.sections) p.y) (and_both (is_within k.x 44 p.x) (is_within k.z 44 p.z) (within_nth k.x p.x 44 x a) (within_nth k.z p.z 44 z b)) (within_nth k.y p.y (16 * h.sections) y d);
+        is = λ n. 44 * (44 * j n + l n) + i n;
+        less = let f = a.less in let g = b.less in let m = d.less in omega arith;
+      }
+
+-- a board with one place set
+pub light_set : (c : ChunkPos) (h : Height) (p : Pos) (xs : List ℕ) (n i : ℕ) → IsPlace c h p i → i < length xs → (q : Pos)
+    → cond (is_on c h q) (get_or (set xs i n) (index_of c h q) 0) 0 ≡ cond (same_pos q p) n (cond (is_on c h q) (get_or xs (index_of c h q) 0) 0)
+light_set c h p xs n i place less q = cases (same_pos q p) refl (is_on c h q) refl where
+  cases : (b : Bool) → same_pos q p ≡ b → (d : Bool) → is_on c h q ≡ d
+      → cond d (get_or (set xs i n) (index_of c h q) 0) 0 ≡ cond b n (cond d (get_or xs (index_of c h q) 0) 0)
+  cases true e true f = ap (λ j. get_or (set xs i n) j 0) (ap (index_of c h) (same_pos_is q p e) ∙ sym place.is) ∙ get_or-set_same xs i n 0 less
+  cases true e false f = absurd (false≢true (sym f ∙ ap (is_on c h) (same_pos_is q p e) ∙ place.on))
+  cases false e true f = get_or-set_other xs i (index_of c h q) n 0 (λ j. false≢true (sym e ∙ ap (same_pos q) (same_index c h p q place.on f (sym place.is ∙ sym j)) ∙ same_pos_self q))
+  cases false e false f = refl
+
+-- and what that makes of lights, and of which blocks have theirs
+pub light_set_light : (c : ChunkPos) (h : Height) (p : Pos) (xs : List ℕ) (n i : ℕ) → IsPlace c h p i → i < length xs → (q : Pos)
+    → cond (is_on c h q) (get_or (set xs i (128 + n)) (index_of c h q) 0) 0 - 128 ≡ cond (same_pos q p) n (cond (is_on c h q) (get_or xs (index_of c h q) 0) 0 - 128)
+light_set_light c h p xs n i place less q = on (same_pos q p) _ _ (light_set c h p xs (128 + n) i place less q) where
+  on : (b : Bool) (new old : ℕ) → new ≡ cond b (128 + n) old → new - 128 ≡ cond b n (old - 128)
+  on true new old e = omega arith
+  on false new old e = omega arith
+
+pub light_set_settled : (c : ChunkPos) (h : Height) (p : Pos) (xs : List ℕ) (n i : ℕ) → IsPlace c h p i → i < length xs → (q : Pos)
+    → nat_le 128 (cond (is_on c h q) (get_or (set xs i (128 + n)) (index_of c h q) 0) 0) ≡ cond (same_pos q p) true (nat_le 128 (cond (is_on c h q) (get_or xs (index_of c h q) 0) 0))
+light_set_settled c h p xs n i place less q = on (same_pos q p) _ _ (light_set c h p xs (128 + n) i place less q) where
+  high : nat_le 128 (128 + n) ≡ true
+  high = grind (arith, nat_tests)
+
+  on : (b : Bool) (new old : ℕ) → new ≡ cond b (128 + n) old → nat_le 128 new ≡ cond b true (nat_le 128 old)
+  on true new old e = ap (nat_le 128) e ∙ high
+  on false new old e = ap (nat_le 128) e
+
+-- a board with no light
+pub light_none : (b : Bool) (n i : ℕ) → cond b (get_or (replicate {A = ℕ} n 0) i 0) 0 ≡ 0
+light_none true n i = on n i where
+  on : (n i : ℕ) → get_or (replicate {A = ℕ} n 0) i 0 ≡ 0
+  on zero i = refl
+  on (suc n) zero = refl
+  on (suc n) (suc i) = on n i
+light_none false n i = refl
+
+-- where light matters is on the board
+pub on_board : (c : ChunkPos) (h : Height) (n : ℕ) (p : Pos) → n ≤ 15 → Matters c n p → IsNear h p → IsTrue (is_on c h p)
+on_board c h n p most m near =
+    let k = corner c h in
+    and_both (is_within k.x 44 p.x && is_within k.z 44 p.z) (is_within k.y (16 * h.sections) p.y)
+    (and_both (is_within k.x 44 p.x) (is_within k.z 44 p.z) (along (pos 16 *ℤ c.x) p.x m.along_x) (along (pos 16 *ℤ c.z) p.z m.along_z))
+    (between k.y p.y (16 * h.sections) near.low near.high)
+  where
+    between : (from x : ℤ) (size : ℕ) → from ≤ℤ x → x <ℤ (from +ℤ pos size) → is_within from size x ≡ true
+    between from x size l g = and_both (int_le from x) (int_lt x (from +ℤ pos size)) (grind (arith, ints)) (grind (arith, ints))
+
+    along : (from x : ℤ) → IsNearAlong from n x → is_within (from -ℤ pos 14) 44 x ≡ true
+    along from x a = let l = a.low in let g = a.high in between (from -ℤ pos 14) x 44 (omega (arith, ints)) (omega (arith, ints))
+
+pub inner_near : (h : Height) (p : Pos) → IsNear h p → IsInner p
+inner_near h p near =
+    let a = near.west in let b = near.east in let c = near.north in let d = near.south in let e = near.low in let f = near.high in
+    let i = h.lowest in let j = h.highest in
+    record { west = omega (arith, ints); east = omega (arith, ints); north = omega (arith, ints); south = omega (arith, ints); low = omega (arith, ints); high = omega (arith, ints) }
+
+pub pos_is : (a b c d e f : ℤ) → a ≡ d → b ≡ e → c ≡ f → (let l : Pos = record { x = a; y = b; z = c } in let r : Pos = record { x = d; y = e; z = f } in l ≡ r)
+pos_is a b c d e f x y z = λ i. record { x = x i; y = y i; z = z i }
+
+record IsQuotient (x q : ℤ) : Type 0 where
+  low : (pos 16 *ℤ q) ≤ℤ x
+  high : x <ℤ (pos 16 *ℤ q +ℤ pos 16)
+
+quotient : (x : ℤ) → IsQuotient x (divided x 16)
+quotient (pos n) = record { low = omega (arith, ints); high = omega (arith, ints) }
+quotient (negsuc n) = record { low = omega (arith, ints); high = omega (arith, ints) }
+
+between : (from x : ℤ) (size : ℕ) → from ≤ℤ x → x <ℤ (from +ℤ pos size) → is_within from size x ≡ true
+between from x size l g = and_both (int_le from x) (int_lt x (from +ℤ pos size)) (grind (arith, ints)) (grind (arith, ints))
+
+in_sixteen : (x q : ℤ) → divided x 16 ≡ q → is_within (pos 16 *ℤ q) 16 x ≡ true
+in_sixteen x q e = subst (λ r. is_within (pos 16 *ℤ r) 16 x ≡ true) e (let i = quotient x in between (pos 16 *ℤ divided x 16) x 16 i.low i.high)
+
+-- what holds of each spot of a section holds of each of its blocks
+pub at_spot : (s : SectionPos) (P : Pos → Type 0) → ((y : ℕ) → y < 16 → (z : ℕ) → z < 16 → (x : ℕ) → x < 16 → P (spot (first_block s) x y z)) → (p : Pos) → section_of p ≡ s → P p
+at_spot s P all p e =
+    let k = first_block s in
+    let x = in_sixteen p.x s.x (ap (λ t. t.x) e) in
+    let y = in_sixteen p.y s.y (ap (λ t. t.y) e) in
+    let z = in_sixteen p.z s.z (ap (λ t. t.z) e) in
+    subst P (λ i. record { x = sym (offset_back k.x p.x 16 x) i; y = sym (offset_back k.y p.y 16 y) i; z = sym (offset_back k.z p.z 16 z) i })
+    (all (offset (p.y -ℤ k.y)) (offset_below k.y p.y 16 y) (offset (p.z -ℤ k.z)) (offset_below k.z p.z 16 z) (offset (p.x -ℤ k.x)) (offset_below k.x p.x 16 x))
+
+-- which of the three chunks along an axis, and which section from the lowest
+record IsNumber (from : ℤ) (size : ℕ) (q : ℤ) (n : ℕ) : Type 0 where
+  less : n < size
+  is : q ≡ from +ℤ pos n
+
+number_of : (from q : ℤ) (size : ℕ) → from ≤ℤ q → q <ℤ (from +ℤ pos size) → (n : ℕ) × IsNumber from size q n
+number_of from q size l g =
+    let w = between from q size l g in
+    (offset (q -ℤ from), record { less = offset_below from q size w; is = offset_back from q size w })
+
+near_three : (x c : ℤ) (n : ℕ) → n ≤ 15 → IsNearAlong (pos 16 *ℤ c) n x → (m : ℕ) × IsNumber (c -ℤ pos 1) 3 (divided x 16) m
+near_three x c n most a =
+    let i = quotient x in let il = i.low in let ih = i.high in let l = a.low in let h = a.high in
+    number_of (c -ℤ pos 1) (divided x 16) 3 (omega (arith, ints)) (omega (arith, ints))
+
+section_in : (y : ℤ) (h : Height) → (pos 16 *ℤ h.min_section) ≤ℤ y → y <ℤ (pos 16 *ℤ h.min_section +ℤ pos (16 * h.sections)) → (m : ℕ) × IsNumber h.min_section h.sections (divided y 16) m
+section_in y h low high = let i = quotient y in let il = i.low in let ih = i.high in number_of h.min_section (divided y 16) h.sections (omega (arith, ints)) (omega (arith, ints))
+
+-- what holds of the blocks of the nine chunks' sections holds wherever light matters
+pub at_section : (c : ChunkPos) (h : Height) (n : ℕ) (P : Pos → Type 0) (p : Pos) → n ≤ 15 → Matters c n p → IsNear h p
+    → ((k : ℕ) → k < 9 → (m : ℕ) → m < h.sections → section_of p ≡ section_at (column_at c k) h m → P p) → P p
+at_section c h n P p most m near all =
+    let x = near_three p.x c.x n most m.along_x in
+    let z = near_three p.z c.z n most m.along_z in
+    let y = section_in p.y h near.low near.high in
+    let xl = x.1.less in let zl = z.1.less in
+    let k = 3 * z.0 + x.0 in
+    let e : x.0 ≡ k % 3 = omega arith in
+    let f : z.0 ≡ k / 3 = omega arith in
+    all k (omega arith) y.0 y.1.less (λ i. record { x = (x.1.is ∙ ap (λ a. c.x -ℤ pos 1 +ℤ pos a) e) i; y = y.1.is i; z = (z.1.is ∙ ap (λ a. c.z -ℤ pos 1 +ℤ pos a) f) i })
+
+pub near_column : (c : ChunkPos) (k : ℕ) → negsuc 1920030 ≤ℤ c.x → c.x ≤ℤ pos 1920031 → negsuc 1920030 ≤ℤ c.z → c.z ≤ℤ pos 1920031 → k < 9 → (d : ChunkPos) → d ≡ column_at c k → IsNearColumn d
+near_column c k west east north south less d e =
+    let x : k % 3 < 3 = omega arith in let z : k / 3 < 3 = omega arith in
+    subst IsNearColumn (sym e) (record { west = omega (arith, ints); east = omega (arith, ints); north = omega (arith, ints); south = omega (arith, ints) })
+
+pub near_section : (c : ChunkPos) (h : Height) (k : ℕ) → k < h.sections → IsNearColumn c → (s : SectionPos) → s ≡ section_at c h k → IsNearSection s
+near_section c h k less near s e =
+    let i = h.lowest in let j = h.highest in
+    subst IsNearSection (sym e) (record { west = near.west; east = near.east; low = omega (arith, ints); high = omega (arith, ints); north = near.north; south = near.south })
+
+-- a loaded block's chunk is one in which loaded blocks can lie
+near_end : (x : ℤ) → negsuc 30719999 ≤ℤ x → negsuc 1920030 ≤ℤ divided x 16
+near_end (pos n) h = omega (arith, ints)
+near_end (negsuc n) h = omega (arith, ints)
+
+far_end : (x : ℤ) → x ≤ℤ pos 30720511 → divided x 16 ≤ℤ pos 1920031
+far_end (pos n) h = omega (arith, ints)
+far_end (negsuc n) h = omega (arith, ints)
+
+pub near_chunk : (h : Height) (p : Pos) → IsNear h p → IsNearOrigin (chunk_of p)
+near_chunk h p near = record { west = near_end p.x near.west; east = far_end p.x near.east; north = near_end p.z near.north; south = far_end p.z near.south }
+
+-- the chunk's own blocks
+near_own : (x c : ℤ) → divided x 16 ≡ c → IsNearAlong (pos 16 *ℤ c) 1 x
+near_own (pos n) c e = subst (λ d. IsNearAlong (pos 16 *ℤ d) 1 (pos n)) e (record { low = omega (arith, ints); high = omega (arith, ints) })
+near_own (negsuc n) c e = subst (λ d. IsNearAlong (pos 16 *ℤ d) 1 (negsuc n)) e (record { low = omega (arith, ints); high = omega (arith, ints) })
+
+pub matters_own : (c : ChunkPos) (p : Pos) → chunk_of p ≡ c → Matters c 1 p
+matters_own c p e = record { along_x = near_own p.x c.x (ap (λ d. d.x) e); along_z = near_own p.z c.z (ap (λ d. d.z) e) }

@@ -1,0 +1,6 @@
+pub mod Paths
+pub mod Queues
+pub mod Same
+pub mod Floods
+pub mod Boards
+pub mod Halves

@@ -1,0 +1,102 @@
+-- Working definitions: a flood from the brightest level down. No public clause cites them.
+use Rattle.std.specs.Prelude.{ℤ, ◌≡◌, ℕ, ◌+◌, ◌≤◌, ◌<◌, pos, ◌+ℤ◌, ◌*ℤ◌, ◌<ℤ◌, List, [], ◌∷◌, Bool, IsTrue, Contains, ◌⊎◌, if◌then◌else◌, ◌&&◌, ◌++◌, ◌≢◌, map, length, slice_index_or}
+use Rattle.av_flood.specs.declared.buckets.Buckets.{Buckets}
+use Rattle.std.specs.Ordering.{int_eq}
+use Rattle.av_types.specs.declared.place.Pos.{Pos}
+use Rattle.av_types.specs.declared.place.ChunkPos.{ChunkPos}
+use Rattle.av_flood.specs.Light.{Terrain, IsAdjacent, cost, HasLight}
+
+-- the same block
+abbrev pub same_pos : Pos → Pos → Bool
+same_pos p q = int_eq p.x q.x && int_eq p.y q.y && int_eq p.z q.z
+
+-- a coordinate is less than n from the chunk's sixteen
+pub record IsNearAlong (from : ℤ) (n : ℕ) (x : ℤ) : Type 0 where
+  pub low : from <ℤ (x +ℤ pos n)
+  pub high : x <ℤ (from +ℤ pos 15 +ℤ pos n)
+
+-- light of level n at p may come to the chunk: p is less than n blocks from it along x and along z
+pub record Matters (c : ChunkPos) (n : ℕ) (p : Pos) : Type 0 where
+  pub along_x : IsNearAlong (pos 16 *ℤ c.x) n p.x
+  pub along_z : IsNearAlong (pos 16 *ℤ c.z) n p.z
+
+-- the lists of blocks to which light of each level comes
+abbrev pub Levels : Type 0
+Levels = ℕ → List Pos
+
+-- a block waits for so much light, or more
+pub record Waits (todo : Levels) (p : Pos) (n : ℕ) : Type 0 where
+  pub level : ℕ
+  pub most : n ≤ level
+  pub there : Contains (todo level) p
+
+-- a block has so much light, or waits for it
+abbrev pub Has : (Pos → ℕ) → Levels → Pos → ℕ → Type 0
+Has lit todo p n = (n ≤ lit p) ⊎ Waits todo p n
+
+-- a byte below 128 is light that its block waits for, one from 128 on is its light
+pub record IsMarked (bytes lit : Pos → ℕ) (todo : Levels) : Type 0 where
+  pub waits : (p : Pos) → bytes p < 128 → 0 < bytes p → Has lit todo p (bytes p)
+  pub settled : (p : Pos) → 128 ≤ bytes p → 0 < lit p
+
+-- what waits in a level: a loaded block to which that much light comes
+pub record IsSoundAt (g : Terrain) (c : ChunkPos) (n : ℕ) (p : Pos) : Type 0 where
+  pub loaded : IsTrue (g.loaded p)
+  pub positive : 0 < n
+  pub matters : Matters c n p
+  pub comes : HasLight g p n
+
+-- the flood has settled all levels above n
+pub record IsFlooding (g : Terrain) (c : ChunkPos) (n : ℕ) (lit : Pos → ℕ) (todo : Levels) : Type 0 where
+  pub emits : (p : Pos) → IsTrue (g.loaded p) → 0 < g.emission p → Matters c (g.emission p) p → Has lit todo p (g.emission p)
+  pub spreads : (q p : Pos) → IsAdjacent q p → IsTrue (g.loaded p) → (v : ℕ) → 0 < v → v + cost g p ≡ lit q → Matters c v p → Has lit todo p v
+  pub bright : (p : Pos) → 0 < lit p → n ≤ lit p
+  pub sound : (p : Pos) → 0 < lit p → HasLight g p (lit p)
+  pub waits : (v : ℕ) (p : Pos) → Contains (todo v) p → IsSoundAt g c v p
+  pub low : (v : ℕ) (p : Pos) → Contains (todo v) p → v ≤ n
+
+-- one block more waits in a level
+pub record IsPushed (old new : Levels) (n : ℕ) (p : Pos) : Type 0 where
+  pub here : new n ≡ old n ++ p ∷ []
+  pub others : (m : ℕ) → m ≢ n → new m ≡ old m
+
+-- the last block of a level waits no more
+pub record IsPopped (old new : Levels) (n : ℕ) (p : Pos) : Type 0 where
+  pub here : old n ≡ new n ++ p ∷ []
+  pub others : (m : ℕ) → m ≢ n → new m ≡ old m
+
+-- none waits in a level
+pub record IsNone (old new : Levels) (n : ℕ) : Type 0 where
+  pub here : old n ≡ []
+  pub same : (m : ℕ) → new m ≡ old m
+
+-- blocks were added to levels below n, where light comes to them
+pub record IsGrown (g : Terrain) (c : ChunkPos) (n : ℕ) (old new : Levels) : Type 0 where
+  pub kept : (v : ℕ) (q : Pos) → Contains (old v) q → Contains (new v) q
+  pub only : (v : ℕ) (q : Pos) → Contains (new v) q → Contains (old v) q ⊎ ((v < n) × IsSoundAt g c v q)
+
+-- light of level n that is at p has come to q
+pub record IsOffered (t : Terrain) (c : ChunkPos) (n : ℕ) (lit : Pos → ℕ) (todo : Levels) (q : Pos) : Type 0 where
+  pub has : IsTrue (t.loaded q) → (v : ℕ) → 0 < v → v + cost t q ≡ n → Matters c v q → Has lit todo q v
+
+-- a block was given light
+abbrev pub IsSettled : (Pos → ℕ) → (Pos → ℕ) → Pos → ℕ → Type 0
+IsSettled old new p n = (q : Pos) → new q ≡ (if same_pos q p then n else old q)
+
+-- the blocks that wait in each level
+abbrev pub todo_of : Buckets → Levels
+todo_of b n = slice_index_or (map (λ v. v.items) b.levels.items) n []
+
+-- so many wait in a level
+abbrev pub count_in : Buckets → ℕ → ℕ
+count_in b n = length (todo_of b n)
+
+-- if it emits light that may come to the chunk it waits for it
+pub record IsReady (t : Terrain) (c : ChunkPos) (todo : Levels) (p : Pos) : Type 0 where
+  pub ready : IsTrue (t.loaded p) → 0 < t.emission p → Matters c (t.emission p) p → Contains (todo (t.emission p)) p
+
+-- all that emit light that may come to the chunk wait for it
+pub record IsStarted (t : Terrain) (c : ChunkPos) (todo : Levels) : Type 0 where
+  pub emits : (p : Pos) → IsTrue (t.loaded p) → 0 < t.emission p → Matters c (t.emission p) p → Contains (todo (t.emission p)) p
+  pub sound : (v : ℕ) (p : Pos) → Contains (todo v) p → IsSoundAt t c v p
+  pub low : (v : ℕ) (p : Pos) → Contains (todo v) p → v ≤ 15

@@ -1,0 +1,5 @@
+pub mod Offsets
+pub mod Light
+pub mod Flooding
+pub mod Board
+pub mod Blocks

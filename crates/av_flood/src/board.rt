@@ -1,0 +1,268 @@
+//! The board of a flood: blocks with their light.
+ghost use Rattle.std.specs.Prelude.{◌≡◌, ◌≤◌, ◌<◌, ◌+◌, ◌*◌, ℕ, pos, ◌+ℤ◌, ◌≤ℤ◌, ◌<ℤ◌, IsTrue, MatchOption, IfOk, vec_len, true, false, count_by, nat_le, if◌then◌else◌, All, length, slice_index, ◌-◌, ◌/◌, ◌%◌, OnOk, replicate, slice_range};
+ghost use Rattle.std.proofs.Props.{props};
+ghost use Rattle.av_types.specs.declared.place.Pos.{Pos};
+ghost use Rattle.av_flood.specs.Offsets.{IsNth, IsBeyond};
+
+use av_types::{ChunkPos, Height, Pos};
+use std::alloc::{AllocError, Global};
+
+/// The board of a flood: the light of a chunk's blocks and of those up to 14 blocks west, east, north and south of it,
+/// over the whole height. That is as far as light goes.
+#[derive(Drop)]
+pub struct Flood {
+    /// The chunk in the middle.
+    pub(crate) chunk: ChunkPos,
+    /// The world's height.
+    pub(crate) height: Height,
+    /// A byte for each block, x within z within y: below 128 the light that it waits for, from 128 on its light and 128.
+    light: Vec<u8>,
+    /// How many blocks have their light.
+    count: u32,
+    ghost long: { vec_len light ≡ 30976 * height.sections },
+    ghost counted: { count ≡ count_by (λ n. nat_le 128 n) light.items },
+    ghost dim: { All (λ n. n < 144) light.items } by { Prim.hlevel props },
+}
+
+/// A number that is not negative.
+fn natural(number: i64) -> u32
+    requires low { pos 0 ≤ℤ number }
+    requires high { number <ℤ pos 4294967296 }
+    ensures { number ≡ pos result }
+{
+    number as u32
+}
+
+/// So many bytes of 0.
+fn zeros(alloc: Global, count: usize) -> Result<Vec<u8>, AllocError>
+    ensures { IfOk result (λ bytes. bytes.items ≡ replicate count 0) }
+{
+    let bytes = vec![in alloc; 0; count]?;
+    Ok(bytes)
+}
+
+/// The light of two blocks in one byte, that of the first in its low half.
+fn two_halves(first: u8, second: u8) -> u8
+    requires first { first < 144 }
+    requires second { second < 144 }
+    ensures low { result % 16 ≡ first - 128 }
+    ensures high { result / 16 ≡ second - 128 }
+{
+    first.saturating_sub(128) + 16 * second.saturating_sub(128)
+}
+
+impl Flood {
+    ghost use Rattle.av_flood.specs.Board.{corner, is_on, byte_of, light_of, is_settled, settled_count, light_at, HasLightSoFar, IsOff, IsPlace};
+    ghost use Rattle.av_flood.specs.Flooding.{IsSettled, same_pos};
+
+    /// A board on which no block has light yet.
+    ///
+    /// # Errors
+    /// A growth was refused.
+    pub fn new(alloc: Global, chunk: ChunkPos, height: Height) -> Result<Flood, AllocError>
+        ensures chunk { IfOk result (λ f. f.chunk ≡ chunk) }
+        ensures height { IfOk result (λ f. f.height ≡ height) }
+        ensures dark { IfOk result (λ f. (p : Pos) → byte_of f p ≡ 0) }
+        ensures none { IfOk result (λ f. settled_count f ≡ 0) }
+    {
+        Ok(Flood {
+            chunk,
+            height,
+            light: vec![in alloc; 0; 30976 * height.sections as usize]?,
+            count: 0,
+        })
+    }
+
+    /// How many blocks it is from the board's west end.
+    fn along_x(&self, pos: Pos) -> Option<u32>
+        ensures { MatchOption result (IsBeyond (corner self.now.chunk self.now.height).x 44 pos.x)
+            (IsNth (corner self.now.chunk self.now.height).x 44 pos.x) }
+    {
+        let steps = i64::from(pos.x) - (16 * i64::from(self.chunk.x) - 14);
+        if steps < 0 || 44 <= steps {
+            return None;
+        }
+        Some(natural(steps))
+    }
+
+    /// How many blocks it is from the board's north end.
+    fn along_z(&self, pos: Pos) -> Option<u32>
+        ensures { MatchOption result (IsBeyond (corner self.now.chunk self.now.height).z 44 pos.z)
+            (IsNth (corner self.now.chunk self.now.height).z 44 pos.z) }
+    {
+        let steps = i64::from(pos.z) - (16 * i64::from(self.chunk.z) - 14);
+        if steps < 0 || 44 <= steps {
+            return None;
+        }
+        Some(natural(steps))
+    }
+
+    /// How many blocks it is from the board's bottom.
+    fn along_y(&self, pos: Pos) -> Option<u32>
+        ensures { MatchOption result (IsBeyond (corner self.now.chunk self.now.height).y (16 * self.now.height.sections) pos.y)
+            (IsNth (corner self.now.chunk self.now.height).y (16 * self.now.height.sections) pos.y) }
+    {
+        let steps = i64::from(pos.y) - 16 * i64::from(self.height.min_section);
+        let size = 16 * i64::from(self.height.sections);
+        if steps < 0 {
+            return None;
+        }
+        if size <= steps {
+            return None;
+        }
+        Some(natural(steps))
+    }
+
+    /// Where a block's light stands, if it is one of the board.
+    fn index(&self, pos: Pos) -> Option<usize>
+        ensures { MatchOption result (IsOff self.now.chunk self.now.height pos) (IsPlace self.now.chunk self.now.height pos) }
+    {
+        let x = self.along_x(pos)?;
+        let z = self.along_z(pos)?;
+        let y = self.along_y(pos)?;
+        Some((44 * (44 * y + z) + x) as usize)
+    }
+
+    /// Whether a block is one of the board.
+    pub fn is_on(&self, pos: Pos) -> bool
+        ensures { result ≡ is_on self.now.chunk self.now.height pos }
+    {
+        self.index(pos).is_some()
+    }
+
+    /// The byte of a block of the board.
+    pub(crate) fn byte(&self, pos: Pos) -> u8
+        ensures { result ≡ byte_of self.now pos }
+    {
+        match self.index(pos) {
+            Some(index) => self.light[index],
+            None => 0,
+        }
+    }
+
+    /// The light of a block, from 0 to 15. It is 0 where the block is not settled, or none of the board.
+    pub fn light(&self, pos: Pos) -> u8
+        ensures value { result ≡ light_of self.now pos }
+        ensures unsettled { is_settled self.now pos ≡ false → result ≡ 0 }
+        ensures most { result ≤ 15 }
+    {
+        self.byte(pos).saturating_sub(128)
+    }
+
+    /// Whether a block has its light.
+    pub fn is_settled(&self, pos: Pos) -> bool
+        ensures { result ≡ is_settled self.now pos }
+    {
+        self.byte(pos) >= 128
+    }
+
+    /// Notes the light that a block waits for.
+    pub(crate) fn mark(&mut self, pos: Pos, level: u8)
+        requires on { IsTrue (is_on self.old.chunk self.old.height pos) }
+        requires unsettled { byte_of self.old pos < 128 }
+        requires level { level ≤ 15 }
+        ensures bytes { IsSettled (byte_of self.old) (byte_of self.new) pos level }
+        ensures chunk { self.new.chunk ≡ self.old.chunk }
+        ensures height { self.new.height ≡ self.old.height }
+    {
+        if let Some(index) = self.index(pos) {
+            self.light[index] = level;
+        }
+    }
+
+    /// Gives a block of the board its light, once. No other call does.
+    pub fn settle(&mut self, pos: Pos, level: u8)
+        requires on { IsTrue (is_on self.old.chunk self.old.height pos) }
+        requires unsettled { is_settled self.old pos ≡ false }
+        requires level { level ≤ 15 }
+        ensures light { (q : Pos) → light_of self.new q ≡ (if same_pos q pos then level else light_of self.old q) }
+        ensures settled { (q : Pos) → is_settled self.new q ≡ (if same_pos q pos then true else is_settled self.old q) }
+        ensures count { settled_count self.new ≡ settled_count self.old + 1 }
+        ensures chunk { self.new.chunk ≡ self.old.chunk }
+        ensures height { self.new.height ≡ self.old.height }
+        ensures bytes { IsSettled (byte_of self.old) (byte_of self.new) pos (128 + level) }
+    {
+        if let Some(index) = self.index(pos) {
+            self.light[index] = 128 + level;
+            self.count += 1;
+        }
+    }
+
+    /// How many blocks have their light.
+    pub fn settled(&self) -> u32
+        ensures count { result ≡ settled_count self.now }
+        ensures most { result ≤ 30976 * self.now.height.sections }
+        ensures none { result ≡ 0 → (p : Pos) → light_of self.now p ≡ 0 }
+    {
+        self.count
+    }
+
+    /// Sixteen bytes from one on.
+    fn sixteen(&self, start: usize) -> &[u8]
+        requires { start + 16 ≤ vec_len self.now.light }
+        ensures value { result.now ≡ slice_range self.now.light.items start (start + 16) }
+        ensures length { length result.now ≡ 16 }
+    {
+        &self.light[start..start + 16]
+    }
+
+    /// The bytes of sixteen blocks of the chunk in a row from west to east, so many blocks from its bottom and north end.
+    fn row(&self, y: u32, z: u32) -> &[u8]
+        requires y { y < 16 * self.now.height.sections }
+        requires z { z < 16 }
+        ensures length { length result.now ≡ 16 }
+        ensures light { (x : ℕ) → x < 16 → slice_index result.now x - 128 ≡ light_at self.now (256 * y + 16 * z + x) }
+        ensures dim { All (λ n. n < 144) result.now }
+    {
+        self.sixteen((44 * (44 * y + z + 14) + 14) as usize)
+    }
+
+    /// Appends the light of a row of the chunk's blocks.
+    fn push_row(&self, y: u32, z: u32, bytes: &mut Vec<u8>) -> Result<(), AllocError>
+        requires y { y < 16 * self.now.height.sections }
+        requires z { z < 16 }
+        requires before { vec_len bytes.old ≡ 128 * y + 8 * z }
+        requires halves { HasLightSoFar (light_at self.now) bytes.old.items }
+        ensures count { OnOk result (vec_len bytes.new ≡ 128 * y + 8 * z + 8) }
+        ensures halves { OnOk result (HasLightSoFar (light_at self.now) bytes.new.items) }
+    {
+        let row = self.row(y, z);
+        for pair in 0..8usize {
+            bytes.push(two_halves(row[2 * pair], row[2 * pair + 1]))?;
+        }
+        Ok(())
+    }
+
+    /// Appends the light of a layer of the chunk's blocks.
+    fn push_layer(&self, y: u32, bytes: &mut Vec<u8>) -> Result<(), AllocError>
+        requires y { y < 16 * self.now.height.sections }
+        requires before { vec_len bytes.old ≡ 128 * y }
+        requires halves { HasLightSoFar (light_at self.now) bytes.old.items }
+        ensures count { OnOk result (vec_len bytes.new ≡ 128 * y + 128) }
+        ensures halves { OnOk result (HasLightSoFar (light_at self.now) bytes.new.items) }
+    {
+        for z in 0..16 {
+            self.push_row(y, z, bytes)?;
+        }
+        Ok(())
+    }
+
+    /// The light of the chunk's blocks, a half byte each, x within z within y, the lowest layer first.
+    ///
+    /// # Errors
+    /// A growth was refused.
+    pub fn half_bytes(&self, alloc: Global) -> Result<Vec<u8>, AllocError>
+        ensures count { IfOk result (λ bytes. vec_len bytes ≡ 2048 * self.now.height.sections) }
+        ensures halves { IfOk result (λ bytes. HasLightSoFar (light_at self.now) bytes.items) }
+    {
+        if self.count == 0 {
+            let dark = zeros(alloc, 2048 * self.height.sections as usize)?;
+            return Ok(dark);
+        }
+        let mut bytes = Vec::with_capacity(alloc, 2048 * self.height.sections as usize)?;
+        for y in 0..16 * self.height.sections {
+            self.push_layer(y, &mut bytes)?;
+        }
+        Ok(bytes)
+    }
+}

@@ -1,0 +1,47 @@
+//! Blocks that wait for light, by its level.
+ghost use Rattle.std.specs.Prelude.{◌≡◌, ◌<◌, ◌+◌, ◌≢◌, ℕ, vec_len, OnOk, MatchOption, IfOk, length, [], ◌++◌, ◌∷◌, Contains};
+ghost use Rattle.av_types.specs.declared.place.Pos.{Pos};
+
+use av_types::Pos;
+use std::alloc::{AllocError, Global};
+
+/// The blocks that wait for light of each level, from 0 to 15.
+#[derive(Drop)]
+pub struct Buckets {
+    pub levels: Vec<Vec<Pos>>,
+    ghost sixteen: { vec_len levels ≡ 16 },
+}
+
+impl Buckets {
+    ghost use Rattle.av_flood.specs.Flooding.{todo_of, IsPushed, IsPopped, IsNone};
+
+    /// None waits.
+    pub fn new(alloc: Global) -> Result<Buckets, AllocError>
+        ensures { IfOk result (λ b. (n : ℕ) → todo_of b n ≡ []) }
+    {
+        let mut levels = Vec::new(alloc);
+        for _level in 0..16u8 {
+            levels.push(Vec::new(alloc))?;
+        }
+        Ok(Buckets { levels })
+    }
+
+    /// Adds a block.
+    pub fn push(&mut self, level: u8, pos: Pos) -> Result<(), AllocError>
+        requires { level < 16 }
+        ensures { OnOk result (IsPushed (todo_of self.old) (todo_of self.new) level pos) }
+    {
+        let bucket = &mut self.levels[level as usize];
+        bucket.push(pos)?;
+        Ok(())
+    }
+
+    /// Takes a block out.
+    pub fn pop(&mut self, level: u8) -> Option<Pos>
+        requires { level < 16 }
+        ensures { MatchOption result (IsNone (todo_of self.old) (todo_of self.new) level) (IsPopped (todo_of self.old) (todo_of self.new) level) }
+    {
+        let bucket = &mut self.levels[level as usize];
+        bucket.pop()
+    }
+}

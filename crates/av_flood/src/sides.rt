@@ -1,0 +1,93 @@
+//! The blocks that share a face with a block.
+ghost use Rattle.std.specs.Prelude.{◌≡◌};
+ghost use Rattle.av_flood.specs.Light.{sides, below, above, north, south, west, east};
+ghost use Rattle.av_flood.specs.Blocks.{IsInner};
+
+use av_types::Pos;
+
+/// The block below it.
+fn below(pos: Pos) -> Pos
+    requires { IsInner pos }
+    ensures { result ≡ below pos }
+{
+    Pos {
+        x: pos.x,
+        y: pos.y - 1,
+        z: pos.z,
+    }
+}
+
+/// The block above it.
+fn above(pos: Pos) -> Pos
+    requires { IsInner pos }
+    ensures { result ≡ above pos }
+{
+    Pos {
+        x: pos.x,
+        y: pos.y + 1,
+        z: pos.z,
+    }
+}
+
+/// The block north of it.
+fn north(pos: Pos) -> Pos
+    requires { IsInner pos }
+    ensures { result ≡ north pos }
+{
+    Pos {
+        x: pos.x,
+        y: pos.y,
+        z: pos.z - 1,
+    }
+}
+
+/// The block south of it.
+fn south(pos: Pos) -> Pos
+    requires { IsInner pos }
+    ensures { result ≡ south pos }
+{
+    Pos {
+        x: pos.x,
+        y: pos.y,
+        z: pos.z + 1,
+    }
+}
+
+/// The block west of it.
+fn west(pos: Pos) -> Pos
+    requires { IsInner pos }
+    ensures { result ≡ west pos }
+{
+    Pos {
+        x: pos.x - 1,
+        y: pos.y,
+        z: pos.z,
+    }
+}
+
+/// The block east of it.
+fn east(pos: Pos) -> Pos
+    requires { IsInner pos }
+    ensures { result ≡ east pos }
+{
+    Pos {
+        x: pos.x + 1,
+        y: pos.y,
+        z: pos.z,
+    }
+}
+
+/// The blocks that share a face with a block.
+pub(crate) fn sides(pos: Pos) -> [Pos; 6]
+    requires { IsInner pos }
+    ensures { result ≡ sides pos }
+{
+    [
+        below(pos),
+        above(pos),
+        north(pos),
+        south(pos),
+        west(pos),
+        east(pos),
+    ]
+}

@@ -1,0 +1,131 @@
+-- Chunks of regions: each index is that of its chunk alone.
+use Rattle.std.proofs.Common.{◌≡◌, ◌≢◌, ◌∙◌, ℕ, zero, suc, ◌+◌, ◌-◌, ◌*◌, ◌<◌, ◌≤◌, ◌/◌, ◌%◌, ℤ, pos, negsuc, ◌+ℤ◌, ◌*ℤ◌, List, [], ◌∷◌, ◌++◌, length, Bool, true, false, cond, Option, Some, None, refl, ap, sym, subst, arith}
+use Rattle.std.specs.List.{slice_get, flat_map}
+use Rattle.std.proofs.lemmas.Int.{ints}
+use Rattle.std.proofs.lemmas.Bool.{and_from, false≢true}
+use Rattle.std.proofs.lemmas.Option.{none-some}
+use Rattle.std.proofs.lemmas.Bool.Decides.{Decides-int_eq}
+use Rattle.av_types.specs.Division.{divided, remainder}
+use Rattle.av_types.specs.Places.{region_of, index_of, chunk_at}
+use Rattle.av_types.specs.declared.place.ChunkPos.{ChunkPos}
+use Rattle.av_types.specs.declared.place.RegionPos.{RegionPos}
+use Rattle.av_chunk.specs.declared.chunk.Chunk.{Chunk}
+use Rattle.av_cells.specs.Positions.{same_chunk}
+use Rattle.av_land.proofs.Kept.{same_chunk_is}
+use Rattle.av_files.specs.Files.{same_region}
+use Rattle.av_files.proofs.Coordinates.{same_region_is}
+use Rattle.av_world.proofs.Search.{same_chunk_self}
+use Rattle.av_image.specs.declared.places.Place.{Place}
+use Rattle.av_image.specs.declared.places.Place.TheVariants.{Absent, Kept, Full}
+use Rattle.av_image.specs.declared.regions.ReadRegion.{ReadRegion}
+use Rattle.av_image.specs.declared.splits.Placed.{Placed}
+use Rattle.av_image.specs.Splits.{placed_of, placed_from, placed_in, chunk_found}
+use Rattle.av_image.proofs.Worlds.{found_append, first_some}
+
+pub same_region_self : (r : RegionPos) → same_region r r ≡ true
+same_region_self r = and_from _ _ ((Decides-int_eq r.x r.x).1 refl) ((Decides-int_eq r.z r.z).1 refl)
+
+pub other_region : (a b : RegionPos) → same_region a b ≡ false → same_region b a ≡ false
+other_region a b h = by (same_region b a) refl where
+  by : (t : Bool) → same_region b a ≡ t → t ≡ false
+  by true e = absurd (false≢true (sym h ∙ (ap (λ x. same_region x b) (sym (same_region_is b a e)) ∙ same_region_self b)))
+  by false e = refl
+
+below_zero_is : (n j : ℕ) → j < 32 → pos 32 *ℤ negsuc n +ℤ pos j ≡ negsuc (n * 32 + (31 - j))
+below_zero_is n j h = omega (arith, ints)
+
+region_part : (r : ℤ) (j : ℕ) → j < 32 → divided (pos 32 *ℤ r +ℤ pos j) 32 ≡ r
+region_part (pos n) j less = omega (arith, ints)
+region_part (negsuc n) j less =
+    let e : (n * 32 + (31 - j)) / 32 ≡ n = omega arith in
+    ap (λ z. divided z 32) (below_zero_is n j less) ∙ ap negsuc e
+
+index_part : (r : ℤ) (j : ℕ) → j < 32 → remainder (pos 32 *ℤ r +ℤ pos j) 32 ≡ j
+index_part (pos n) j less = omega (arith, ints)
+index_part (negsuc n) j less = ap (λ z. remainder z 32) (below_zero_is n j less) ∙ rest where
+  rest : remainder (negsuc (n * 32 + (31 - j))) 32 ≡ j
+  rest = omega (arith, less)
+
+pub region_back : (region : RegionPos) (i : ℕ) → i < 1024 → region_of (chunk_at region i) ≡ region
+region_back region i less =
+    let x = region_part region.x (i % 32) (omega arith) in
+    let z = region_part region.z (i / 32) (omega arith) in
+    λ j. record { x = x j; z = z j }
+
+pub index_back : (region : RegionPos) (i : ℕ) → i < 1024 → index_of (chunk_at region i) ≡ i
+index_back region i less =
+    let x = index_part region.x (i % 32) (omega arith) in
+    let z = index_part region.z (i / 32) (omega arith) in
+    let whole : i % 32 + 32 * (i / 32) ≡ i = omega arith in
+    ap (λ a. a + 32 * remainder (pos 32 *ℤ region.z +ℤ pos (i / 32)) 32) x ∙ (ap (λ b. i % 32 + 32 * b) z ∙ whole)
+
+pub apart_at : (r : RegionPos) (i j : ℕ) → i < 1024 → j < 1024 → i ≢ j → same_chunk (chunk_at r i) (chunk_at r j) ≡ false
+apart_at r i j li lj not = by (same_chunk (chunk_at r i) (chunk_at r j)) refl where
+  by : (t : Bool) → same_chunk (chunk_at r i) (chunk_at r j) ≡ t → t ≡ false
+  by true e = absurd (not (sym (index_back r i li) ∙ (ap index_of (same_chunk_is (chunk_at r i) (chunk_at r j) e) ∙ index_back r j lj)))
+  by false e = refl
+
+pub away_at : (r : RegionPos) (i : ℕ) (c : ChunkPos) → i < 1024 → same_region r (region_of c) ≡ false → same_chunk (chunk_at r i) c ≡ false
+away_at r i c li away = by (same_chunk (chunk_at r i) c) refl where
+  by : (t : Bool) → same_chunk (chunk_at r i) c ≡ t → t ≡ false
+  by true e = absurd (false≢true (sym away ∙ (ap (λ x. same_region r x) (ap region_of (sym (same_chunk_is (chunk_at r i) c e)) ∙ region_back r i li) ∙ same_region_self r)))
+  by false e = refl
+
+-- ---- chunks found among those of places
+
+abbrev pub chunk_in : Option Place → Option Chunk
+chunk_in None = None
+chunk_in (Some Absent) = None
+chunk_in (Some (Kept p)) = None
+chunk_in (Some (Full chunk rest)) = Some chunk
+
+of_other : (c d : ChunkPos) (p : Place) → same_chunk c d ≡ false → chunk_found (placed_of c p) d ≡ None
+of_other c d Absent e = refl
+of_other c d (Kept p) e = refl
+of_other c d (Full chunk rest) e = ap (λ b. cond b (Some chunk) None) e
+
+of_own : (c : ChunkPos) (p : Place) → chunk_found (placed_of c p) c ≡ chunk_in (Some p)
+of_own c Absent = refl
+of_own c (Kept p) = refl
+of_own c (Full chunk rest) = ap (λ b. cond b (Some chunk) None) (same_chunk_self c)
+
+pub found_none_of : (xs ys : List Placed) (c : ChunkPos) → chunk_found xs c ≡ None → chunk_found (xs ++ ys) c ≡ chunk_found ys c
+found_none_of xs ys c e = found_append xs ys c ∙ ap (λ o. first_some o (chunk_found ys c)) e
+
+-- those of another region
+pub found_away : (r : RegionPos) (n : ℕ) (ps : List Place) (c : ChunkPos) → n + length ps ≤ 1024 → same_region r (region_of c) ≡ false → chunk_found (placed_from r n ps) c ≡ None
+found_away r n [] c few away = refl
+found_away r n (p ∷ ps) c few away =
+    let li : n < 1024 = omega (arith, few) in
+    let m : (n + 1) + length ps ≤ 1024 = omega (arith, few) in
+    found_none_of (placed_of (chunk_at r n) p) (placed_from r (n + 1) ps) c (of_other (chunk_at r n) c p (away_at r n c li away)) ∙ found_away r (n + 1) ps c m away
+
+pub found_before : (r : RegionPos) (n : ℕ) (ps : List Place) (i : ℕ) → n + length ps ≤ 1024 → i < 1024 → i < n → chunk_found (placed_from r n ps) (chunk_at r i) ≡ None
+found_before r n [] i few li lt = refl
+found_before r n (p ∷ ps) i few li lt =
+    let ln : n < 1024 = omega (arith, few) in
+    let not : n ≢ i = λ e. omega (arith, e, lt) in
+    let m : (n + 1) + length ps ≤ 1024 = omega (arith, few) in
+    let lt' : i < n + 1 = omega (arith, lt) in
+    found_none_of (placed_of (chunk_at r n) p) (placed_from r (n + 1) ps) (chunk_at r i) (of_other (chunk_at r n) (chunk_at r i) p (apart_at r n i ln li not)) ∙ found_before r (n + 1) ps i m li lt'
+
+pub or_none : (o : Option Chunk) → first_some o None ≡ o
+or_none None = refl
+or_none (Some x) = refl
+
+pub found_from : (r : RegionPos) (n : ℕ) (ps : List Place) (k i : ℕ) → n + length ps ≤ 1024 → n + k ≡ i → i < 1024 → chunk_found (placed_from r n ps) (chunk_at r i) ≡ chunk_in (slice_get ps k)
+found_from r n [] k i few is li = refl
+found_from r n (p ∷ ps) zero i few is li =
+    let same : n ≡ i = omega (arith, is) in
+    let m : (n + 1) + length ps ≤ 1024 = omega (arith, few) in
+    let lt : i < n + 1 = omega (arith, is) in
+    found_append (placed_of (chunk_at r n) p) (placed_from r (n + 1) ps) (chunk_at r i)
+    ∙ (ap (λ o. first_some (chunk_found (placed_of (chunk_at r n) p) (chunk_at r i)) o) (found_before r (n + 1) ps i m li lt)
+    ∙ (or_none (chunk_found (placed_of (chunk_at r n) p) (chunk_at r i))
+    ∙ (ap (λ j. chunk_found (placed_of (chunk_at r j) p) (chunk_at r i)) same ∙ of_own (chunk_at r i) p)))
+found_from r n (p ∷ ps) (suc k) i few is li =
+    let ln : n < 1024 = omega (arith, few) in
+    let not : n ≢ i = λ e. omega (arith, e, is) in
+    let m : (n + 1) + length ps ≤ 1024 = omega (arith, few) in
+    let next : (n + 1) + k ≡ i = omega (arith, is) in
+    found_none_of (placed_of (chunk_at r n) p) (placed_from r (n + 1) ps) (chunk_at r i) (of_other (chunk_at r n) (chunk_at r i) p (apart_at r n i ln li not)) ∙ found_from r (n + 1) ps k i m next li

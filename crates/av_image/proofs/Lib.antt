@@ -1,0 +1,14 @@
+pub mod OnePlace
+pub mod Growing
+pub mod Ways
+pub mod Worlds
+pub mod Back
+pub mod OneSlot
+pub mod Sorting
+pub mod Rises
+pub mod Denoted
+pub mod Loads
+pub mod SameChunk
+pub mod OneChunk
+pub mod Written
+pub mod Ready

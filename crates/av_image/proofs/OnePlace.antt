@@ -1,0 +1,37 @@
+-- One place that was read, and places that were read while the table grows.
+use Rattle.std.proofs.Common.{◌≡◌, ◌≢◌, ℕ, ◌+◌, ◌<◌, List, [], ◌∷◌, ◌++◌, length, true, false, Option, Some, None, refl, ap, sym, subst, ◌∙◌, slice_get, if◌then◌else◌}
+use Rattle.av_types.specs.Places.{chunk_at}
+use Rattle.av_types.specs.declared.place.Height.{Height}
+use Rattle.av_types.specs.declared.place.ChunkPos.{ChunkPos}
+use Rattle.av_types.specs.declared.fault.Fault.{Fault}
+use Rattle.av_region.specs.Region.{Holds}
+use Rattle.av_state.specs.BlockState.{BlockState}
+use Rattle.av_state.specs.StateList.{with_states}
+use Rattle.av_section.specs.Reading.{OnlyGrows}
+use Rattle.av_document.specs.Chunk.{root_tags, is_full, all_states}
+use Rattle.av_chunk.proofs.Slots.{OnlyGrows-trans}
+use Rattle.av_files.specs.Files.{File}
+use Rattle.av_files.specs.FirstFault.{IsPlaceFault, IsPlaceGood, sectors, spelling, document, nothing, chunk, states_read}
+use Rattle.av_image.specs.declared.places.Place.{Place}
+use Rattle.av_image.specs.declared.places.Place.TheVariants.{Absent, Kept, Full}
+use Rattle.av_image.specs.Placed.{IsPayloadRefused, no_spelling, bad_document, IsPlaceRead, WasPlaceRead, WerePlacesRead}
+
+pub place_refused : (h : Height) (old : List BlockState) (file payload : List ℕ) (c : ChunkPos) (i : ℕ) (e : Fault) → Holds file i payload → IsPayloadRefused h old payload c e → IsPlaceFault h old file c i e
+place_refused h old file payload c i e held (no_spelling none is) = spelling payload held none is
+place_refused h old file payload c i e held (bad_document d spelled fault) = document payload d held spelled fault
+
+states_if : (h : Height) (old new all : List BlockState) (b c : _) → b ≡ c → new ≡ with_states old (if c then all else []) → new ≡ with_states old (if b then all else [])
+states_if h old new all b c e s = rw e s
+
+pub good_place : (h : Height) (old new : List BlockState) (file : List ℕ) (c : ChunkPos) (i : ℕ) (p : Place) → IsPlaceRead h old new file c i p → IsPlaceGood h old file c i new
+good_place h old new file c i Absent r = nothing r.nothing r.same
+good_place h old new file c i (Kept same) r =
+    chunk r.payload r.read.document r.holds r.read.spelled r.read.kept.no_fault (rw r.read.kept.not_full r.read.kept.states)
+good_place h old new file c i (Full a b) r =
+    chunk r.payload r.read.document r.holds r.read.spelled r.read.loaded.no_fault (rw r.read.loaded.denotes.full r.read.loaded.states)
+
+pub place_grown : (h : Height) (old new : List BlockState) (file : List ℕ) (c : ChunkPos) (i : ℕ) (p : Place) → OnlyGrows old new → WasPlaceRead h old file c i p → WasPlaceRead h new file c i p
+place_grown h old new file c i p more r = record { old = r.old; new = r.new; read = r.read; grown = OnlyGrows-trans r.new old new r.grown more }
+
+pub places_grown : (h : Height) (old new : List BlockState) (f : File) (n : ℕ) (places : List Place) → OnlyGrows old new → WerePlacesRead h old f n places → WerePlacesRead h new f n places
+places_grown h old new f n places more r = record { many = r.many; each = λ i p e. place_grown h old new f.bytes (chunk_at f.pos i) i p more (r.each i p e) }

@@ -1,0 +1,105 @@
+-- Steps of the loops over places and files.
+use Rattle.std.proofs.Common.{◌≡◌, ◌≢◌, ℕ, ◌+◌, ◌-◌, ◌<◌, List, [], ◌∷◌, ◌++◌, length, Option, Some, None, refl, ap, sym, subst, ◌∙◌, slice_get, suc, inl, inr, append-nil, arith}
+use Rattle.std.specs.List.{range_with_len}
+use Rattle.std.proofs.lemmas.Option.{none-some}
+use Rattle.av_types.specs.Places.{chunk_at}
+use Rattle.av_types.specs.declared.place.Height.{Height}
+use Rattle.av_types.specs.declared.fault.Fault.{Fault}
+use Rattle.av_state.specs.BlockState.{BlockState}
+use Rattle.av_section.specs.Reading.{OnlyGrows}
+use Rattle.av_chunk.proofs.Slots.{OnlyGrows-trans}
+use Rattle.av_files.specs.Files.{File}
+use Rattle.av_files.specs.Layout.{indices}
+use Rattle.av_files.specs.FirstFault.{IsPlaceFault, IsPlaceGood, IsFileGood, IsFirstOfFile, IsFirstOfFiles, IsFirstOfPlaces, ArePlacesGood, AreFilesGood}
+use Rattle.av_image.specs.declared.places.Place.{Place}
+use Rattle.av_image.specs.declared.regions.ReadRegion.{ReadRegion}
+use Rattle.av_image.specs.Placed.{IsPlaceRead, WasPlaceRead, WerePlacesRead, ArePlacesRead, WasRegionRead, IsRegionRead, WereRegionsRead, AreRegionsRead}
+use Rattle.av_image.specs.Ways.{IsPlacesWay, PlacesSoFar, IsFilesWay, FilesSoFar}
+use Rattle.av_image.proofs.OnePlace.{good_place, places_grown}
+use Rattle.av_image.proofs.Growing.{pushed_each, one_longer}
+
+pub grows_nothing : (t : List BlockState) → OnlyGrows t t
+grows_nothing t = record { more = []; grown = sym (append-nil t) }
+
+-- ---- places
+
+way_step : (h : Height) (f : File) (start table next : List BlockState) (all left : List ℕ) (i : ℕ) → IsPlacesWay h f start table all (i ∷ left) → IsPlaceGood h table f.bytes (chunk_at f.pos i) i next → IsPlacesWay h f start next all left
+way_step h f start table next all left i w g = record {
+  good = λ new rest. w.good new (next, g, rest);
+  first = λ e rest. w.first e (inr (next, g, rest));
+}
+
+range_step : (n m : ℕ) → n < m → range_with_len n (m - n) ≡ n ∷ range_with_len (n + 1) (m - (n + 1))
+range_step n m lt = let e : m - n ≡ suc (m - (n + 1)) = omega (arith, lt) in ap (range_with_len n) e
+
+pub places_none : (h : Height) (f : File) (start : List BlockState) → PlacesSoFar h f start start 0 []
+places_none h f start = record {
+  way = record { good = λ new g. g; first = λ e g. g };
+  each = record { many = refl; each = λ i y e. absurd (none-some y e) };
+  grown = grows_nothing start;
+}
+
+pub places_more : (h : Height) (f : File) (start table next : List BlockState) (n : ℕ) (places after : List Place) (p : Place) → n < 1024 → after ≡ places ++ p ∷ []
+    → PlacesSoFar h f start table n places → IsPlaceRead h table next f.bytes (chunk_at f.pos n) n p → OnlyGrows table next → PlacesSoFar h f start next (n + 1) after
+places_more h f start table next n places after p lt is s r more = subst (λ (xs : List Place). PlacesSoFar h f start next (n + 1) xs) (sym is) (record {
+  way = way_step h f start table next indices (range_with_len (n + 1) (1024 - (n + 1))) n
+      (subst (λ l. IsPlacesWay h f start table indices l) (range_step n 1024 lt) s.way)
+      (good_place h table next f.bytes (chunk_at f.pos n) n p r);
+  each =
+      let old = places_grown h table next f n places more s.each in
+      record {
+        many = one_longer places p n s.each.many;
+        each = pushed_each (λ i q. WasPlaceRead h next f.bytes (chunk_at f.pos i) i q) places p n s.each.many (record { old = table; new = next; read = r; grown = grows_nothing next }) old.each;
+      };
+  grown = OnlyGrows-trans start table next s.grown more;
+})
+
+pub places_all : (h : Height) (f : File) (start table : List BlockState) (places : List Place) → PlacesSoFar h f start table 1024 places → ArePlacesRead h start table f places
+places_all h f start table places s = record { good = s.way.good table refl; each = s.each }
+
+pub places_stop : (h : Height) (f : File) (start table : List BlockState) (n : ℕ) (places : List Place) (e : Fault) → n < 1024 → PlacesSoFar h f start table n places
+    → IsPlaceFault h table f.bytes (chunk_at f.pos n) n e → IsFirstOfPlaces h start f indices e
+places_stop h f start table n places e lt s bad =
+    let w = subst (λ l. IsPlacesWay h f start table indices l) (range_step n 1024 lt) s.way in
+    w.first e (inl bad)
+
+-- ---- files
+
+region_grown : (h : Height) (old new : List BlockState) (f : File) (r : ReadRegion) → OnlyGrows old new → WasRegionRead h old f r → WasRegionRead h new f r
+region_grown h old new f r more w = record { pos_is = w.pos_is; limits = w.limits; whole = w.whole; stamps_are = w.stamps_are; small = w.small; places_are = places_grown h old new f 1024 r.places.items more w.places_are }
+
+regions_grown : (h : Height) (old new : List BlockState) (fs : List File) (rs : List ReadRegion) → OnlyGrows old new → WereRegionsRead h old fs rs → WereRegionsRead h new fs rs
+regions_grown h old new [] [] more w = tt
+regions_grown h old new (f ∷ fs) (r ∷ rs) more w = (region_grown h old new f r more w.0, regions_grown h old new fs rs more w.1)
+regions_grown h old new [] (r ∷ rs) more w = w
+regions_grown h old new (f ∷ fs) [] more w = w
+
+regions_pushed : (h : Height) (table : List BlockState) (fs : List File) (rs : List ReadRegion) (f : File) (r : ReadRegion) → WereRegionsRead h table fs rs → WasRegionRead h table f r → WereRegionsRead h table (fs ++ f ∷ []) (rs ++ r ∷ [])
+regions_pushed h table [] [] f r w x = (x, tt)
+regions_pushed h table (g ∷ fs) (q ∷ rs) f r w x = (w.0, regions_pushed h table fs rs f r w.1 x)
+regions_pushed h table [] (q ∷ rs) f r w x = absurd w
+regions_pushed h table (g ∷ fs) [] f r w x = absurd w
+
+pub files_none : (h : Height) (start : List BlockState) (all : List File) → FilesSoFar h start start all all [] []
+files_none h start all = record {
+  way = record { good = λ new g. g; first = λ e g. g };
+  each = tt;
+  grown = grows_nothing start;
+}
+
+pub files_more : (h : Height) (start table next : List BlockState) (all left past : List File) (f : File) (regions after : List ReadRegion) (r : ReadRegion) → after ≡ regions ++ r ∷ []
+    → FilesSoFar h start table all (f ∷ left) past regions → IsRegionRead h table next f r → OnlyGrows table next → FilesSoFar h start next all left (past ++ f ∷ []) after
+files_more h start table next all left past f regions after r is s x more = subst (λ (xs : List ReadRegion). FilesSoFar h start next all left (past ++ f ∷ []) xs) (sym is) (record {
+  way = record {
+    good = λ new rest. s.way.good new (next, x.good, rest);
+    first = λ e rest. s.way.first e (inr (next, x.good, rest));
+  };
+  each = regions_pushed h next past regions f r (regions_grown h table next past regions more s.each) x.read;
+  grown = OnlyGrows-trans start table next s.grown more;
+})
+
+pub files_all : (h : Height) (start table : List BlockState) (all : List File) (regions : List ReadRegion) → FilesSoFar h start table all [] all regions → AreRegionsRead h start table all regions
+files_all h start table all regions s = record { good = s.way.good table refl; each = s.each }
+
+pub files_stop : (h : Height) (start table : List BlockState) (all left past : List File) (f : File) (regions : List ReadRegion) (e : Fault) → FilesSoFar h start table all (f ∷ left) past regions → IsFirstOfFile h table f e → IsFirstOfFiles h start all e
+files_stop h start table all left past f regions e s bad = s.way.first e (inl bad)

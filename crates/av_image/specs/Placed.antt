@@ -1,0 +1,112 @@
+-- What was read of region files. Working definitions.
+use Rattle.std.specs.Prelude.{◌≡◌, ℕ, ◌<◌, ◌+◌, ◌^◌, List, [], ◌∷◌, length, Some, None, false, map, slice_get}
+use Rattle.std.specs.List.{range_with_len, All}
+use Rattle.av_types.specs.Faults.{fault_number}
+use Rattle.av_types.specs.Places.{IsInLimits, chunk_at}
+use Rattle.av_types.specs.declared.place.Height.{Height}
+use Rattle.av_types.specs.declared.place.ChunkPos.{ChunkPos}
+use Rattle.av_types.specs.declared.place.RegionPos.{RegionPos}
+use Rattle.av_types.specs.declared.fault.Fault.{Fault}
+use Rattle.av_types.specs.declared.fault.Fault.TheVariants.{BadNbt}
+use Rattle.av_nbt.specs.Nbt.{Document}
+use Rattle.av_nbt.specs.Spelling.{SpellsDocument}
+use Rattle.av_nbt.specs.Outcome.{SpellsNone}
+use Rattle.av_region.specs.Region.{IsShort, IsAbsent, Holds, stamp_of}
+use Rattle.av_state.specs.BlockState.{BlockState}
+use Rattle.av_section.specs.Reading.{OnlyGrows}
+use Rattle.av_document.specs.Chunk.{root_tags, first_fault}
+use Rattle.av_chunk.specs.Reading.{IsLoaded, IsKept}
+use Rattle.av_chunk.specs.declared.chunk.Chunk.{Chunk}
+use Rattle.av_chunk.specs.declared.rest.ChunkRest.{ChunkRest}
+use Rattle.av_files.specs.Files.{File}
+use Rattle.av_files.specs.Layout.{indices}
+use Rattle.av_files.specs.FirstFault.{ArePlacesGood, AreFilesGood, IsFileGood}
+use Rattle.av_image.specs.declared.places.Place.{Place}
+use Rattle.av_image.specs.declared.places.Place.TheVariants.{Absent, Kept, Full}
+use Rattle.av_image.specs.declared.regions.ReadRegion.{ReadRegion}
+
+abbrev pub file_of : RegionPos → List ℕ → File
+file_of p bytes = record { pos = p; bytes = bytes }
+
+abbrev pub are_stamps : List ℕ → ℕ → List ℕ
+are_stamps file n = map (stamp_of file) (range_with_len 0 n)
+
+-- ---- one payload
+
+pub record IsKeptPayload (h : Height) (old new : List BlockState) (payload : List ℕ) (c : ChunkPos) (same : List ℕ) : Type 0 where
+  pub document : Document
+  pub spelled : SpellsDocument document payload
+  pub kept : IsKept c h document old new
+  pub copied : same ≡ payload
+
+pub record IsFullPayload (h : Height) (old new : List BlockState) (payload : List ℕ) (c : ChunkPos) (chunk : Chunk) (rest : ChunkRest) : Type 0 where
+  pub document : Document
+  pub spelled : SpellsDocument document payload
+  pub loaded : IsLoaded c h document old new chunk rest
+
+abbrev pub IsPayloadRead : Height → List BlockState → List BlockState → List ℕ → ChunkPos → Place → Type 0
+IsPayloadRead h old new payload c Absent = ⊥
+IsPayloadRead h old new payload c (Kept same) = IsKeptPayload h old new payload c same.items
+IsPayloadRead h old new payload c (Full chunk rest) = IsFullPayload h old new payload c chunk rest
+
+pub data IsPayloadRefused (h : Height) (old : List BlockState) (payload : List ℕ) (c : ChunkPos) (e : Fault) : Type 0 where
+  no_spelling : SpellsNone payload → e ≡ BadNbt → IsPayloadRefused h old payload c e
+  bad_document : (d : Document) → SpellsDocument d payload → first_fault h c old (root_tags d) ≡ Some (fault_number e) → IsPayloadRefused h old payload c e
+
+-- ---- one place
+
+pub record IsAbsentPlace (old new : List BlockState) (file : List ℕ) (index : ℕ) : Type 0 where
+  pub nothing : IsAbsent file index
+  pub same : new ≡ old
+
+pub record IsKeptPlace (h : Height) (old new : List BlockState) (file : List ℕ) (c : ChunkPos) (index : ℕ) (same : List ℕ) : Type 0 where
+  pub payload : List ℕ
+  pub holds : Holds file index payload
+  pub read : IsKeptPayload h old new payload c same
+
+pub record IsFullPlace (h : Height) (old new : List BlockState) (file : List ℕ) (c : ChunkPos) (index : ℕ) (chunk : Chunk) (rest : ChunkRest) : Type 0 where
+  pub payload : List ℕ
+  pub holds : Holds file index payload
+  pub read : IsFullPayload h old new payload c chunk rest
+
+abbrev pub IsPlaceRead : Height → List BlockState → List BlockState → List ℕ → ChunkPos → ℕ → Place → Type 0
+IsPlaceRead h old new file c index Absent = IsAbsentPlace old new file index
+IsPlaceRead h old new file c index (Kept same) = IsKeptPlace h old new file c index same.items
+IsPlaceRead h old new file c index (Full chunk rest) = IsFullPlace h old new file c index chunk rest
+
+-- ---- places and regions, by a table that has grown since
+
+pub record WasPlaceRead (h : Height) (table : List BlockState) (file : List ℕ) (c : ChunkPos) (index : ℕ) (place : Place) : Type 0 where
+  pub old : List BlockState
+  pub new : List BlockState
+  pub read : IsPlaceRead h old new file c index place
+  pub grown : OnlyGrows new table
+
+pub record WerePlacesRead (h : Height) (table : List BlockState) (f : File) (count : ℕ) (places : List Place) : Type 0 where
+  pub many : length places ≡ count
+  pub each : (i : ℕ) (p : Place) → slice_get places i ≡ Some p → WasPlaceRead h table f.bytes (chunk_at f.pos i) i p
+
+pub record ArePlacesRead (h : Height) (old new : List BlockState) (f : File) (places : List Place) : Type 0 where
+  pub good : ArePlacesGood h old f indices new
+  pub each : WerePlacesRead h new f 1024 places
+
+pub record WasRegionRead (h : Height) (table : List BlockState) (f : File) (r : ReadRegion) : Type 0 where
+  pub pos_is : r.pos ≡ f.pos
+  pub limits : IsInLimits f.pos
+  pub whole : ¬ IsShort f.bytes
+  pub stamps_are : r.stamps.items ≡ are_stamps f.bytes 1024
+  pub small : All (λ n. n < 2 ^ 32) r.stamps.items
+  pub places_are : WerePlacesRead h table f 1024 r.places.items
+
+pub record IsRegionRead (h : Height) (old new : List BlockState) (f : File) (r : ReadRegion) : Type 0 where
+  pub good : IsFileGood h old f new
+  pub read : WasRegionRead h new f r
+
+abbrev pub WereRegionsRead : Height → List BlockState → List File → List ReadRegion → Type 0
+WereRegionsRead h table [] [] = Unit {0}
+WereRegionsRead h table (f ∷ fs) (r ∷ rs) = WasRegionRead h table f r × WereRegionsRead h table fs rs
+WereRegionsRead h table _ _ = ⊥
+
+pub record AreRegionsRead (h : Height) (old new : List BlockState) (fs : List File) (rs : List ReadRegion) : Type 0 where
+  pub good : AreFilesGood h old fs new
+  pub each : WereRegionsRead h new fs rs

@@ -1,0 +1,79 @@
+-- What was read of regions, as a world and a rest. Working definitions.
+use Rattle.std.specs.Prelude.{◌≡◌, ℕ, ◌+◌, ◌<◌, ℤ, List, [], ◌∷◌, ◌++◌, length, Option, Some, None, Bool, true, false, map, slice_get, slice_index_or, if◌then◌else◌, codes}
+use Rattle.std.specs.List.{flat_map}
+use Rattle.av_types.specs.Places.{chunk_at, region_of, index_of, chunk_of_section}
+use Rattle.av_types.specs.declared.place.Height.{Height}
+use Rattle.av_types.specs.declared.place.ChunkPos.{ChunkPos}
+use Rattle.av_types.specs.declared.place.SectionPos.{SectionPos}
+use Rattle.av_types.specs.declared.place.RegionPos.{RegionPos}
+use Rattle.av_types.specs.declared.place.Pos.{Pos}
+use Rattle.av_ticks.specs.Ticks.{entries}
+use Rattle.av_document.specs.Chunk.{Rest as ChunkRest}
+use Rattle.av_chunk.specs.declared.chunk.Chunk.{Chunk}
+use Rattle.av_chunk.specs.Views.{rest_of}
+use Rattle.av_cells.specs.Positions.{same_chunk}
+use Rattle.av_cells.specs.Grid.{cells_of}
+use Rattle.av_world.specs.Inserted.{chunk_grid}
+use Rattle.av_world.specs.Views.{grid, lists}
+use Rattle.av_world.specs.declared.worlds.World.{World}
+use Rattle.av_land.specs.Land.{Land, has_chunk}
+use Rattle.av_files.specs.Files.{same_region}
+use Rattle.av_files.specs.Denotes.{Rest}
+use Rattle.av_image.specs.declared.places.Place.{Place}
+use Rattle.av_image.specs.declared.places.Place.TheVariants.{Absent, Kept, Full}
+use Rattle.av_image.specs.declared.regions.ReadRegion.{ReadRegion}
+use Rattle.av_image.specs.declared.rest.Slot.{Slot}
+use Rattle.av_image.specs.declared.rest.Slot.TheVariants as slots
+use Rattle.av_image.specs.declared.rest.RegionRest.{RegionRest}
+use Rattle.av_image.specs.declared.splits.Placed.{Placed}
+
+-- ---- places split into slots and chunks
+
+abbrev pub slot_of : Place → Slot
+slot_of Absent = slots.Absent
+slot_of (Kept p) = slots.Kept p
+slot_of (Full chunk rest) = slots.Loaded rest
+
+abbrev pub placed : ChunkPos → Chunk → Placed
+placed c x = record { at = c; chunk = x }
+
+abbrev pub placed_of : ChunkPos → Place → List Placed
+placed_of c Absent = []
+placed_of c (Kept p) = []
+placed_of c (Full chunk rest) = placed c chunk ∷ []
+
+abbrev pub placed_from : RegionPos → ℕ → List Place → List Placed
+placed_from r n [] = []
+placed_from r n (p ∷ ps) = placed_of (chunk_at r n) p ++ placed_from r (n + 1) ps
+
+abbrev pub placed_in : ReadRegion → List Placed
+placed_in r = placed_from r.pos 0 r.places.items
+
+pub record IsSplit (r : ReadRegion) (x : RegionRest) : Type 0 where
+  pub pos_is : x.pos ≡ r.pos
+  pub stamps_are : x.stamps.items ≡ r.stamps.items
+  pub slots_are : x.slots.items ≡ map slot_of r.places.items
+
+abbrev pub AreSplit : List ReadRegion → List RegionRest → Type 0
+AreSplit [] [] = Unit {0}
+AreSplit (r ∷ rs) (x ∷ xs) = IsSplit r x × AreSplit rs xs
+AreSplit _ _ = ⊥
+
+-- ---- a world of chunks
+
+abbrev pub chunk_found : List Placed → ChunkPos → Option Chunk
+chunk_found [] c = None
+chunk_found (x ∷ xs) c = if same_chunk x.at c then Some x.chunk else chunk_found xs c
+
+abbrev pub ArePlacedOnce : List Placed → Type 0
+ArePlacedOnce [] = Unit {0}
+ArePlacedOnce (x ∷ xs) = (chunk_found xs x.at ≡ None) × ArePlacedOnce xs
+
+-- the world has this chunk at c, or none
+abbrev pub HasAt : Height → World → ChunkPos → Option Chunk → Type 0
+HasAt h w c None = (has_chunk w.positions.items c ≡ false) × ((s : SectionPos) → chunk_of_section s ≡ c → grid w s ≡ None) × (lists w c ≡ [])
+HasAt h w c (Some x) = (has_chunk w.positions.items c ≡ true) × ((s : SectionPos) → chunk_of_section s ≡ c → grid w s ≡ chunk_grid h x s) × (lists w c ≡ entries x.ticks)
+
+pub record IsWorldOf (h : Height) (xs : List Placed) (w : World) : Type 0 where
+  pub height_is : w.height ≡ h
+  pub each : (c : ChunkPos) → HasAt h w c (chunk_found xs c)

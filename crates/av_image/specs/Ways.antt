@@ -1,0 +1,33 @@
+-- How far the reading of files has come. Working definitions of loops.
+use Rattle.std.specs.Prelude.{◌≡◌, ℕ, ◌-◌, List}
+use Rattle.std.specs.List.{range_with_len}
+use Rattle.av_types.specs.declared.place.Height.{Height}
+use Rattle.av_types.specs.declared.fault.Fault.{Fault}
+use Rattle.av_state.specs.BlockState.{BlockState}
+use Rattle.av_section.specs.Reading.{OnlyGrows}
+use Rattle.av_files.specs.Files.{File}
+use Rattle.av_files.specs.Layout.{indices}
+use Rattle.av_files.specs.FirstFault.{ArePlacesGood, IsFirstOfPlaces, AreFilesGood, IsFirstOfFiles}
+use Rattle.av_image.specs.declared.places.Place.{Place}
+use Rattle.av_image.specs.declared.regions.ReadRegion.{ReadRegion}
+use Rattle.av_image.specs.Placed.{WerePlacesRead, WereRegionsRead}
+
+-- what will be said of the places that are left can be said of all
+pub record IsPlacesWay (h : Height) (f : File) (start table : List BlockState) (all left : List ℕ) : Type 0 where
+  pub good : (new : List BlockState) → ArePlacesGood h table f left new → ArePlacesGood h start f all new
+  pub first : (e : Fault) → IsFirstOfPlaces h table f left e → IsFirstOfPlaces h start f all e
+
+pub record PlacesSoFar (h : Height) (f : File) (start table : List BlockState) (n : ℕ) (places : List Place) : Type 0 where
+  pub way : IsPlacesWay h f start table indices (range_with_len n (1024 - n))
+  pub each : WerePlacesRead h table f n places
+  pub grown : OnlyGrows start table
+
+-- the same of files
+pub record IsFilesWay (h : Height) (start table : List BlockState) (all left : List File) : Type 0 where
+  pub good : (new : List BlockState) → AreFilesGood h table left new → AreFilesGood h start all new
+  pub first : (e : Fault) → IsFirstOfFiles h table left e → IsFirstOfFiles h start all e
+
+pub record FilesSoFar (h : Height) (start table : List BlockState) (all left past : List File) (regions : List ReadRegion) : Type 0 where
+  pub way : IsFilesWay h start table all left
+  pub each : WereRegionsRead h table past regions
+  pub grown : OnlyGrows start table

@@ -1,0 +1,154 @@
+//! Region files, read as a world and a rest.
+ghost use Rattle.std.specs.Prelude.{◌≡◌, ◌≢◌, IfOk, IfErr, IsTrue, ◌↔◌, false, map, ℤ};
+ghost use Rattle.std.specs.List.{All};
+ghost use Rattle.av_types.specs.declared.fault.Fault.TheVariants.{OutOfMemory};
+ghost use Rattle.av_types.specs.Places.{IsInLimits};
+ghost use Rattle.av_state.specs.Table.{states};
+ghost use Rattle.av_section.specs.Reading.{OnlyGrows};
+ghost use Rattle.av_ticks.specs.Order.{ordered};
+ghost use Rattle.av_files.specs.Files.{in_order, regions_rise};
+ghost use Rattle.av_files.specs.FirstFault.{IsFilesFaultAfter};
+ghost use Rattle.av_files.specs.Layers.{IsLoadAfter};
+ghost use Rattle.av_world.specs.Lands.{land_of, IsWhole};
+ghost use Rattle.av_world.specs.Views.{positions_of, is_broken};
+ghost use Rattle.av_image.specs.Views.{rest_in};
+ghost use Rattle.av_image.specs.Saving.{IsRestOf};
+ghost use Rattle.av_image.specs.Loading.{file_in, placed_order, region_before, comes_after, AreJudged, IsListFault};
+
+use crate::regions::read_regions;
+use crate::rest::Rest;
+use crate::splits::{Placed, split_regions, world_of};
+use av_rules::Rules;
+use av_sink::RegionFile;
+use av_state::StateTable;
+use av_types::{Fault, Height, RegionPos};
+use av_world::World;
+use std::alloc::Global;
+
+/// Whether all regions are within the limits.
+fn are_in_limits(files: &[RegionFile]) -> bool
+    ensures { IsTrue result ↔ All (λ f. IsInLimits f.pos) files.now }
+{
+    for file in files {
+        if !file.pos.is_in_limits() {
+            return false;
+        }
+    }
+    true
+}
+
+/// The files by (z, x) of their regions.
+fn files_in_order(files: Vec<RegionFile>) -> Result<Vec<RegionFile>, Fault>
+    ensures ok { IfOk result (λ fs. map file_in fs.items ≡ in_order (map file_in files.items)) }
+    ensures err { IfErr result (λ e. e ≡ OutOfMemory) }
+{
+    let mut files = files;
+    files.sort_by_key(|f| (f.pos.z, f.pos.x))?;
+    Ok(files)
+}
+
+/// The chunks by (z, x).
+fn placed_in_order(found: Vec<Placed>) -> Result<Vec<Placed>, Fault>
+    ensures ok { IfOk result (λ xs. xs.items ≡ ordered placed_order found.items) }
+    ensures err { IfErr result (λ e. e ≡ OutOfMemory) }
+{
+    let mut found = found;
+    found.sort_by_key(|x| (x.at.z, x.at.x))?;
+    Ok(found)
+}
+
+/// Whether a region comes before another.
+fn is_before(a: RegionPos, b: RegionPos) -> bool
+    ensures { result ≡ region_before a b }
+{
+    a.z < b.z || a.z == b.z && a.x < b.x
+}
+
+/// Whether a region comes after another, where there is one.
+fn is_after(last: Option<RegionPos>, pos: RegionPos) -> bool
+    ensures { result ≡ comes_after last pos }
+{
+    match last {
+        None => true,
+        Some(last) => is_before(last, pos),
+    }
+}
+
+/// Whether each region comes after the one before it.
+fn do_rise(files: &[RegionFile]) -> bool
+    ensures { result ≡ regions_rise (map (λ f. f.pos) files.now) }
+{
+    let mut last = None;
+    for file in files {
+        if !is_after(last, file.pos) {
+            return false;
+        }
+        last = Some(file.pos);
+    }
+    true
+}
+
+/// Files of regions within the limits, each region once, in their order.
+fn judged(files: Vec<RegionFile>) -> Result<Vec<RegionFile>, Fault>
+    ensures ok { IfOk result (λ fs. AreJudged (map file_in files.items) (map file_in fs.items)) }
+    ensures limits { IfOk result (λ fs. All (λ f. IsInLimits f.pos) fs.items) }
+    ensures err { IfErr result (λ e. e ≢ OutOfMemory → IsListFault (map file_in files.items) e) }
+{
+    if !are_in_limits(files.as_slice()) {
+        return Err(Fault::RegionRange);
+    }
+    let files = files_in_order(files)?;
+    if !do_rise(files.as_slice()) {
+        return Err(Fault::RepeatedRegion);
+    }
+    Ok(files)
+}
+
+/// The world and the rest that region files denote, at a height.
+fn load_at(
+    alloc: Global,
+    files: Vec<RegionFile>,
+    height: Height,
+    table: &mut StateTable,
+) -> Result<(World, Rest), Fault>
+    ensures ok { IfOk result (λ read. IsLoadAfter height (states table.old) (map file_in files.items) (states table.new) (land_of read.0) (rest_in read.1)) }
+    ensures whole { IfOk result (λ read. IsWhole read.0) }
+    ensures rest { IfOk result (λ read. IsRestOf height (positions_of read.0) read.1) }
+    ensures sound { IfOk result (λ read. is_broken read.0 ≡ false) }
+    ensures err { IfErr result (λ e. e ≢ OutOfMemory → IsFilesFaultAfter height (states table.old) (map file_in files.items) e) }
+    ensures table { OnlyGrows (states table.old) (states table.new) }
+{
+    let files = judged(files)?;
+    let regions = read_regions(alloc, files, height, table)?;
+    let mut found = Vec::new(alloc);
+    let regions = split_regions(alloc, regions, &mut found)?;
+    let found = placed_in_order(found)?;
+    let world = world_of(alloc, height, found)?;
+    Ok((world, Rest { regions }))
+}
+
+/// The world and the rest that region files denote, in the height of the rules. States that the table has not are numbered
+/// after those that it has, in the order of the files by (z, x) of their regions, of the chunks by index, and of each
+/// chunk's palettes. Older numbers keep their states, whatever is answered.
+///
+/// No section of the world is out, it is not broken, and the rest is that of its loaded chunks.
+///
+/// # Errors
+/// The first of these, in this order: `RegionRange` where a region is out of the limits; `RepeatedRegion` where one comes
+/// twice; and then the first fault of the regions by (z, x), of each `ShortHeader` before those of its chunks by index,
+/// of a chunk the least-numbered one from `BadLocation` to `TooManyStates`. `OutOfMemory` may stand in place of any.
+pub fn load(
+    alloc: Global,
+    files: Vec<RegionFile>,
+    rules: &Rules,
+    table: &mut StateTable,
+) -> Result<(World, Rest), Fault>
+    ensures ok { IfOk result (λ read. IsLoadAfter rules.now.height (states table.old) (map file_in files.items) (states table.new) (land_of read.0) (rest_in read.1)) }
+    ensures whole { IfOk result (λ read. IsWhole read.0) }
+    ensures rest { IfOk result (λ read. IsRestOf rules.now.height (positions_of read.0) read.1) }
+    ensures sound { IfOk result (λ read. is_broken read.0 ≡ false) }
+    ensures err { IfErr result (λ e. e ≢ OutOfMemory → IsFilesFaultAfter rules.now.height (states table.old) (map file_in files.items) e) }
+    ensures table { OnlyGrows (states table.old) (states table.new) }
+{
+    load_at(alloc, files, rules.height(), table)
+}

@@ -1,0 +1,67 @@
+//! One place of a region file.
+ghost use Rattle.std.specs.Prelude.{◌≡◌, ◌≢◌, ◌≤◌, ◌<◌, IfOk, IfErr, length};
+ghost use Rattle.av_types.specs.declared.fault.Fault.TheVariants.{OutOfMemory};
+ghost use Rattle.av_types.specs.Places.{IsInLimits, chunk_at};
+ghost use Rattle.av_state.specs.Table.{states};
+ghost use Rattle.av_section.specs.Reading.{OnlyGrows};
+ghost use Rattle.av_files.specs.FirstFault.{IsPlaceFault};
+ghost use Rattle.av_image.specs.Placed.{IsPlaceRead, IsPayloadRead, IsPayloadRefused};
+
+use av_chunk::{Chunk, ChunkRest, Reading};
+use av_nbt::decode;
+use av_region::Region;
+use av_state::StateTable;
+use av_types::{ChunkPos, Fault, Height, RegionPos};
+use std::alloc::Global;
+
+/// What a region has at an index.
+#[derive(Drop)]
+pub enum Place {
+    /// No chunk.
+    Absent,
+    /// The payload of a chunk that is not full.
+    Kept(Vec<u8>),
+    /// A chunk that is loaded, and what it keeps.
+    Full { chunk: Chunk, rest: ChunkRest },
+}
+
+/// A payload, read.
+fn read_payload(
+    alloc: Global,
+    payload: &[u8],
+    at: ChunkPos,
+    height: Height,
+    table: &mut StateTable,
+) -> Result<Place, Fault>
+    requires { length payload.now ≤ 1044475 }
+    ensures ok { IfOk result (IsPayloadRead height (states table.old) (states table.new) payload.now at) }
+    ensures err { IfErr result (λ e. e ≢ OutOfMemory → IsPayloadRefused height (states table.old) payload.now at e) }
+    ensures table { OnlyGrows (states table.old) (states table.new) }
+{
+    let root = decode(alloc, payload)?;
+    match Chunk::read(alloc, root, at, height, table)? {
+        Reading::Kept => Ok(Place::Kept(Vec::from_slice(alloc, payload)?)),
+        Reading::Full { chunk, rest } => Ok(Place::Full { chunk, rest }),
+    }
+}
+
+/// What a region holds at an index, read.
+pub(crate) fn read_place(
+    alloc: Global,
+    region: &Region<'_>,
+    pos: RegionPos,
+    index: usize,
+    height: Height,
+    table: &mut StateTable,
+) -> Result<Place, Fault>
+    requires limits { IsInLimits pos }
+    requires index { index < 1024 }
+    ensures ok { IfOk result (IsPlaceRead height (states table.old) (states table.new) region.now.bytes.now (chunk_at pos index) index) }
+    ensures err { IfErr result (λ e. e ≢ OutOfMemory → IsPlaceFault height (states table.old) region.now.bytes.now (chunk_at pos index) index e) }
+    ensures table { OnlyGrows (states table.old) (states table.new) }
+{
+    match region.payload(index)? {
+        None => Ok(Place::Absent),
+        Some(payload) => read_payload(alloc, payload, pos.chunk_at(index), height, table),
+    }
+}

@@ -1,0 +1,100 @@
+//! All places of region files.
+ghost use Rattle.std.specs.Prelude.{◌≡◌, ◌≢◌, ◌<◌, ◌≤◌, ◌^◌, IfOk, IfErr, length, map};
+ghost use Rattle.std.specs.List.{All};
+ghost use Rattle.av_types.specs.declared.fault.Fault.TheVariants.{OutOfMemory};
+ghost use Rattle.av_types.specs.Places.{IsInLimits};
+ghost use Rattle.av_state.specs.Table.{states};
+ghost use Rattle.av_section.specs.Reading.{OnlyGrows};
+ghost use Rattle.av_region.specs.Region.{stamp_of, IsShort};
+ghost use Rattle.av_files.specs.Layout.{indices};
+ghost use Rattle.av_files.specs.FirstFault.{IsFirstOfPlaces, IsFirstOfFile, IsFirstOfFiles};
+ghost use Rattle.av_image.specs.Placed.{ArePlacesRead, IsRegionRead, AreRegionsRead, file_of, are_stamps};
+
+use crate::places::{Place, read_place};
+use av_region::Region;
+use av_sink::RegionFile;
+use av_state::StateTable;
+use av_types::{Fault, Height, RegionPos};
+use std::alloc::Global;
+
+/// A region that was read.
+#[derive(Drop)]
+pub struct ReadRegion {
+    pub pos: RegionPos,
+    pub stamps: Vec<u32>,
+    pub places: Vec<Place>,
+}
+
+/// All places of a region, in the order of their indices.
+fn read_places(
+    alloc: Global,
+    region: &Region<'_>,
+    pos: RegionPos,
+    height: Height,
+    table: &mut StateTable,
+) -> Result<Vec<Place>, Fault>
+    requires { IsInLimits pos }
+    ensures ok { IfOk result (λ places. ArePlacesRead height (states table.old) (states table.new) (file_of pos region.now.bytes.now) places.items) }
+    ensures err { IfErr result (λ e. e ≢ OutOfMemory → IsFirstOfPlaces height (states table.old) (file_of pos region.now.bytes.now) indices e) }
+    ensures table { OnlyGrows (states table.old) (states table.new) }
+{
+    let mut places = Vec::new(alloc);
+    for index in 0..1024 {
+        places.push(read_place(alloc, region, pos, index, height, table)?)?;
+    }
+    Ok(places)
+}
+
+/// All timestamps of a region.
+fn read_stamps(alloc: Global, region: &Region<'_>) -> Result<Vec<u32>, Fault>
+    ensures ok { IfOk result (λ stamps. stamps.items ≡ are_stamps region.now.bytes.now 1024) }
+    ensures small { IfOk result (λ stamps. All (λ n. n < 2 ^ 32) stamps.items) }
+    ensures err { IfErr result (λ e. e ≡ OutOfMemory) }
+{
+    let mut stamps = Vec::new(alloc);
+    for index in 0..1024 {
+        stamps.push(region.stamp(index))?;
+    }
+    Ok(stamps)
+}
+
+/// A region's file, read. Its bytes are let go.
+fn read_region(
+    alloc: Global,
+    file: RegionFile,
+    height: Height,
+    table: &mut StateTable,
+) -> Result<ReadRegion, Fault>
+    requires { IsInLimits file.pos }
+    ensures ok { IfOk result (IsRegionRead height (states table.old) (states table.new) (file_of file.pos file.bytes.items)) }
+    ensures err { IfErr result (λ e. e ≢ OutOfMemory → IsFirstOfFile height (states table.old) (file_of file.pos file.bytes.items) e) }
+    ensures table { OnlyGrows (states table.old) (states table.new) }
+{
+    let region = Region::read(file.bytes.as_slice())?;
+    let stamps = read_stamps(alloc, &region)?;
+    let places = read_places(alloc, &region, file.pos, height, table)?;
+    Ok(ReadRegion {
+        pos: file.pos,
+        stamps,
+        places,
+    })
+}
+
+/// Region files, one after the other.
+pub fn read_regions(
+    alloc: Global,
+    files: Vec<RegionFile>,
+    height: Height,
+    table: &mut StateTable,
+) -> Result<Vec<ReadRegion>, Fault>
+    requires { All (λ f. IsInLimits f.pos) files.items }
+    ensures ok { IfOk result (λ regions. AreRegionsRead height (states table.old) (states table.new) (map (λ f. file_of f.pos f.bytes.items) files.items) regions.items) }
+    ensures err { IfErr result (λ e. e ≢ OutOfMemory → IsFirstOfFiles height (states table.old) (map (λ f. file_of f.pos f.bytes.items) files.items) e) }
+    ensures table { OnlyGrows (states table.old) (states table.new) }
+{
+    let mut regions = Vec::new(alloc);
+    for file in files {
+        regions.push(read_region(alloc, file, height, table)?)?;
+    }
+    Ok(regions)
+}

@@ -1,0 +1,2 @@
+pub mod OneGrid
+pub mod OneLaws

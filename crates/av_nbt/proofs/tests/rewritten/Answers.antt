@@ -1,4 +1,0 @@
-use Rattle.av_nbt.proofs.tests.rewritten.Goals as goal
-
-pub encode-requires : goal.encode-requires
-encode-requires c = record { bytes = c.args.bytes.now; spelled = c.in_ok-root.ensures.spelled }

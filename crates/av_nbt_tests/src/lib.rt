@@ -1,0 +1,5 @@
+//! Tests of tags and their bytes by the public calls of `av_nbt`.
+#![tactic(auto)]
+
+#[cfg(test)]
+mod tests;

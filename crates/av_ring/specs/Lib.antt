@@ -1,0 +1,3 @@
+pub mod Numbers
+pub mod Ring
+pub mod Shown

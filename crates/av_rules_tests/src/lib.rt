@@ -1,0 +1,5 @@
+//! Tests of block tables by the public calls of `av_rules`.
+#![tactic(auto)]
+
+#[cfg(test)]
+mod tests;

@@ -1,0 +1,64 @@
+-- A world stays ready.
+use Rattle.std.proofs.Common.{◌≡◌, ℕ, zero, suc, ◌<◌, ◌+◌, IsTrue, Bool, true, false, cond, nat_eq, List, [], ◌∷◌, length, get_or, drop, refl, sym, ap, subst, ◌∙◌, arith}
+use Rattle.std.specs.List.{list_all}
+use Rattle.std.proofs.lemmas.Bool.{and_parts}
+use Rattle.av_types.specs.declared.place.Pos.{Pos}
+use Rattle.av_types.specs.declared.tick.Entry.{Entry}
+use Rattle.av_cells.specs.World as cells
+use Rattle.av_cells.specs.Rule.{HasKinds}
+use Rattle.av_cells.specs.declared.kind.Kind.{Kind}
+use Rattle.av_land.specs.Land.{Land}
+use Rattle.av_land.specs.Tick.{set_in, edited, turned, turned_all}
+use Rattle.av_world.specs.Views.{blocks, site}
+use Rattle.av_world.proofs.Whole.{whole_kept}
+use Rattle.av_world.specs.declared.worlds.World.{World}
+use Rattle.av_edits.specs.declared.edit.Edit.{Edit}
+use Rattle.av_edits.specs.Numbered.{number_sets}
+use Rattle.av_serial.specs.Ready.{IsReady, IsSamePlace, CanApply}
+
+pub ready_on : (n : ℕ) (old new : World) → site new ≡ site old → (blocks new).loaded ≡ (blocks old).loaded → HasKinds n (blocks new) → IsReady n old → IsReady n new
+ready_on n old new s l h r = record { whole = whole_kept old new s l r.whole; numbers = h }
+
+pub kinds_same : (n : ℕ) (old new : World) → blocks new ≡ blocks old → IsReady n old → HasKinds n (blocks new)
+kinds_same n old new b r = subst (λ (v : cells.World). HasKinds n v) (sym b) r.numbers
+
+pub ready_same : (n : ℕ) (old new : World) → site new ≡ site old → blocks new ≡ blocks old → IsReady n old → IsReady n new
+ready_same n old new s b r = ready_on n old new s (ap (λ (v : cells.World). v.loaded) b) (kinds_same n old new b r) r
+
+pub place_refl : (w : World) → IsSamePlace w w
+place_refl w = record { site_is = refl; loaded_is = refl }
+
+pub place_on : (u v w : World) → IsSamePlace u v → IsSamePlace v w → IsSamePlace u w
+place_on u v w a b = record { site_is = b.site_is ∙ a.site_is; loaded_is = b.loaded_is ∙ a.loaded_is }
+
+pub sound_on : (u v : World) → IsSamePlace u v → u.broken ≡ false → v.broken ≡ false
+sound_on u v a s = ap (λ (x : cells.Site). x.broken) a.site_is ∙ s
+
+pub can_apply_on : (n : ℕ) (u v : World) (e : Edit) → IsSamePlace u v → CanApply n u e → CanApply n v e
+can_apply_on n u v e a c = record { loaded = subst (λ (f : Pos → Bool). IsTrue (f e.pos)) (sym a.loaded_is) c.loaded; number = c.number }
+
+-- ---- one more turn, one more edit
+
+pub turned_next : (k : ℕ → Kind) (now : ℕ) (es : List Entry) (i : ℕ) (e : Entry) (w v : Land ℕ) → i < length es → e ≡ get_or es i e → v ≡ turned k now e.pos w → turned_all k now (drop i es) w ≡ turned_all k now (drop (i + 1) es) v
+turned_next k now [] i e w v h is to = absurd (omega arith)
+turned_next k now (x ∷ es) zero e w v h is to = ap (turned_all k now es) (ap (λ (y : Entry). turned k now y.pos w) (sym is) ∙ sym to)
+turned_next k now (x ∷ es) (suc i) e w v h is to = let step : suc i + 1 ≡ suc (i + 1) = omega arith in rw step (turned_next k now es i e w v (omega arith) is to)
+
+pub passes_at : (p : Entry → Bool) (es : List Entry) (i : ℕ) (e : Entry) → i < length es → e ≡ get_or es i e → list_all p es ≡ true → p e ≡ true
+passes_at p [] i e h is all = absurd (omega arith)
+passes_at p (x ∷ es) zero e h is all = ap p is ∙ (and_parts (p x) (list_all p es) all).0
+passes_at p (x ∷ es) (suc i) e h is all = passes_at p es i e (omega arith) is (and_parts (p x) (list_all p es) all).1
+
+pub edited_next : (k : ℕ → Kind) (now : ℕ) (es : List Edit) (i : ℕ) (e : Edit) (w v : Land ℕ) → i < length es → e ≡ get_or es i e → v ≡ cond (nat_eq e.tick now) (set_in k now e.pos e.number w) w
+    → edited k now (number_sets (drop i es)) w ≡ edited k now (number_sets (drop (i + 1) es)) v
+edited_next k now [] i e w v h is to = absurd (omega arith)
+edited_next k now (x ∷ es) zero e w v h is to = ap (edited k now (number_sets es)) (ap (λ (y : Edit). cond (nat_eq y.tick now) (set_in k now y.pos y.number w) w) (sym is) ∙ sym to)
+edited_next k now (x ∷ es) (suc i) e w v h is to = let step : suc i + 1 ≡ suc (i + 1) = omega arith in rw step (edited_next k now es i e w v (omega arith) is to)
+
+pub passes_get : (p : Entry → Bool) (es : List Entry) (i : ℕ) (d : Entry) → i < length es → list_all p es ≡ true → p (get_or es i d) ≡ true
+passes_get p [] i d h all = absurd (omega arith)
+passes_get p (x ∷ es) zero d h all = (and_parts (p x) (list_all p es) all).0
+passes_get p (x ∷ es) (suc i) d h all = passes_get p es i d (omega arith) (and_parts (p x) (list_all p es) all).1
+
+pub loaded_get : (u v : World) (es : List Entry) (i : ℕ) (d : Entry) → IsSamePlace u v → i < length es → list_all (λ e. (blocks u).loaded e.pos) es ≡ true → (blocks v).loaded (get_or es i d).pos ≡ true
+loaded_get u v es i d a h all = ap (λ (f : Pos → Bool). f (get_or es i d).pos) a.loaded_is ∙ passes_get (λ e. (blocks u).loaded e.pos) es i d h all

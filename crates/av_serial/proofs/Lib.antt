@@ -1,0 +1,5 @@
+pub mod Lands
+pub mod Keeps
+pub mod DueLoaded
+pub mod Edits
+pub mod RunSteps

@@ -1,0 +1,156 @@
+//! Runs of ticks.
+ghost use Rattle.std.specs.Prelude.{◌≡◌, ◌⊎◌, ◌+◌, ◌≤◌, ◌<◌, true, false, All, OnOk, OnErr, IfOk, IfErr, if◌then◌else◌, length, nat_eq, nat_lt, ◌&&◌, ◌^◌};
+ghost use Rattle.std.specs.List.Sorted.{IsNonDecreasingBy};
+ghost use Rattle.av_types.specs.declared.fault.Fault.TheVariants.{OutOfMemory, Broken};
+ghost use Rattle.av_rules.specs.Kinds.{kind_count};
+ghost use Rattle.av_cells.specs.Kinds.{kinds_of};
+ghost use Rattle.av_land.specs.Tick.{ticked, tick_count, run, run_count};
+ghost use Rattle.av_world.specs.Views.{is_broken};
+ghost use Rattle.av_world.specs.Lands.{land_of};
+ghost use Rattle.av_edits.specs.Numbered.{number_sets};
+ghost use Rattle.av_serial.specs.Ready.{IsReady, IsSamePlace, CanApply};
+ghost use Rattle.av_serial.specs.Schedule.{tick_of, NothingBefore, IsAfterTicks};
+
+use crate::schedule::{end_of, sorted_by_tick};
+use crate::ticks::tick;
+use av_edits::Edit;
+use av_rules::Kinds;
+use av_types::Fault;
+use av_world::World;
+use std::alloc::Global;
+
+/// A tick before which nothing is due.
+fn soonest(world: &World) -> u64
+    ensures { NothingBefore result (land_of world.now) }
+{
+    world.soonest()
+}
+
+/// Whether nothing is to be done in tick `now`.
+fn is_idle(edits: &[Edit], now: u32, next: u64) -> bool
+    ensures { result ≡ (nat_eq (length edits.now) 0 && nat_lt now next) }
+{
+    edits.is_empty() && u64::from(now) < next
+}
+
+/// Tick `now` with its edits, unless there are none and nothing is due before `next`. Afterwards `next` is again a tick
+/// before which nothing is due.
+fn tick_from(
+    world: &mut World,
+    kinds: &Kinds,
+    now: u32,
+    edits: &[Edit],
+    next: &mut u64,
+) -> Result<u64, Fault>
+    requires ready { IsReady (kind_count kinds.now) world.old }
+    requires sound { is_broken world.old ≡ false }
+    requires edits { All (CanApply (kind_count kinds.now) world.old) edits.now }
+    requires next { NothingBefore next.old (land_of world.old) }
+    ensures done { OnOk result (land_of world.new ≡ ticked (kinds_of kinds.now) now (number_sets edits.now) (land_of world.old)) }
+    ensures count { IfOk result (λ count. count ≡ tick_count (kinds_of kinds.now) now (number_sets edits.now) (land_of world.old)) }
+    ensures next { OnOk result (NothingBefore next.new (land_of world.new)) }
+    ensures ready { OnOk result (IsReady (kind_count kinds.now) world.new) }
+    ensures place { OnOk result (IsSamePlace world.old world.new) }
+    ensures broken { OnErr result (is_broken world.new ≡ true) }
+    ensures fault { IfErr result (λ e. e ≡ OutOfMemory) }
+{
+    let idle = is_idle(edits, now, *next);
+    if idle {
+        return Ok(0);
+    }
+    let count = tick(world, kinds, now, edits)?;
+    *next = soonest(world);
+    Ok(count)
+}
+
+/// Where a run stands.
+#[derive(Drop)]
+struct Schedule {
+    /// The edits before this place are done.
+    from: usize,
+    /// Nothing is due before this tick.
+    next: u64,
+}
+
+/// One tick more, after `done` ticks.
+fn next_tick(
+    world: &mut World,
+    kinds: &Kinds,
+    edits: &[Edit],
+    done: u32,
+    schedule: &mut Schedule,
+) -> Result<u64, Fault>
+    requires few { done + 1 < 2 ^ 32 }
+    requires ready { IsReady (kind_count kinds.now) world.old }
+    requires sound { is_broken world.old ≡ false }
+    requires edits { All (CanApply (kind_count kinds.now) world.old) edits.now }
+    requires sorted { IsNonDecreasingBy tick_of edits.now }
+    requires schedule { IsAfterTicks done schedule.old.from schedule.old.next edits.now (land_of world.old) }
+    ensures done { OnOk result (land_of world.new ≡ ticked (kinds_of kinds.now) (done + 1) (number_sets edits.now) (land_of world.old)) }
+    ensures count { IfOk result (λ count. count ≡ tick_count (kinds_of kinds.now) (done + 1) (number_sets edits.now) (land_of world.old)) }
+    ensures schedule { OnOk result (IsAfterTicks (done + 1) schedule.new.from schedule.new.next edits.now (land_of world.new)) }
+    ensures ready { OnOk result (IsReady (kind_count kinds.now) world.new) }
+    ensures place { OnOk result (IsSamePlace world.old world.new) }
+    ensures broken { OnErr result (is_broken world.new ≡ true) }
+    ensures fault { IfErr result (λ e. e ≡ OutOfMemory) }
+{
+    let now = done + 1;
+    let from = schedule.from;
+    let to = end_of(edits, from, now);
+    schedule.from = to;
+    tick_from(world, kinds, now, &edits[from..to], &mut schedule.next)
+}
+
+/// Ticks 1 to `n`, of edits that are sorted by their ticks.
+fn run_sorted(world: &mut World, kinds: &Kinds, edits: &[Edit], n: u32) -> Result<u128, Fault>
+    requires ready { IsReady (kind_count kinds.now) world.old }
+    requires sound { is_broken world.old ≡ false }
+    requires edits { All (CanApply (kind_count kinds.now) world.old) edits.now }
+    requires sorted { IsNonDecreasingBy tick_of edits.now }
+    ensures done { OnOk result (land_of world.new ≡ run (kinds_of kinds.now) (number_sets edits.now) n (land_of world.old)) }
+    ensures count { IfOk result (λ total. total ≡ run_count (kinds_of kinds.now) (number_sets edits.now) n (land_of world.old)) }
+    ensures ready { OnOk result (IsReady (kind_count kinds.now) world.new) }
+    ensures place { OnOk result (IsSamePlace world.old world.new) }
+    ensures broken { OnErr result (is_broken world.new ≡ true) }
+    ensures fault { IfErr result (λ e. e ≡ OutOfMemory) }
+{
+    let next = soonest(world);
+    let mut schedule = Schedule { from: 0, next };
+    let mut total: u128 = 0;
+    for done in 0..n {
+        let count = next_tick(world, kinds, edits, done, &mut schedule)?;
+        total += count as u128;
+    }
+    Ok(total)
+}
+
+/// Ticks 1 to `n`, with the edits of each. Returns how many entries were taken in all of them. A tick without edits in
+/// which nothing is due takes no time to speak of.
+///
+/// # Errors
+/// `Broken` of a broken world, which stays as it is. `OutOfMemory`: before the first tick the world stays as it is, and
+/// in a tick it is broken.
+pub fn run_ticks(
+    alloc: Global,
+    world: &mut World,
+    kinds: &Kinds,
+    edits: &[Edit],
+    n: u32,
+) -> Result<u128, Fault>
+    requires ready { is_broken world.old ≡ false → IsReady (kind_count kinds.now) world.old }
+    requires edits { is_broken world.old ≡ false → All (CanApply (kind_count kinds.now) world.old) edits.now }
+    ensures done { OnOk result (land_of world.new ≡ run (kinds_of kinds.now) (number_sets edits.now) n (land_of world.old)) }
+    ensures count { IfOk result (λ total. total ≡ run_count (kinds_of kinds.now) (number_sets edits.now) n (land_of world.old)) }
+    ensures ready { OnOk result (IsReady (kind_count kinds.now) world.new) }
+    ensures place { OnOk result (IsSamePlace world.old world.new) }
+    ensures sound { OnOk result (is_broken world.old ≡ false) }
+    ensures stands { OnErr result ((world.new ≡ world.old) ⊎ (is_broken world.new ≡ true)) }
+    ensures unchanged { is_broken world.old ≡ true → world.new ≡ world.old }
+    ensures fault { IfErr result (λ e. e ≡ (if is_broken world.old then Broken else OutOfMemory)) }
+{
+    if world.broken() {
+        return Err(Fault::Broken);
+    }
+    let sorted = sorted_by_tick(alloc, edits)?;
+    run_sorted(world, kinds, sorted.as_slice(), n)
+}

@@ -1,0 +1,34 @@
+-- What a sink has taken.
+use Rattle.std.specs.Prelude.{◌≡◌, ℕ, ◌+◌, List, ◌++◌, length, Option, option_map, string_bytes}
+use Rattle.av_types.specs.declared.fault.Fault.{Fault}
+use Rattle.av_types.specs.declared.fault.Fault.TheVariants.{Device}
+
+pub record NamedFile : Type 0 where
+  pub name : List ℕ
+  pub bytes : List ℕ
+
+abbrev pub file_named : List ℕ → List ℕ → NamedFile
+file_named name bytes = record { name = name; bytes = bytes }
+
+pub record Account : Type 0 where
+  pub failures : ℕ
+  pub handed : ℕ
+  -- the files that it keeps, where it tells
+  pub kept : Option (List NamedFile)
+
+-- after it took these files, each once, in this order
+abbrev pub with_files : Account → List NamedFile → Account
+with_files a files = record {
+  failures = a.failures;
+  handed = a.handed + length files;
+  kept = option_map (λ l. l ++ files) a.kept;
+}
+
+-- after it did not take one
+abbrev pub with_failure : Account → Account
+with_failure a = record { failures = a.failures + 1; handed = a.handed; kept = a.kept }
+
+-- the fault of a file or folder of that name
+abbrev pub IsDevice : List ℕ → Fault → Type 0
+IsDevice name (Device text) = string_bytes text ≡ name
+IsDevice name e = ⊥

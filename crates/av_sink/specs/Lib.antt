@@ -1,0 +1,3 @@
+pub mod Names
+pub mod Account
+pub mod Saving

@@ -1,0 +1,14 @@
+//! Where region files are handed to, and under which names.
+#![tactic(auto)]
+
+pub mod files;
+pub mod names;
+pub mod saving;
+pub mod sink;
+#[cfg(test)]
+mod tests;
+
+pub use files::RegionFile;
+pub use names::region_name;
+pub use saving::save_all;
+pub use sink::{Sink, SinkFailed};

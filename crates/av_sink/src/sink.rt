@@ -1,0 +1,32 @@
+//! What takes written files.
+ghost use Rattle.std.specs.Prelude.{◌≡◌, ◌<◌, ◌^◌, ◌-◌, [], ◌∷◌, OnOk, OnErr};
+ghost use Rattle.av_sink.specs.Account.{Account, file_named, with_failure, with_files};
+
+use thiserror::Error;
+
+/// A file was not taken.
+#[derive(Clone, Copy, Debug, Error)]
+#[error("the file could not be written")]
+pub struct SinkFailed;
+
+/// What takes files, as a folder does, and counts them. A write fails exactly where the count of failures rises, by one,
+/// and succeeds exactly where the count of files handed over rises, by one. Neither count goes beyond 2^64 - 1.
+pub trait Sink {
+    /// Both counts, and the files that it keeps, where it can tell: a sink in memory can, a folder can not.
+    ghost account: { Self → Account };
+
+    /// How many writes have failed.
+    fn failures(&self) -> u64
+        ensures { result ≡ (account self.now).failures };
+
+    /// How many files were taken.
+    fn handed(&self) -> u64
+        ensures { result ≡ (account self.now).handed };
+
+    /// Takes a file, whole or not at all.
+    fn write_file(&mut self, name: &str, bytes: &[u8]) -> Result<(), SinkFailed>
+        requires failures { (account self.old).failures < 2 ^ 64 - 1 }
+        requires handed { (account self.old).handed < 2 ^ 64 - 1 }
+        ensures ok { OnOk result (account self.new ≡ with_files (account self.old) (file_named name.now bytes.now ∷ [])) }
+        ensures err { OnErr result (account self.new ≡ with_failure (account self.old)) };
+}

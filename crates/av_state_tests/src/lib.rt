@@ -1,0 +1,5 @@
+//! Tests of states and their numbers by the public calls of `av_state`.
+#![tactic(auto)]
+
+#[cfg(test)]
+mod tests;

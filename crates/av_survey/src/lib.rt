@@ -1,0 +1,10 @@
+//! What is wrong with region files, file by file and chunk by chunk.
+#![tactic(auto)]
+
+pub mod finding;
+mod listing;
+mod places;
+pub mod surveying;
+
+pub use finding::Finding;
+pub use surveying::survey;

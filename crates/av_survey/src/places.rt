@@ -1,0 +1,65 @@
+//! One chunk of a region's file.
+ghost use Rattle.std.specs.Prelude.{◌≡◌, ◌≢◌, ◌≤◌, ◌<◌, IfOk, IfErr, MatchOption, Some, length};
+ghost use Rattle.av_types.specs.declared.fault.Fault.TheVariants.{OutOfMemory};
+ghost use Rattle.av_types.specs.Places.{IsInLimits, chunk_at};
+ghost use Rattle.av_survey.specs.Survey.{IsFirstAt, IsFirstIn};
+
+use av_chunk::Chunk;
+use av_nbt::decode;
+use av_region::Region;
+use av_state::StateTable;
+use av_types::{ChunkPos, Fault, Height, RegionPos};
+use std::alloc::Global;
+
+/// A fault that is found, or want of memory, which is none of a file.
+fn found(fault: Fault) -> Result<Option<Fault>, Fault>
+    ensures ok { IfOk result (λ o. (fault ≢ OutOfMemory) × (o ≡ Some fault)) }
+    ensures err { IfErr result (λ e. e ≡ OutOfMemory) }
+{
+    if fault.number() == 1 {
+        return Err(Fault::OutOfMemory);
+    }
+    Ok(Some(fault))
+}
+
+/// The first fault of a payload, whose states are numbered alone. A payload has at most 1,044,475 bytes.
+fn fault_in(
+    alloc: Global,
+    payload: &[u8],
+    at: ChunkPos,
+    height: Height,
+) -> Result<Option<Fault>, Fault>
+    requires { length payload.now ≤ 1044475 }
+    ensures ok { IfOk result (IsFirstIn height payload.now at) }
+    ensures err { IfErr result (λ e. e ≡ OutOfMemory) }
+{
+    let mut table = StateTable::new(alloc)?;
+    let root = match decode(alloc, payload) {
+        Ok(root) => root,
+        Err(fault) => return found(fault),
+    };
+    match Chunk::read(alloc, root, at, height, &mut table) {
+        Ok(_) => Ok(None),
+        Err(fault) => found(fault),
+    }
+}
+
+/// The first fault of the chunk at an index of a region.
+pub(crate) fn fault_at(
+    alloc: Global,
+    region: &Region<'_>,
+    pos: RegionPos,
+    index: usize,
+    height: Height,
+) -> Result<Option<Fault>, Fault>
+    requires limits { IsInLimits pos }
+    requires index { index < 1024 }
+    ensures ok { IfOk result (IsFirstAt height region.now.bytes.now (chunk_at pos index) index) }
+    ensures err { IfErr result (λ e. e ≡ OutOfMemory) }
+{
+    match region.payload(index) {
+        Err(fault) => Ok(Some(fault)),
+        Ok(None) => Ok(None),
+        Ok(Some(payload)) => fault_in(alloc, payload, pos.chunk_at(index), height),
+    }
+}

@@ -1,0 +1,29 @@
+use Rattle.std.proofs.Common.{◌≤◌, IsTrue, All, [], ◌∷◌}
+use Rattle.av_types.specs.Places.{section_of, chunk_of_section}
+use Rattle.av_cells.specs.Grid.{is_here}
+use Rattle.av_world.specs.Near.{cells_near}
+use Rattle.av_world.specs.Views.{grid, room, CanSetAt}
+use Rattle.av_world.specs.Turned.{corners, turned, HasRoomAt, CanSetAll}
+use Rattle.av_world.proofs.Steps.{site_kept, on_ok, loaded_later}
+use Rattle.av_world.proofs.Corners.{in_reach, for_turned, map_turned, ten}
+use Rattle.av_world.proofs.blocks.WorldCells.prepare.Goals as goal
+
+pub prepare_turn-requires : goal.prepare_turn-requires
+prepare_turn-requires c = let w = c.args.self.now in cells_near w.height w.positions.items w.chunks.items w.lawful c.args.pos c.requires
+
+pub returns-clause-room : goal.returns-clause-room
+returns-clause-room c =
+    let old = c.args.self.now in let new = c.prepare_turn.new.self in
+    on_ok c.prepare_turn.result (All (HasRoomAt new 42) (corners c.args.pos)) _ c.prepare_turn.ensures.room
+    (λ all q r t. in_reach (λ s. IsTrue (is_here (grid new s)) → 42 ≤ room new (chunk_of_section s)) c.args.pos q all r (loaded_later old new q c.prepare_turn.ensures.kept t))
+
+pub returns-clause-prepared : goal.returns-clause-prepared
+returns-clause-prepared c =
+    let old = c.args.self.now in let new = c.prepare_turn.new.self in
+    on_ok c.prepare_turn.result (All (CanSetAll new (0 ∷ 1 ∷ 2 ∷ 3 ∷ 4 ∷ 5 ∷ 6 ∷ 7 ∷ 8 ∷ 9 ∷ [])) (turned c.args.pos)) _ c.prepare_turn.ensures.prepared
+    (λ all. map_turned (CanSetAll new (0 ∷ 1 ∷ 2 ∷ 3 ∷ 4 ∷ 5 ∷ 6 ∷ 7 ∷ 8 ∷ 9 ∷ [])) _
+    (λ q h t n below. ten (CanSetAt new (section_of q)) (h (loaded_later old new q c.prepare_turn.ensures.kept t)) n below)
+    c.args.pos (for_turned (CanSetAll new (0 ∷ 1 ∷ 2 ∷ 3 ∷ 4 ∷ 5 ∷ 6 ∷ 7 ∷ 8 ∷ 9 ∷ [])) c.args.pos all))
+
+pub returns-clause-site : goal.returns-clause-site
+returns-clause-site c = site_kept c.args.self.now c.prepare_turn.new.self c.prepare_turn.ensures.kept

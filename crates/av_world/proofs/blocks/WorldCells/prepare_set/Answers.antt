@@ -1,0 +1,25 @@
+use Rattle.std.proofs.Common.{All, [], ◌∷◌, arith}
+use Rattle.av_cells.specs.Positions.{around}
+use Rattle.av_world.specs.Near.{cells_near}
+use Rattle.av_world.specs.Turned.{HasRoomAt, CanSetAll}
+use Rattle.av_world.proofs.Steps.{site_kept, on_ok, loaded_later}
+use Rattle.av_world.proofs.Corners.{for_around, map_around}
+use Rattle.av_world.proofs.blocks.WorldCells.prepare_set.Goals as goal
+
+pub prepare_one-requires : goal.prepare_one-requires
+prepare_one-requires c = let w = c.args.self.now in cells_near w.height w.positions.items w.chunks.items w.lawful c.args.pos c.requires
+
+pub returns-clause-room : goal.returns-clause-room
+returns-clause-room c =
+    let old = c.args.self.now in let new = c.prepare_one.new.self in
+    on_ok c.prepare_one.result (All (HasRoomAt new 7) (around c.args.pos)) _ c.prepare_one.ensures.room
+    (λ all. map_around (HasRoomAt new 7) _ (λ q h t. h (loaded_later old new q c.prepare_one.ensures.kept t)) c.args.pos (for_around (HasRoomAt new 7) c.args.pos all))
+
+pub returns-clause-prepared : goal.returns-clause-prepared
+returns-clause-prepared c =
+    let old = c.args.self.now in let new = c.prepare_one.new.self in
+    on_ok c.prepare_one.result (CanSetAll new (c.args.number ∷ []) c.args.pos) _ c.prepare_one.ensures.prepared
+    (λ h. h (loaded_later old new c.args.pos c.prepare_one.ensures.kept c.requires) 0 0 (omega arith))
+
+pub returns-clause-site : goal.returns-clause-site
+returns-clause-site c = site_kept c.args.self.now c.prepare_one.new.self c.prepare_one.ensures.kept

@@ -1,0 +1,132 @@
+//! Entries appended to the lists of a world.
+ghost use Rattle.std.specs.Prelude.{◌≡◌, ◌≤◌, ◌<◌, ◌+◌, ℕ, replicate, IsTrue, false, length, nat_eq, slice_index_or, OnOk, OnErr, IfOk, IfErr, All, if◌then◌else◌};
+ghost use Rattle.std.specs.List.{AllPairs};
+ghost use Rattle.av_types.specs.declared.fault.Fault.TheVariants.{OutOfMemory, Broken};
+ghost use Rattle.av_types.specs.declared.place.ChunkPos.{ChunkPos};
+ghost use Rattle.av_cells.specs.Positions.{same_pos};
+ghost use Rattle.av_cells.specs.World.{listed_all};
+ghost use Rattle.av_world.specs.Appended.{entries_made, with_entries, with_listed};
+ghost use Rattle.av_world.specs.Appending.{entered_all, CanAppend, count_at, HasRoomForAll};
+ghost use Rattle.av_world.specs.Lands.{land_of};
+ghost use Rattle.av_world.specs.Views.{blocks, lists, room, site, positions_of, is_broken, IsKept};
+
+use crate::worlds::World;
+use av_types::{Fault, Made};
+use std::alloc::Global;
+
+/// So many zeros.
+fn zeros(alloc: Global, count: usize) -> Result<Vec<usize>, Fault>
+    ensures value { IfOk result (λ zeros. zeros.items ≡ replicate count 0) }
+    ensures fault { IfErr result (λ e. e ≡ OutOfMemory) }
+{
+    Ok(vec![in alloc; 0usize; count]?)
+}
+
+/// Counts one more entry of the chunk at an index, if it is there. No count exceeds `most`.
+fn count_one(counts: &mut Vec<usize>, index: usize, most: usize)
+    requires { index < length counts.old.items → slice_index_or counts.old.items index 0 < most }
+    ensures count { length counts.new.items ≡ length counts.old.items }
+    ensures each { (k : ℕ) → k < length counts.old.items → slice_index_or counts.new.items k 0
+        ≡ (if nat_eq index k then 1 else 0) + slice_index_or counts.old.items k 0 }
+{
+    if index < counts.len() {
+        counts[index] += 1;
+    }
+}
+
+impl World {
+    /// How many of these entries each chunk is to get.
+    fn count_made(&self, made: &[Made]) -> Result<Vec<usize>, Fault>
+        ensures count { IfOk result (λ counts. length counts.items ≡ length (positions_of self.now)) }
+        ensures each { IfOk result (λ counts. (k : ℕ) → k < length (positions_of self.now)
+            → slice_index_or counts.items k 0 ≡ count_at (positions_of self.now) k (entries_made made.now)) }
+        ensures fault { IfErr result (λ e. e ≡ OutOfMemory) }
+    {
+        let alloc = *self.positions.allocator();
+        let mut counts = zeros(alloc, self.positions.len())?;
+        let most = made.len();
+        for one in made {
+            let index = self.slot_of(one.entry.pos.section());
+            count_one(&mut counts, index, most);
+        }
+        Ok(counts)
+    }
+
+    /// Makes room for so many more entries of the chunk at an index.
+    fn reserve_count(&mut self, index: usize, count: usize) -> Result<(), Fault>
+        requires { index < length (positions_of self.old) }
+        ensures kept { IsKept self.old self.new }
+        ensures room { OnOk result ((d : ChunkPos) → count ≤ room self.new (slice_index_or (positions_of self.old) index d)) }
+        ensures fault { IfErr result (λ e. e ≡ OutOfMemory) }
+    {
+        if count == 0 {
+            return Ok(());
+        }
+        let at = self.positions[index];
+        self.reserve_chunk(at, count)
+    }
+
+    /// Makes room for so many more entries of each chunk.
+    fn reserve_counts(&mut self, counts: &[usize]) -> Result<(), Fault>
+        requires { length counts.now ≡ length (positions_of self.old) }
+        ensures kept { IsKept self.old self.new }
+        ensures room { OnOk result ((k : ℕ) (d : ChunkPos) → k < length counts.now
+            → slice_index_or counts.now k 0 ≤ room self.new (slice_index_or (positions_of self.old) k d)) }
+        ensures fault { IfErr result (λ e. e ≡ OutOfMemory) }
+    {
+        for (index, count) in counts.iter().enumerate() {
+            self.reserve_count(index, *count)?;
+        }
+        Ok(())
+    }
+
+    /// Makes room in each list for those of these entries that it is to get.
+    fn reserve_made(&mut self, made: &[Made]) -> Result<(), Fault>
+        ensures kept { IsKept self.old self.new }
+        ensures room { OnOk result (HasRoomForAll self.new (entries_made made.now)) }
+        ensures fault { IfErr result (λ e. e ≡ OutOfMemory) }
+    {
+        let counts = self.count_made(made)?;
+        self.reserve_counts(counts.as_slice())
+    }
+
+    /// Appends entries, for which there is room.
+    fn add_all(&mut self, made: &[Made])
+        requires new { CanAppend (blocks self.old) (entries_made made.now) }
+        requires room { HasRoomForAll self.old (entries_made made.now) }
+        ensures blocks { blocks self.new ≡ entered_all (blocks self.old) (entries_made made.now) }
+        ensures lists { lists self.new ≡ listed_all (lists self.old) (entries_made made.now) }
+        ensures site { site self.new ≡ site self.old }
+    {
+        for one in made {
+            self.add_new(one.entry);
+        }
+    }
+
+    /// Appends entries that were made to the lists of their chunks, in the order given. Each is of a loaded block of
+    /// which no entry waits, and no two are of one block. A broken world takes any.
+    ///
+    /// # Errors
+    /// `Broken` of a broken world, and else `OutOfMemory`. Also then the world is as before.
+    pub fn append(&mut self, made: &[Made]) -> Result<(), Fault>
+        requires loaded { is_broken self.old ≡ false → All (λ m. IsTrue ((blocks self.old).loaded m.entry.pos)) made.now }
+        requires fresh { is_broken self.old ≡ false → All (λ m. (blocks self.old).pending m.entry.pos ≡ false) made.now }
+        requires distinct { is_broken self.old ≡ false
+            → AllPairs (λ a b. same_pos b.entry.pos a.entry.pos ≡ false) made.now }
+        ensures lists { OnOk result (lists self.new ≡ listed_all (lists self.old) (entries_made made.now)) }
+        ensures blocks { OnOk result (blocks self.new ≡ with_entries (blocks self.old) (entries_made made.now)) }
+        ensures land { OnOk result (land_of self.new ≡ with_listed (land_of self.old) (entries_made made.now)) }
+        ensures site { site self.new ≡ site self.old }
+        ensures unbroken { OnOk result (is_broken self.old ≡ false) }
+        ensures same_blocks { OnErr result (blocks self.new ≡ blocks self.old) }
+        ensures same_land { OnErr result (land_of self.new ≡ land_of self.old) }
+        ensures fault { IfErr result (λ e. e ≡ (if is_broken self.old then Broken else OutOfMemory)) }
+    {
+        if self.broken {
+            return Err(Fault::Broken);
+        }
+        self.reserve_made(made)?;
+        self.add_all(made);
+        Ok(())
+    }
+}

@@ -1,0 +1,130 @@
+//! Entries that are due.
+ghost use Rattle.std.specs.Prelude.{◌≡◌, ◌≤◌, ◌++◌, true, false, not, filter, OnOk, OnErr, IfOk, IfErr, if◌then◌else◌};
+ghost use Rattle.std.specs.List.{flat_map};
+ghost use Rattle.av_types.specs.declared.fault.Fault.TheVariants.{OutOfMemory, Broken};
+ghost use Rattle.av_types.specs.declared.place.SectionPos.{SectionPos};
+ghost use Rattle.av_ticks.specs.Entries.{is_due, due_order};
+ghost use Rattle.av_ticks.specs.Order.{ordered};
+ghost use Rattle.av_ticks.specs.Ticks.{entries};
+ghost use Rattle.av_land.specs.Tick.{due_entries, without_due};
+ghost use Rattle.av_world.specs.Changes.{SameNumbers};
+ghost use Rattle.av_world.specs.Due.{at_least, tick_of};
+ghost use Rattle.av_world.specs.Lands.{land_of, IsWhole};
+ghost use Rattle.av_world.specs.Views.{sections, blocks, lists, site, is_broken, chunks_of};
+
+use crate::chunks::leave_in;
+use crate::worlds::World;
+use av_types::{Entry, Fault};
+
+/// Appends the entries that are due.
+fn push_due(due: &mut Vec<Entry>, entries: &[Entry], now: u32) -> Result<(), Fault>
+    ensures ok { OnOk result (due.new.items ≡ due.old.items ++ filter (is_due now) entries.now) }
+    ensures fault { IfErr result (λ e. e ≡ OutOfMemory) }
+{
+    let now = i64::from(now);
+    for entry in entries {
+        if entry.due <= now {
+            due.push(*entry)?;
+        }
+    }
+    Ok(())
+}
+
+/// The tick in which an entry is due, 0 for one that is overdue.
+fn tick_of(entry: &Entry) -> u64
+    ensures { result ≡ tick_of entry.now.due }
+{
+    if entry.due < 0 { 0 } else { entry.due as u64 }
+}
+
+/// The sooner of two ticks.
+fn sooner(one: u64, other: u64) -> u64
+    ensures one { result ≤ one }
+    ensures other { result ≤ other }
+{
+    if one < other { one } else { other }
+}
+
+/// The least tick of some entries, and at most this.
+fn soonest_in(entries: &[Entry], most: u64) -> u64
+    ensures low { result ≤ most }
+    ensures none { at_least result entries.now ≡ true }
+{
+    let mut soonest = most;
+    for entry in entries {
+        soonest = sooner(soonest, tick_of(entry));
+    }
+    soonest
+}
+
+impl World {
+    /// A tick before which no entry of any list is due.
+    pub fn soonest(&self) -> u64
+        ensures { at_least result (flat_map (λ chunk. entries chunk.ticks) (chunks_of self.now)) ≡ true }
+    {
+        let mut soonest = u64::MAX;
+        for chunk in &self.chunks {
+            soonest = soonest_in(chunk.ticks.as_slice(), soonest);
+        }
+        soonest
+    }
+
+    /// The entries that are due in tick `now` or before it, in the order of the chunks and of their lists.
+    fn find_due(&self, now: u32) -> Result<Vec<Entry>, Fault>
+        ensures ok { IfOk result (λ due. due.items ≡ flat_map (λ chunk. filter (is_due now) (entries chunk.ticks)) (chunks_of self.now)) }
+        ensures fault { IfErr result (λ e. e ≡ OutOfMemory) }
+    {
+        let alloc = *self.positions.allocator();
+        let mut due = Vec::new(alloc);
+        for chunk in &self.chunks {
+            push_due(&mut due, chunk.ticks.as_slice(), now)?;
+        }
+        Ok(due)
+    }
+
+    /// The same entries by their time, then by their priority, the lower first, then by chunk and place in the list.
+    fn due_in_order(&self, now: u32) -> Result<Vec<Entry>, Fault>
+        ensures ok { IfOk result (λ due. due.items ≡ ordered due_order (flat_map (λ chunk. filter (is_due now) (entries chunk.ticks)) (chunks_of self.now))) }
+        ensures fault { IfErr result (λ e. e ≡ OutOfMemory) }
+    {
+        let mut due = self.find_due(now)?;
+        due.sort_by_key(|entry| (entry.due, entry.priority))?;
+        Ok(due)
+    }
+
+    /// Takes the entries that are due out of all lists. Their blocks are pending no longer.
+    fn leave_all(&mut self, now: u32)
+        ensures lists { lists self.new ≡ (λ c. filter (λ e. not (is_due now e)) (lists self.old c)) }
+        ensures site { site self.new ≡ site self.old }
+        ensures numbers { (s : SectionPos) → SameNumbers (sections self.old s) (sections self.new s) }
+    {
+        for index in 0..self.chunks.len() {
+            leave_in(&mut self.chunks[index], self.height, now);
+        }
+    }
+
+    /// Takes the entries that are due in tick `now` or before it out of all lists, and returns them by their time, then
+    /// by their priority, the lower first, then by chunk (z, x) and by their place in the list. Their blocks are
+    /// pending no longer.
+    ///
+    /// # Errors
+    /// `Broken` of a broken world, and else `OutOfMemory`. Also then the world is as before.
+    pub fn take_due(&mut self, now: u32) -> Result<Vec<Entry>, Fault>
+        ensures due { IfOk result (λ due. due.items ≡ due_entries now (land_of self.old)) }
+        ensures left { OnOk result (land_of self.new ≡ without_due now (land_of self.old)) }
+        ensures loaded { (blocks self.new).loaded ≡ (blocks self.old).loaded }
+        ensures site { site self.new ≡ site self.old }
+        ensures unbroken { OnOk result (is_broken self.old ≡ false) }
+        ensures whole { IsWhole self.old → IsWhole self.new }
+        ensures unchanged_land { OnErr result (land_of self.new ≡ land_of self.old) }
+        ensures unchanged { OnErr result (blocks self.new ≡ blocks self.old) }
+        ensures fault { IfErr result (λ e. e ≡ (if is_broken self.old then Broken else OutOfMemory)) }
+    {
+        if self.broken {
+            return Err(Fault::Broken);
+        }
+        let due = self.due_in_order(now)?;
+        self.leave_all(now);
+        Ok(due)
+    }
+}

@@ -1,0 +1,110 @@
+//! Room for turns and sets to come.
+ghost use Rattle.std.specs.Prelude.{◌≡◌, ◌≤◌, ◌<◌, length, IsTrue, IsOk, OnOk, IfErr, All, [], ◌∷◌};
+ghost use Rattle.av_types.specs.declared.fault.Fault.TheVariants.{OutOfMemory};
+ghost use Rattle.av_types.specs.Places.{section_of, chunk_of};
+ghost use Rattle.av_cells.specs.Grid.{is_here};
+ghost use Rattle.av_cells.specs.Positions.{IsNearOrigin, around};
+ghost use Rattle.av_world.specs.Turned.{corners, turned, HasRoomAt, CanSetAll};
+ghost use Rattle.av_world.specs.Index.{slot};
+ghost use Rattle.av_world.specs.Views.{grid, blocks, room, positions_of, CanSetAt, IsKept};
+
+use crate::chunks::{is_high, offset, prepare_in, reserve_in};
+use crate::turned::{around, corners, turned};
+use crate::worlds::World;
+use av_types::{ChunkPos, Fault, Pos, SectionPos};
+
+impl World {
+    /// Makes room for so many more entries of a chunk, where it is there.
+    pub(crate) fn reserve_chunk(&mut self, at: ChunkPos, count: usize) -> Result<(), Fault>
+        ensures kept { IsKept self.old self.new }
+        ensures room { OnOk result (slot (positions_of self.old) at < length (positions_of self.old) → count ≤ room self.new at) }
+        ensures fault { IfErr result (λ e. e ≡ OutOfMemory) }
+        ensures succeeds { count ≤ room self.old at → IsOk result }
+    {
+        let chunk = self.chunk_slot(at);
+        if chunk >= self.chunks.len() {
+            return Ok(());
+        }
+        reserve_in(&mut self.chunks[chunk], count)
+    }
+
+    /// Makes room for so many more entries of a block's chunk, where the block is loaded.
+    fn reserve_at(&mut self, at: Pos, count: usize) -> Result<(), Fault>
+        ensures kept { IsKept self.old self.new }
+        ensures room { OnOk result (HasRoomAt self.new count at) }
+        ensures fault { IfErr result (λ e. e ≡ OutOfMemory) }
+    {
+        if self.section(at.section()).is_none() {
+            return Ok(());
+        }
+        self.reserve_chunk(at.section().chunk(), count)
+    }
+
+    /// Makes room for so many more entries of the chunks of some blocks, where they are loaded.
+    fn reserve_all(&mut self, at: &[Pos], count: usize) -> Result<(), Fault>
+        ensures kept { IsKept self.old self.new }
+        ensures room { OnOk result (All (HasRoomAt self.new count) at.now) }
+        ensures fault { IfErr result (λ e. e ≡ OutOfMemory) }
+    {
+        for at in at {
+            self.reserve_at(*at, count)?;
+        }
+        Ok(())
+    }
+
+    /// Makes room for numbers in a section, where it is loaded.
+    fn prepare_section(&mut self, at: SectionPos, numbers: &[u16]) -> Result<(), Fault>
+        ensures kept { IsKept self.old self.new }
+        ensures prepared { OnOk result (IsTrue (is_here (grid self.new at)) → All (CanSetAt self.new at) numbers.now) }
+        ensures fault { IfErr result (λ e. e ≡ OutOfMemory) }
+        ensures succeeds { (IsTrue (is_here (grid self.old at)) → All (CanSetAt self.old at) numbers.now) → IsOk result }
+    {
+        let chunk = self.slot_of(at);
+        if chunk >= self.chunks.len() {
+            return Ok(());
+        }
+        if !is_high(self.height, at) {
+            return Ok(());
+        }
+        let offset = offset(self.height, at);
+        prepare_in(&mut self.chunks[chunk], offset, numbers)
+    }
+
+    /// Makes room for numbers in the sections of some blocks, where they are loaded.
+    fn prepare_all(&mut self, at: &[Pos], numbers: &[u16]) -> Result<(), Fault>
+        ensures kept { IsKept self.old self.new }
+        ensures prepared { OnOk result (All (CanSetAll self.new numbers.now) at.now) }
+        ensures fault { IfErr result (λ e. e ≡ OutOfMemory) }
+    {
+        for pos in at {
+            self.prepare_section(pos.section(), numbers)?;
+        }
+        Ok(())
+    }
+
+    /// Makes room for the next turn of a block.
+    pub(crate) fn prepare_turn(&mut self, pos: Pos) -> Result<(), Fault>
+        requires { IsNearOrigin pos }
+        ensures kept { IsKept self.old self.new }
+        ensures room { OnOk result (All (HasRoomAt self.new 42) (corners pos)) }
+        ensures prepared { OnOk result (All (CanSetAll self.new (0 ∷ 1 ∷ 2 ∷ 3 ∷ 4 ∷ 5 ∷ 6 ∷ 7 ∷ 8 ∷ 9 ∷ [])) (turned pos)) }
+        ensures fault { IfErr result (λ e. e ≡ OutOfMemory) }
+    {
+        let corners = corners(pos);
+        self.look_near(&corners);
+        self.reserve_all(&corners, 42)?;
+        self.prepare_all(&turned(pos), &[0, 1, 2, 3, 4, 5, 6, 7, 8, 9])
+    }
+
+    /// Makes room for the next set of a block with its waking.
+    pub(crate) fn prepare_one(&mut self, pos: Pos, number: u16) -> Result<(), Fault>
+        requires { IsNearOrigin pos }
+        ensures kept { IsKept self.old self.new }
+        ensures room { OnOk result (All (HasRoomAt self.new 7) (around pos)) }
+        ensures prepared { OnOk result (CanSetAll self.new (number ∷ []) pos) }
+        ensures fault { IfErr result (λ e. e ≡ OutOfMemory) }
+    {
+        self.reserve_all(&around(pos), 7)?;
+        self.prepare_section(pos.section(), &[number])
+    }
+}
