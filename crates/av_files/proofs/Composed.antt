@@ -14,9 +14,10 @@ use Rattle.av_land.specs.Tick.{Set, set_in, turned, edited, turned_all, ticked, 
 use Rattle.av_files.specs.Files.{File}
 use Rattle.av_files.specs.Denotes.{Rest, Denotes}
 use Rattle.av_files.specs.Layout.{Lights, layout, too_large}
-use Rattle.av_files.specs.Lawful.{IsLawfulLand, shifted}
+use Rattle.av_files.specs.Lawful.{IsLawfulLand}
+use Rattle.av_land.specs.Resumed.{shifted}
 use Rattle.av_files.specs.Light.{IsLit}
-use Rattle.av_files.specs.Edits.{edits_of}
+use Rattle.av_edits.specs.Edits.{edits_of}
 use Rattle.av_files.specs.FirstFault.{AreCountsGood, IsTable, IsAccepted}
 use Rattle.av_files.specs.Run.{stated, stated_set, kinds_in, IsRun}
 use Rattle.av_files.specs.Layers.{IsLoad, AreEdits}

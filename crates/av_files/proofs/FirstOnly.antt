@@ -19,7 +19,7 @@ use Rattle.av_land.specs.Land.{Land, is_loaded}
 use Rattle.av_files.specs.Files.{File, in_order}
 use Rattle.av_files.specs.Denotes.{Rest, Denotes}
 use Rattle.av_files.specs.Layout.{indices}
-use Rattle.av_files.specs.Edits.{first_in_edits}
+use Rattle.av_edits.specs.Edits.{first_in_edits}
 use Rattle.av_files.specs.FirstFault.{IsPlaceFault, sectors, spelling, document, IsPlaceGood, nothing, chunk, states_read, ArePlacesGood, IsFirstOfPlaces, IsFileGood, IsFirstOfFile, header, place, AreFilesGood, IsFirstOfFiles, IsTable, AreRead, IsFilesFault, range, repeated, region, IsFirstFault, counts, rules, file, edit, IsAccepted, OneFault, OneFirstFault}
 use Rattle.av_files.proofs.Unique.{same_document, some_location, denote_one}
 use Rattle.av_files.proofs.OneFault.{document_fault}
@@ -207,7 +207,7 @@ input_not h fs e states (region l s x) b = files_not h first_states (in_order fs
 same_some : {A : Type 0} (x y : A) → Some x ≡ Some y → x ≡ y
 same_some x y h = cc
 
-table_one : (text : List ℕ) (t u : BlockTable) (h k : Height) → IsTable text t h → IsTable text u k → h ≡ k
+pub table_one : (text : List ℕ) (t u : BlockTable) (h k : Height) → IsTable text t h → IsTable text u k → h ≡ k
 table_one text t u h k a b =
     let same : t ≡ u = same_some t u (sym a.spelled ∙ b.spelled) in
     height_is h k (a.low ∙ ap (λ x. x.min_section) same ∙ sym b.low) (a.count ∙ ap (λ x. x.sections) same ∙ sym b.count)

@@ -19,7 +19,8 @@ use Rattle.av_document.specs.Law.{sooner}
 use Rattle.av_files.specs.Files.{File, in_order, regions_rise, chunks_rise, region_order}
 use Rattle.av_files.specs.Denotes.{Rest, IsSlot, DenotesFile, Denotes}
 use Rattle.av_files.specs.Layout.{Lights, sources_of, payload_of, indices, payloads, stamps, file_layout, layout, first_or, too_large_in, too_large}
-use Rattle.av_files.specs.Lawful.{IsLawfulLand, AreLights, shifted}
+use Rattle.av_files.specs.Lawful.{IsLawfulLand, AreLights}
+use Rattle.av_land.specs.Resumed.{shifted}
 use Rattle.av_files.specs.Laws.{StampsFit, LayoutDenotes}
 use Rattle.av_files.proofs.Sorted.{in_order_rising, all_ordered, all_mapped, all_both}
 use Rattle.av_files.proofs.Slots.{made_at, slot_written}
@@ -44,7 +45,7 @@ holds_written t v r light n region fit small =
     (All-from_recursion (λ s. s < 2 ^ 32) (stamps r region) (stamps_made (r.stamp region) (fit region) indices))
 
 file_written : (t : BlockTable) (w v : Land BlockState) (r : Rest) (light : Lights) (n : ℕ) → StampsFit r → v.chunks ≡ w.chunks → IsLawfulLand v n → AreLights v.height light
-    → (region : RegionPos) → WasRead v.height w r region → first_too_large (payloads (sources_of t v) v r light n region) ≡ None → DenotesFile v.height (shifted v n) r (file_layout (sources_of t v) v r light n region)
+    → (region : RegionPos) → WasRead v.height w r region → first_too_large (payloads (sources_of t v) v r light n region) ≡ None → DenotesFile v.height (shifted n v) r (file_layout (sources_of t v) v r light n region)
 file_written t w v r light n fit same lawful lit region was small =
     let holds = holds_written t v r light n region fit small in
     record {
@@ -78,11 +79,11 @@ layout_is_denoted t h files w v r light n d fit tall same lawful lit small =
     subst (λ rs. AllByRecursion (WasRead v.height w r) rs) (sym d.regions)
     (all_mapped (DenotesFile v.height w r) (WasRead v.height w r) (λ f. f.pos) (in_order files) (λ f x. record { file = f.bytes; denotes = x }) read) in
     let both = all_both (WasRead v.height w r) (AreSmall t v r light n) (λ region. WasRead v.height w r region × AreSmall t v r light n region) r.regions (λ region x y. (x, y)) was (smalls t v r light n r.regions small) in
-    let each = all_mapped (λ region. WasRead v.height w r region × AreSmall t v r light n region) (DenotesFile v.height (shifted v n) r) (file_layout (sources_of t v) v r light n) r.regions
+    let each = all_mapped (λ region. WasRead v.height w r region × AreSmall t v r light n region) (DenotesFile v.height (shifted n v) r) (file_layout (sources_of t v) v r light n) r.regions
     (λ region x. file_written t w v r light n fit same lawful lv region x.0 x.1) both in
     let at = positions_of t v r light n r.regions in
     let rises : regions_rise (map (λ f. f.pos) (layout t v r light n)) ≡ true = ap regions_rise at ∙ d.apart in
-    subst (λ x. Denotes x (layout t v r light n) (shifted v n) r) hv (record {
+    subst (λ x. Denotes x (layout t v r light n) (shifted n v) r) hv (record {
       apart = d.apart;
       regions = sym (ap (λ fs. map (λ f. f.pos) fs) (in_order_rising (layout t v r light n) rises) ∙ at);
       each = each;

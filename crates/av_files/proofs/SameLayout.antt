@@ -29,7 +29,7 @@ use Rattle.av_land.specs.Resumed.{sooner, shifted, early, late}
 use Rattle.av_files.specs.Files.{File, same_region}
 use Rattle.av_files.specs.Denotes.{Rest, Denotes}
 use Rattle.av_files.specs.Layout.{Lights, sources_of, chunk_bytes, payload_of, indices, payloads, stamps, file_layout, layout}
-use Rattle.av_files.specs.Light.{IsLit, IsLight, IsLightPath, cost, brought}
+use Rattle.av_files.specs.Light.{IsLit}
 use Rattle.av_files.specs.Laws.{SameRest}
 use Rattle.av_files.specs.Run.{IsRun, stated, kinds_in}
 use Rattle.av_files.specs.Resumption.{AreRuns, SameFiles, FilesResume}
@@ -121,7 +121,7 @@ payload_same true x y k l h e = ap (λ z. Some z) (h refl)
 payload_same false x y k l h e = e
 
 -- the world of n + m ticks, sooner by n and written after m, is written as that world after n + m
-layout_same : (t : BlockTable) (w u : Land BlockState) (r s : Rest) (l m : Lights) (n k : ℕ) → SameRest u.height w s r → w.chunks ≡ u.chunks
+pub layout_same : (t : BlockTable) (w u : Land BlockState) (r s : Rest) (l m : Lights) (n k : ℕ) → SameRest u.height w s r → w.chunks ≡ u.chunks
     → ((c : ChunkPos) → has_chunk u.chunks c ≡ true → (y : ℤ) → is_section_of u.height y ≡ true → l c y ≡ m c y)
     → layout t (shifted n u) s l k ≡ layout t u r m (k + n)
 layout_same t w u r s l m n k same chunks lit =
@@ -137,34 +137,9 @@ layout_same t w u r s l m n k same chunks lit =
     map_all (file_layout (sources_of t (shifted n u)) (shifted n u) s l k) (file_layout (sources_of t u) u r m (k + n)) s.regions (members (λ x. file_layout (sources_of t (shifted n u)) (shifted n u) s l k x ≡ file_layout (sources_of t u) u r m (k + n) x) s.regions one)
     ∙ ap (map (file_layout (sources_of t u) u r m (k + n))) same.regions
 
--- ---- light does not look at entries
-
-path_down : (n : ℕ) (u : Land BlockState) (qs : List Pos) (first p : Pos) → IsLightPath (shifted n u) first qs p → IsLightPath u first qs p
-path_down n u [] first p h = h
-path_down n u (q ∷ qs) first p h = (h.0, h.1, path_down n u qs q p h.2)
-
-path_up : (n : ℕ) (u : Land BlockState) (qs : List Pos) (first p : Pos) → IsLightPath u first qs p → IsLightPath (shifted n u) first qs p
-path_up n u [] first p h = h
-path_up n u (q ∷ qs) first p h = (h.0, h.1, path_up n u qs q p h.2)
-
-cost_same : (t : BlockTable) (n : ℕ) (u : Land BlockState) (qs : List Pos) → cost t (shifted n u) qs ≡ cost t u qs
-cost_same t n u [] = refl
-cost_same t n u (q ∷ qs) = ap (λ x. max 1 (row_of t (u.at q)).opacity + x) (cost_same t n u qs)
-
-brought_same : (t : BlockTable) (n : ℕ) (u : Land BlockState) (first : Pos) (qs : List Pos) → brought t (shifted n u) first qs ≡ brought t u first qs
-brought_same t n u first qs = ap (λ x. (row_of t (u.at first)).emission - x) (cost_same t n u qs)
-
-light_down : (t : BlockTable) (n : ℕ) (u : Land BlockState) (p : Pos) (k : ℕ) → IsLight t (shifted n u) p k → IsLight t u p k
-light_down t n u p k h = record {
-  most = λ first qs path. subst (λ x. x ≤ k) (brought_same t n u first qs) (h.most first qs (path_up n u qs first p path));
-  reached = by h.reached;
-} where
-  by : ((k ≡ 0) ⊎ ((first : Pos) × (qs : List Pos) × IsLightPath (shifted n u) first qs p × (k ≡ brought t (shifted n u) first qs))) → (k ≡ 0) ⊎ ((first : Pos) × (qs : List Pos) × IsLightPath u first qs p × (k ≡ brought t u first qs))
-  by (inl e) = inl e
-  by (inr r) = inr (r.0, r.1, path_down n u r.1 r.0 p r.2, r.3 ∙ brought_same t n u r.0 r.1)
-
+-- light does not look at entries
 lit_down : (t : BlockTable) (n : ℕ) (u : Land BlockState) (l : Lights) → IsLit t (shifted n u) l → IsLit t u l
-lit_down t n u l h = record { bytes = h.bytes; blocks = λ p there. light_down t n u p _ (h.blocks p there) }
+lit_down t n u l h = record { bytes = h.bytes; blocks = h.blocks }
 
 -- ---- all together
 

@@ -13,20 +13,21 @@ use Rattle.av_document.specs.Layout.{block_at}
 use Rattle.av_document.proofs.Positions.{coordinate, divided-coordinate, remainder-coordinate, place-parts}
 use Rattle.av_land.specs.Land.{Land, has_chunk, is_loaded}
 use Rattle.av_files.specs.Layout.{Lights}
-use Rattle.av_files.specs.Light.{IsLight, IsLit, IsLightPath, brought}
+use Rattle.av_flood.specs.Light.{Terrain, IsLight, HasLight}
+use Rattle.av_files.specs.Light.{IsLit, terrain_by}
 
 least_of : (a b : ℕ) (x : (a ≡ 0) ⊎ (a ≤ b)) → a ≤ b
 least_of a b (inl e) = omega arith
 least_of a b (inr e) = e
 
-at_most : (t : BlockTable) (w : Land BlockState) (p : Pos) (a b : ℕ) → IsLight t w p a → IsLight t w p b → a ≤ b
-at_most t w p a b x y = by x.reached where
-  by : ((a ≡ 0) ⊎ ((first : Pos) × (qs : List Pos) × IsLightPath w first qs p × (a ≡ brought t w first qs))) → a ≤ b
+at_most : (g : Terrain) (p : Pos) (a b : ℕ) → IsLight g p a → IsLight g p b → a ≤ b
+at_most g p a b x y = by x.comes where
+  by : ((a ≡ 0) ⊎ HasLight g p a) → a ≤ b
   by (inl e) = omega arith
-  by (inr r) = let m = y.most r.0 r.1 r.2 in let e = r.3 in omega arith
+  by (inr r) = let m = y.most r.from r.over r.path in let e = r.brings in omega arith
 
-light_once : (t : BlockTable) (w : Land BlockState) (p : Pos) (a b : ℕ) → IsLight t w p a → IsLight t w p b → a ≡ b
-light_once t w p a b x y = let l = at_most t w p a b x y in let m = at_most t w p b a y x in omega arith
+light_once : (g : Terrain) (p : Pos) (a b : ℕ) → IsLight g p a → IsLight g p b → a ≡ b
+light_once g p a b x y = let l = at_most g p a b x y in let m = at_most g p b a y x in omega arith
 
 same_list : (xs ys : List ℕ) → length xs ≡ length ys → ((i : ℕ) → i < length xs → slice_index xs i ≡ slice_index ys i) → xs ≡ ys
 same_list [] [] e h = refl
@@ -71,7 +72,7 @@ same_nibble t w l m a b c is y inside i less =
     let v : divided p.y 16 ≡ y = divided-coordinate y (i / 256) (omega arith) in
     let at : chunk_of p ≡ c = λ j. record { x = x j; z = z j } in
     let there : is_loaded w p ≡ true = and_from _ _ (ap (has_chunk w.chunks) at ∙ is) (ap (is_section_of w.height) v ∙ inside) in
-    let e = light_once t w p (nibble_at (l (chunk_of p) (divided p.y 16)) (place_of p)) (nibble_at (m (chunk_of p) (divided p.y 16)) (place_of p)) (a.blocks p there) (b.blocks p there) in
+    let e = light_once (terrain_by t w) p (nibble_at (l (chunk_of p) (divided p.y 16)) (place_of p)) (nibble_at (m (chunk_of p) (divided p.y 16)) (place_of p)) (a.blocks p there) (b.blocks p there) in
     let go : (k : Lights) → nibble_at (k (chunk_of p) (divided p.y 16)) (place_of p) ≡ nibble_at (k c y) i = λ k j. nibble_at (k (at j) (v j)) (place_back c y i less j) in
     sym (go l) ∙ e ∙ go m
 

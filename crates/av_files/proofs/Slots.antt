@@ -18,7 +18,8 @@ use Rattle.av_document.proofs.Rewritten.{written_comes_back}
 use Rattle.av_land.specs.Land.{Land, has_chunk}
 use Rattle.av_files.specs.Denotes.{Rest, IsSlot, absent, kept, full}
 use Rattle.av_files.specs.Layout.{Lights, sources_of, chunk_bytes, payload_of, indices, payloads, stamps}
-use Rattle.av_files.specs.Lawful.{IsLawfulLand, AreLights, shifted}
+use Rattle.av_files.specs.Lawful.{IsLawfulLand, AreLights}
+use Rattle.av_land.specs.Resumed.{shifted}
 
 -- the value at an index of a list made from a function
 pub made_at : {X : Type 0} (g : ℕ → X) (i : ℕ) → i < 1024 → slice_get (map g indices) i ≡ Some (g i)
@@ -42,7 +43,7 @@ holds_few file i payload h =
 -- the world's chunk at a place, once it is written
 pub slot_written : (t : BlockTable) (w v : Land BlockState) (r : Rest) (light : Lights) (n : ℕ) (file out : List ℕ) (region : RegionPos) (i : ℕ) → i < 1024
     → IsSlot v.height w r file (chunk_at region i) i → v.chunks ≡ w.chunks → IsLawfulLand v n → AreLights v.height light
-    → HoldsAll out (payloads (sources_of t v) v r light n region) (stamps r region) → IsSlot v.height (shifted v n) r out (chunk_at region i) i
+    → HoldsAll out (payloads (sources_of t v) v r light n region) (stamps r region) → IsSlot v.height (shifted n v) r out (chunk_at region i) i
 slot_written t w v r light n file out region i less (absent none out_of kept_none) same lawful lit holds =
     let c = chunk_at region i in
     let gone : has_chunk v.chunks c ≡ false = ap (λ cs. has_chunk cs c) same ∙ out_of in

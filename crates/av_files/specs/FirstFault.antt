@@ -19,7 +19,7 @@ use Rattle.av_land.specs.Land.{Land, is_loaded}
 use Rattle.av_files.specs.Files.{File, in_order, share_a_region}
 use Rattle.av_files.specs.Denotes.{Rest, Denotes}
 use Rattle.av_files.specs.Layout.{indices}
-use Rattle.av_files.specs.Edits.{first_in_edits}
+use Rattle.av_edits.specs.Edits.{first_in_edits}
 
 -- ---- one place of a file
 

@@ -10,9 +10,9 @@ use Rattle.av_land.specs.Land.{Land}
 use Rattle.av_files.specs.Files.{File}
 use Rattle.av_files.specs.Denotes.{Rest, Denotes}
 use Rattle.av_files.specs.Layout.{Lights, layout, too_large}
-use Rattle.av_files.specs.Lawful.{shifted}
+use Rattle.av_land.specs.Resumed.{shifted}
 use Rattle.av_files.specs.Light.{IsLit}
-use Rattle.av_files.specs.Edits.{edits_of}
+use Rattle.av_edits.specs.Edits.{edits_of}
 use Rattle.av_files.specs.FirstFault.{IsAccepted, IsFirstFault}
 use Rattle.av_files.specs.Run.{IsRun}
 
@@ -33,7 +33,7 @@ pub record Headline (files : List File) (table edits : List ℕ) (n k : ℕ) (ou
   pub reached : Land BlockState
   pub light : Lights
   pub reaches : Reaches files table edits n k rest rules height reached light turns chunks
-  pub decodes : Denotes height out (shifted reached n) rest
+  pub decodes : Denotes height out (shifted n reached) rest
   pub bytes : out ≡ layout rules reached rest light n
   pub fits : too_large rules reached rest light n ≡ None
 

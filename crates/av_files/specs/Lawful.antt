@@ -6,7 +6,7 @@ use Rattle.av_types.specs.declared.place.ChunkPos.{ChunkPos}
 use Rattle.av_types.specs.declared.place.Height.{Height}
 use Rattle.av_types.specs.declared.place.Pos.{Pos}
 use Rattle.av_state.specs.BlockState.{BlockState, air, is_storable}
-use Rattle.av_document.specs.Law.{IsLawful, HasInts, sooner}
+use Rattle.av_document.specs.Law.{IsLawful, HasInts}
 use Rattle.av_land.specs.Land.{Land, has_chunk, is_loaded}
 use Rattle.av_files.specs.Layout.{Lights}
 
@@ -19,10 +19,6 @@ pub record IsLawfulLand (w : Land BlockState) (n : ℕ) : Type 0 where
 
 abbrev pub AreLights : Height → Lights → Type 0
 AreLights h light = (c : ChunkPos) (y : ℤ) → is_section_of h y ≡ true → length (light c y) ≡ 2048
-
--- Shift: each entry due so many ticks sooner
-abbrev pub shifted : Land BlockState → ℕ → Land BlockState
-shifted w n = record { height = w.height; chunks = w.chunks; at = w.at; lists = λ c. map (sooner n) (w.lists c) }
 
 -- the states of a table can be held by a file
 abbrev pub AreStorable : List BlockState → Type 0

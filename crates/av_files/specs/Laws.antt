@@ -11,7 +11,8 @@ use Rattle.av_land.specs.Land.{Land, has_chunk}
 use Rattle.av_files.specs.Files.{File, same_region}
 use Rattle.av_files.specs.Denotes.{Rest, Denotes}
 use Rattle.av_files.specs.Layout.{Lights, layout, too_large}
-use Rattle.av_files.specs.Lawful.{IsLawfulLand, AreLights, shifted}
+use Rattle.av_files.specs.Lawful.{IsLawfulLand, AreLights}
+use Rattle.av_land.specs.Resumed.{shifted}
 use Rattle.av_types.specs.declared.place.RegionPos.{RegionPos}
 
 abbrev pub StampsFit : Rest → Type 0
@@ -23,7 +24,7 @@ LayoutDenotes = (t : BlockTable) (h : Height) (files : List File) (w v : Land Bl
     → Denotes h files w r → StampsFit r
     → v.height ≡ w.height → v.chunks ≡ w.chunks → IsLawfulLand v n → AreLights h light
     → too_large t v r light n ≡ None
-    → Denotes h (layout t v r light n) (shifted v n) r
+    → Denotes h (layout t v r light n) (shifted n v) r
 
 -- the same rest of chunks of these files, as far as it is written
 pub record SameRest (h : Height) (w : Land BlockState) (r s : Rest) : Type 0 where

@@ -14,7 +14,7 @@ use Rattle.av_files.specs.Denotes.{Rest, Denotes}
 use Rattle.av_files.specs.Layout.{Lights, layout, too_large}
 use Rattle.av_files.specs.Lawful.{IsLawfulLand, AreStorable}
 use Rattle.av_files.specs.Laws.{StampsFit}
-use Rattle.av_files.specs.Edits.{first_in_edits, edits_of}
+use Rattle.av_edits.specs.Edits.{first_in_edits, edits_of}
 use Rattle.av_files.specs.FirstFault.{AreRead, AreReadAfter}
 use Rattle.av_files.specs.Run.{stated, stated_set}
 
