@@ -1,4 +1,3 @@
-pub mod RowLemmas
 pub mod Reading
-pub mod HalfBytes
-pub mod Together
+pub mod Lit
+pub mod Filling

@@ -1,2 +1,3 @@
-pub mod Sections
-pub mod Light
+pub mod Columns
+pub mod Near
+pub mod Lights

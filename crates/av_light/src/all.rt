@@ -1,38 +1,63 @@
-//! The light of many chunks, by several threads.
-ghost use Rattle.std.specs.Prelude.{◌≡◌, IfOk, IfErr};
-ghost use Rattle.std.specs.List.{AllZip};
-ghost use Rattle.av_types.specs.declared.fault.Fault.TheVariants.{OutOfMemory};
-ghost use Rattle.av_cells.specs.Grid.{cells_of};
-ghost use Rattle.av_light.specs.Light.{IsChunkLight, IsAnswer};
+//! The light of all chunks of a world, by several threads.
+ghost use Rattle.std.specs.Prelude.{◌≡◌, false, length, OnOk, IfOk, IfErr, if◌then◌else◌};
+ghost use Rattle.std.specs.List.{All, AllZip};
+ghost use Rattle.av_types.specs.declared.fault.Fault.TheVariants.{OutOfMemory, Broken};
+ghost use Rattle.av_chunk.specs.Light.{section_count};
+ghost use Rattle.av_world.specs.Views.{height_of, positions_of, blocks, is_broken};
+ghost use Rattle.av_section_light.specs.Light.{IsChunkLight, IsAnswer};
+ghost use Rattle.av_light.specs.Lights.{AreLit};
 
-use crate::chunk_light::light_in;
-use crate::sections::Sections;
+use crate::chunk_light::light_at;
 use av_chunk::ChunkLight;
 use av_rules::Kinds;
 use av_types::{ChunkPos, Fault};
+use av_world::World;
 use rayon::prelude::*;
 use std::alloc::Global;
 use std::thread::Threads;
 
-/// The light of each of some chunks, in their order, from as many threads as there are processors.
-pub fn light_all_in<S: Sections + Sync>(
+/// The light of each chunk of a world, broken or not, from as many threads as there are processors.
+fn lights(
     rt: &(impl Threads + Sync),
     alloc: Global,
-    sections: &S,
+    world: &World,
     kinds: &Kinds,
-    chunks: &[ChunkPos],
 ) -> Result<Vec<ChunkLight>, Fault>
-    ensures light { IfOk result (λ lights. AllZip (IsChunkLight kinds.now (cells_of (S.grid sections.now)) (S.tall sections.now)) chunks.now lights.items) }
+    ensures each { IfOk result (λ lights. AllZip (IsChunkLight kinds.now (blocks world.now) (height_of world.now)) (positions_of world.now) lights.items) }
     ensures fault { IfErr result (λ e. e ≡ OutOfMemory) }
 {
-    let lights = chunks
+    let lights = world
+        .positions()
         .par_iter()
         .with_min_len(1)
         .map(
             |chunk: &ChunkPos| -> Result<ChunkLight, Fault>
-                ensures { IsAnswer kinds.entry.now (cells_of (S.grid sections.entry.now)) (S.tall sections.entry.now) chunk.now result }
-            { light_in(alloc, sections, kinds, *chunk) },
+                ensures { IsAnswer kinds.entry.now (blocks world.entry.now) (height_of world.entry.now) chunk.now result }
+            { light_at(alloc, world, kinds, *chunk) },
         )
         .collect::<Result<Vec<ChunkLight>, Fault>>(rt, alloc)?;
     lights
+}
+
+/// The light of each chunk of a world, in the order of its positions, from as many threads as there are processors.
+///
+/// # Errors
+/// `Broken` of a broken world, and else `OutOfMemory`.
+pub fn light_all(
+    rt: &(impl Threads + Sync),
+    alloc: Global,
+    world: &World,
+    kinds: &Kinds,
+) -> Result<Vec<ChunkLight>, Fault>
+    ensures each { IfOk result (λ lights. AllZip (IsChunkLight kinds.now (blocks world.now) (height_of world.now)) (positions_of world.now) lights.items) }
+    ensures count { IfOk result (λ lights. length lights.items ≡ length (positions_of world.now)) }
+    ensures sections { IfOk result (λ lights. All (λ l. section_count l ≡ (height_of world.now).sections) lights.items) }
+    ensures blocks { IfOk result (λ lights. AreLit kinds.now world.now lights.items) }
+    ensures sound { OnOk result (is_broken world.now ≡ false) }
+    ensures fault { IfErr result (λ e. e ≡ (if is_broken world.now then Broken else OutOfMemory)) }
+{
+    if world.broken() {
+        return Err(Fault::Broken);
+    }
+    lights(rt, alloc, world, kinds)
 }

@@ -1,51 +1,70 @@
-//! The light of one chunk.
-ghost use Rattle.std.specs.Prelude.{◌≡◌, IfOk, IfErr};
+//! The light of one chunk of a world.
+ghost use Rattle.std.specs.Prelude.{◌≡◌, false, OnOk, IfOk, IfErr, if◌then◌else◌};
 ghost use Rattle.av_types.specs.Places.{chunk_of};
 ghost use Rattle.av_types.specs.declared.place.Pos.{Pos};
-ghost use Rattle.av_types.specs.declared.fault.Fault.TheVariants.{OutOfMemory};
-ghost use Rattle.av_cells.specs.Grid.{cells_of};
+ghost use Rattle.av_types.specs.declared.fault.Fault.TheVariants.{OutOfMemory, Broken};
 ghost use Rattle.av_flood.specs.Light.{IsLight};
 ghost use Rattle.av_flood.specs.Board.{light_of};
-ghost use Rattle.av_light.specs.Light.{terrain_of, IsChunkLight};
+ghost use Rattle.av_world.specs.Views.{height_of, blocks, is_broken};
+ghost use Rattle.av_section_light.specs.Light.{terrain_of, IsChunkLight, IsAnswer};
 
-use crate::lit::Lit;
-use crate::sections::Sections;
+use crate::around::Around;
 use av_chunk::ChunkLight;
-use av_flood::{Flood, flooded};
+use av_flood::Flood;
 use av_rules::Kinds;
+use av_section_light::{flood_in, light_in};
 use av_types::{ChunkPos, Fault};
+use av_world::World;
 use std::alloc::Global;
 
-/// A board on which each block of a chunk has its light. Refuses with `OutOfMemory` alone.
-pub fn flood_in<S: Sections>(
-    alloc: Global,
-    sections: &S,
-    kinds: &Kinds,
-    chunk: ChunkPos,
-) -> Result<Flood, Fault>
+/// A board on which each block of a chunk has its light: that of its brightest path in the whole world.
+///
+/// # Errors
+/// `Broken` of a broken world, and else `OutOfMemory`.
+pub fn flood(alloc: Global, world: &World, kinds: &Kinds, chunk: ChunkPos) -> Result<Flood, Fault>
     ensures chunk { IfOk result (λ f. f.chunk ≡ chunk) }
-    ensures height { IfOk result (λ f. f.height ≡ S.tall sections.now) }
+    ensures height { IfOk result (λ f. f.height ≡ height_of world.now) }
     ensures light { IfOk result (λ f. (p : Pos) → chunk_of p ≡ chunk
-        → IsLight (terrain_of kinds.now (cells_of (S.grid sections.now))) p (light_of f p)) }
-    ensures fault { IfErr result (λ e. e ≡ OutOfMemory) }
+        → IsLight (terrain_of kinds.now (blocks world.now)) p (light_of f p)) }
+    ensures sound { OnOk result (is_broken world.now ≡ false) }
+    ensures fault { IfErr result (λ e. e ≡ (if is_broken world.now then Broken else OutOfMemory)) }
 {
-    let blocks = Lit { sections, kinds };
-    let flood = flooded(alloc, &blocks, chunk)?;
-    Ok(flood)
+    if world.broken() {
+        return Err(Fault::Broken);
+    }
+    let around = Around::new(world, chunk);
+    flood_in(alloc, &around, kinds, chunk)
 }
 
-/// The light of a chunk's sections: the half byte of each block is its light. Refuses with `OutOfMemory` alone.
-pub fn light_in<S: Sections>(
+/// The light of a chunk of a world, broken or not. Refuses with `OutOfMemory` alone.
+pub(crate) fn light_at(
     alloc: Global,
-    sections: &S,
+    world: &World,
     kinds: &Kinds,
     chunk: ChunkPos,
 ) -> Result<ChunkLight, Fault>
-    ensures light { IfOk result (IsChunkLight kinds.now (cells_of (S.grid sections.now)) (S.tall sections.now) chunk) }
-    ensures fault { IfErr result (λ e. e ≡ OutOfMemory) }
+    ensures { IsAnswer kinds.now (blocks world.now) (height_of world.now) chunk result }
 {
-    let flood = flood_in(alloc, sections, kinds, chunk)?;
-    let bytes = flood.half_bytes(alloc)?;
-    let height = sections.height();
-    Ok(ChunkLight::from_bytes(height.sections, bytes))
+    let around = Around::new(world, chunk);
+    light_in(alloc, &around, kinds, chunk)
+}
+
+/// The light of a chunk's sections: the half byte of each block is its light.
+///
+/// # Errors
+/// `Broken` of a broken world, and else `OutOfMemory`.
+pub fn light_of_chunk(
+    alloc: Global,
+    world: &World,
+    kinds: &Kinds,
+    chunk: ChunkPos,
+) -> Result<ChunkLight, Fault>
+    ensures light { IfOk result (IsChunkLight kinds.now (blocks world.now) (height_of world.now) chunk) }
+    ensures sound { OnOk result (is_broken world.now ≡ false) }
+    ensures fault { IfErr result (λ e. e ≡ (if is_broken world.now then Broken else OutOfMemory)) }
+{
+    if world.broken() {
+        return Err(Fault::Broken);
+    }
+    light_at(alloc, world, kinds, chunk)
 }

@@ -1,13 +1,11 @@
-//! The block light of chunks: each loaded block's is that of its brightest path, over the whole world.
+//! The block light of a world's chunks: each loaded block's is that of its brightest path, over the whole world.
 #![tactic(auto)]
 
-pub mod all;
-pub mod chunk_light;
-pub mod lit;
-mod rows;
-pub mod sections;
+mod all;
+mod around;
+mod chunk_light;
+mod finding;
 
-pub use all::light_all_in;
-pub use chunk_light::{flood_in, light_in};
-pub use lit::Lit;
-pub use sections::Sections;
+pub use all::light_all;
+pub use av_flood::Flood;
+pub use chunk_light::{flood, light_of_chunk};

@@ -3,7 +3,7 @@ ghost use Rattle.std.specs.Prelude.{◌≡◌, IsTrue};
 ghost use Rattle.std.specs.Option.{option_copied};
 ghost use Rattle.av_cells.specs.Grid.{Grid, cells_of};
 ghost use Rattle.av_flood.specs.Blocks.{IsNear};
-ghost use Rattle.av_light.specs.Sections.{filling_in};
+ghost use Rattle.av_section_light.specs.Sections.{filling_in};
 
 use av_section::Section;
 use av_types::{Height, SectionPos};

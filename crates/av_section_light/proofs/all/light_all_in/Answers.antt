@@ -1,9 +1,9 @@
 use Rattle.std.proofs.Common.{ap, ◌∙◌}
 use Rattle.rayon.proofs.ToStd.{slice-AllZip}
 use Rattle.av_cells.specs.Grid.{cells_of}
-use Rattle.av_light.specs.Light.{IsChunkLight, IsAnswer}
-use Rattle.av_light.proofs.Together.{together, fault_together}
-use Rattle.av_light.proofs.all.light_all_in.Goals as goal
+use Rattle.av_section_light.specs.Light.{IsChunkLight, IsAnswer}
+use Rattle.av_section_light.proofs.Together.{together, fault_together}
+use Rattle.av_section_light.proofs.all.light_all_in.Goals as goal
 
 pub returns-clause-light : goal.returns-clause-light
 returns-clause-light g c =

@@ -15,7 +15,7 @@ pub struct Lit<'a, S> {
 impl<S: Sections> Blocks for Lit<'_, S> {
     ghost use Rattle.av_rules.proofs.KindFacts.{are_kinds};
     ghost use Rattle.av_cells.specs.Grid.{cells_of};
-    ghost use Rattle.av_light.specs.Light.{terrain_of};
+    ghost use Rattle.av_section_light.specs.Light.{terrain_of};
 
     ghost terrain = { λ l. terrain_of l.kinds.now (cells_of (S.grid l.sections.now)) };
 

@@ -7,9 +7,9 @@ use Rattle.av_pack.specs.Nibbles.{nibble_at}
 use Rattle.av_chunk.specs.Rest.{offset_of}
 use Rattle.av_cells.specs.Grid.{cells_of}
 use Rattle.av_flood.specs.Light.{IsLight}
-use Rattle.av_light.specs.Light.{terrain_of}
-use Rattle.av_light.proofs.HalfBytes.{bytes_are}
-use Rattle.av_light.proofs.chunk_light.light_in.Goals as goal
+use Rattle.av_section_light.specs.Light.{terrain_of}
+use Rattle.av_section_light.proofs.HalfBytes.{bytes_are}
+use Rattle.av_section_light.proofs.chunk_light.light_in.Goals as goal
 
 pub from_bytes-requires : goal.from_bytes-requires
 from_bytes-requires g c =

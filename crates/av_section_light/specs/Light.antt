@@ -12,7 +12,7 @@ use Rattle.av_chunk.specs.Light.{section_count}
 use Rattle.av_chunk.specs.declared.light.ChunkLight.{ChunkLight}
 use Rattle.av_cells.specs.World.{World}
 use Rattle.av_flood.specs.Light.{Terrain, IsLight}
-use Rattle.av_light.specs.Sections.{half_byte}
+use Rattle.av_section_light.specs.Sections.{half_byte}
 
 -- a block gives and takes as much light as the row of its state says
 abbrev pub terrain_of : Kinds → World → Terrain

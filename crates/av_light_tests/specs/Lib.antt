@@ -1,2 +1,0 @@
-pub mod OneGrid
-pub mod OneLaws

@@ -1,0 +1,4 @@
+pub mod RowLemmas
+pub mod Reading
+pub mod HalfBytes
+pub mod Together

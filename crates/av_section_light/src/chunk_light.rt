@@ -1,0 +1,51 @@
+//! The light of one chunk.
+ghost use Rattle.std.specs.Prelude.{◌≡◌, IfOk, IfErr};
+ghost use Rattle.av_types.specs.Places.{chunk_of};
+ghost use Rattle.av_types.specs.declared.place.Pos.{Pos};
+ghost use Rattle.av_types.specs.declared.fault.Fault.TheVariants.{OutOfMemory};
+ghost use Rattle.av_cells.specs.Grid.{cells_of};
+ghost use Rattle.av_flood.specs.Light.{IsLight};
+ghost use Rattle.av_flood.specs.Board.{light_of};
+ghost use Rattle.av_section_light.specs.Light.{terrain_of, IsChunkLight};
+
+use crate::lit::Lit;
+use crate::sections::Sections;
+use av_chunk::ChunkLight;
+use av_flood::{Flood, flooded};
+use av_rules::Kinds;
+use av_types::{ChunkPos, Fault};
+use std::alloc::Global;
+
+/// A board on which each block of a chunk has its light. Refuses with `OutOfMemory` alone.
+pub fn flood_in<S: Sections>(
+    alloc: Global,
+    sections: &S,
+    kinds: &Kinds,
+    chunk: ChunkPos,
+) -> Result<Flood, Fault>
+    ensures chunk { IfOk result (λ f. f.chunk ≡ chunk) }
+    ensures height { IfOk result (λ f. f.height ≡ S.tall sections.now) }
+    ensures light { IfOk result (λ f. (p : Pos) → chunk_of p ≡ chunk
+        → IsLight (terrain_of kinds.now (cells_of (S.grid sections.now))) p (light_of f p)) }
+    ensures fault { IfErr result (λ e. e ≡ OutOfMemory) }
+{
+    let blocks = Lit { sections, kinds };
+    let flood = flooded(alloc, &blocks, chunk)?;
+    Ok(flood)
+}
+
+/// The light of a chunk's sections: the half byte of each block is its light. Refuses with `OutOfMemory` alone.
+pub fn light_in<S: Sections>(
+    alloc: Global,
+    sections: &S,
+    kinds: &Kinds,
+    chunk: ChunkPos,
+) -> Result<ChunkLight, Fault>
+    ensures light { IfOk result (IsChunkLight kinds.now (cells_of (S.grid sections.now)) (S.tall sections.now) chunk) }
+    ensures fault { IfErr result (λ e. e ≡ OutOfMemory) }
+{
+    let flood = flood_in(alloc, sections, kinds, chunk)?;
+    let bytes = flood.half_bytes(alloc)?;
+    let height = sections.height();
+    Ok(ChunkLight::from_bytes(height.sections, bytes))
+}
