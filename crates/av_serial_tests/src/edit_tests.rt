@@ -1,0 +1,74 @@
+//! Lines of edits by hand, on a chunk with stone at y 63 and air elsewhere.
+use av_edits::{Edit, read};
+use av_types::{ChunkPos, Height, Pos};
+use av_world_tests::flat::{STONE, stone_table};
+use av_world_tests::worlds::flat_world;
+use std::test::Fail;
+
+const ORIGIN: ChunkPos = ChunkPos { x: 0, z: 0 };
+
+fn at(x: i32, y: i32, z: i32) -> Pos {
+    Pos { x, y, z }
+}
+
+/// Texts that are refused, for a run of 20 ticks, with the fault's line.
+const REFUSED: [(&str, &str); 14] = [
+    ("# x\n1 8 64 8 Stone", "fault 20: BadEdit 2"),
+    ("0 8 64 8 minecraft:stone", "fault 21: EditTick 1"),
+    ("21 8 64 8 minecraft:stone", "fault 21: EditTick 1"),
+    ("1 16 64 8 minecraft:stone\nx", "fault 22: EditOutside 1"),
+    ("1 8 320 8 minecraft:stone", "fault 22: EditOutside 1"),
+    ("1 8 -65 8 minecraft:stone", "fault 22: EditOutside 1"),
+    ("1 8 64 8  minecraft:stone", "fault 20: BadEdit 1"),
+    ("1 +8 64 8 minecraft:stone", "fault 20: BadEdit 1"),
+    ("1 2147483648 64 8 minecraft:stone", "fault 20: BadEdit 1"),
+    ("0 8 64 8 Stone", "fault 20: BadEdit 1"),
+    ("0 16 64 8 minecraft:stone", "fault 21: EditTick 1"),
+    ("\n\n#\n0 8 64 8 minecraft:stone", "fault 21: EditTick 4"),
+    ("1 8 64 8 minecraft:stone\r\r\n", "fault 20: BadEdit 1"),
+    ("1 8 64 8 minecraft:water[level=16]", "fault 20: BadEdit 1"),
+];
+
+#[test]
+fn refuses_other_lines(rt: HostRuntime) -> Result<(), Fail> {
+    let alloc = rt.alloc();
+    let world = flat_world(alloc, Height::game(), [ORIGIN].as_slice())?;
+    for (text, want) in REFUSED {
+        let mut table = stone_table(alloc)?;
+        let said = match read(alloc, text.as_bytes(), 20, &world, &mut table) {
+            Ok(_) => format!(in alloc; "no fault")?,
+            Err(fault) => format!(in alloc; "{fault}")?,
+        };
+        assert_eq!(rt; said.as_str(), want, "{text}");
+    }
+    Ok(())
+}
+
+/// Lines are counted with those that state nothing, and states are numbered in the order of the lines.
+#[test]
+fn reads_edits(rt: HostRuntime) -> Result<(), Fail> {
+    let alloc = rt.alloc();
+    let world = flat_world(alloc, Height::game(), [ORIGIN].as_slice())?;
+    let mut table = stone_table(alloc)?;
+    let text =
+        "20 8 64 8 a:b\r\n\n# 1 8 64 8 c:d\n007 -0 007 15 minecraft:stone\n1 8 64 8 c:d\n1 0 0 0 a:b\r";
+    let edits = read(alloc, text.as_bytes(), 20, &world, &mut table)?;
+    let want = [
+        (1, 20, at(8, 64, 8), STONE + 1),
+        (4, 7, at(0, 7, 15), STONE),
+        (5, 1, at(8, 64, 8), STONE + 2),
+        (6, 1, at(0, 0, 0), STONE + 1),
+    ];
+    assert_eq!(rt; edits.len(), want.len());
+    for (edit, (line, tick, pos, number)) in edits.iter().zip(&want) {
+        let stated = Edit {
+            line: *line,
+            tick: *tick,
+            pos: *pos,
+            number: *number,
+        };
+        assert_eq!(rt; *edit, stated);
+    }
+    assert_eq!(rt; read(alloc, b"", 20, &world, &mut table)?.len(), 0);
+    Ok(())
+}
