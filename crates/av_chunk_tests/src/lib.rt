@@ -1,0 +1,13 @@
+//! Documents and files put together by hand, one for each choice that their definitions make, by public calls.
+#![tactic(auto)]
+
+#[cfg(test)]
+mod judging;
+#[cfg(test)]
+mod parts;
+#[cfg(test)]
+mod sections;
+#[cfg(test)]
+mod sectors;
+#[cfg(test)]
+mod writing;

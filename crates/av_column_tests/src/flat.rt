@@ -1,0 +1,224 @@
+//! A flat world of one chunk: stone at y 63, air from y 60 to 69 elsewhere, and blocks put into it.
+use arrayvec::ArrayVec;
+use av_cells::{Cells, set_awake};
+use av_column::Column;
+use av_drop::drop_distance;
+use av_rules::{Kinds, Rules};
+use av_state::{Property, State, StateTable};
+use av_types::{Direction, Entry, Fault, Pos, Wet};
+use av_water::{incoming, turn};
+use std::alloc::Global;
+use std::process::Abort;
+use std::test::Fail;
+
+/// Numbers of states. From 2 to 8 they are the levels 1 to 7 of flowing water.
+pub const AIR: u16 = 0;
+
+pub const SOURCE: u16 = 1;
+
+pub const FALLING: u16 = 9;
+
+pub const STONE: u16 = 10;
+
+/// Shut, and no floor.
+pub const LAVA: u16 = 11;
+
+/// Open, and no floor.
+pub const GRASS: u16 = 12;
+
+/// The same block, soaked.
+pub const SOAKED_GRASS: u16 = 13;
+
+/// A block by its x, y and z.
+pub type Block = (i32, i32, i32);
+
+const TABLE: &[u8] = b"version = 2
+[[block]]
+name = \"minecraft:lava\"
+open = false
+floor = false
+opacity = 1
+emission = 15
+[[block]]
+name = \"minecraft:grass\"
+open = true
+floor = false
+opacity = 0
+emission = 0
+";
+
+fn bytes(alloc: Global, text: &str) -> Result<Vec<u8>, Fault> {
+    Ok(Vec::from_slice(alloc, text.as_bytes())?)
+}
+
+fn state(alloc: Global, name: &str, properties: Vec<Property>) -> Result<State, Fault> {
+    State::new(bytes(alloc, name)?, properties)?.ok_or(Fault::BadPalette)
+}
+
+fn intern(
+    alloc: Global,
+    rt: &impl Abort,
+    table: &mut StateTable,
+    name: &str,
+    number: u16,
+) -> Result<(), Fault> {
+    let state = state(alloc, name, Vec::new(alloc))?;
+    assert_eq!(rt; table.intern(&state), Ok(number));
+    Ok(())
+}
+
+/// The kinds of the states above.
+pub fn kinds(alloc: Global, rt: &impl Abort) -> Result<Kinds, Fault> {
+    let rules = Rules::read(alloc, TABLE)?;
+    let mut table = StateTable::new(alloc)?;
+    intern(alloc, rt, &mut table, "minecraft:stone", STONE)?;
+    intern(alloc, rt, &mut table, "minecraft:lava", LAVA)?;
+    intern(alloc, rt, &mut table, "minecraft:grass", GRASS)?;
+    let mut properties = Vec::new(alloc);
+    properties.push(Property {
+        key: bytes(alloc, "waterlogged")?,
+        value: bytes(alloc, "true")?,
+    })?;
+    let soaked = state(alloc, "minecraft:grass", properties)?;
+    assert_eq!(rt; table.intern(&soaked), Ok(SOAKED_GRASS));
+    Kinds::new(alloc, table, &rules)
+}
+
+fn at(block: Block) -> Pos {
+    let (x, y, z) = block;
+    Pos { x, y, z }
+}
+
+fn put(column: &mut Column, pos: Pos, number: u16) {
+    if column.loaded(pos) {
+        column.set(pos, number);
+    }
+}
+
+/// The flat world with these blocks.
+pub fn flat_with(alloc: Global, blocks: &[(Block, u16)]) -> Result<Column, Fault> {
+    let mut column = Column::filled(alloc, 60, 10, AIR)?;
+    for z in 0..16 {
+        for x in 0..16 {
+            put(&mut column, Pos { x, y: 63, z }, STONE);
+        }
+    }
+    for (block, number) in blocks {
+        put(&mut column, at(*block), *number);
+    }
+    Ok(column)
+}
+
+/// A turn in tick 1, prepared before.
+pub fn turned(
+    rt: &impl Abort,
+    column: &mut Column,
+    kinds: &Kinds,
+    block: Block,
+) -> Result<ArrayVec<Entry, 42>, Fault> {
+    let pos = at(block);
+    assert!(rt; column.loaded(pos));
+    column.prepare(pos)?;
+    assert!(rt; column.loaded(pos));
+    assert!(rt; column.has_kinds(kinds));
+    assert!(rt; column.room() >= 42);
+    Ok(turn(column, kinds, 1, pos))
+}
+
+/// A set in tick 1 with its waking, prepared before.
+pub fn set(
+    rt: &impl Abort,
+    column: &mut Column,
+    kinds: &Kinds,
+    block: Block,
+    number: u16,
+) -> Result<ArrayVec<Entry, 7>, Fault> {
+    let pos = at(block);
+    assert!(rt; column.loaded(pos));
+    column.prepare_set(pos, number)?;
+    assert!(rt; column.loaded(pos));
+    assert!(rt; column.has_kinds(kinds));
+    assert!(rt; column.room() >= 7);
+    assert!(rt; (number as usize) < kinds.count());
+    Ok(set_awake(column, kinds, 1, pos, number))
+}
+
+/// What comes into a block.
+pub fn expect_coming(rt: &impl Abort, column: &Column, kinds: &Kinds, block: Block, want: Wet) {
+    let pos = at(block);
+    assert!(rt; column.loaded(pos));
+    assert!(rt; column.has_kinds(kinds));
+    assert_eq!(rt; incoming(column, kinds, pos), want);
+}
+
+fn expect_drop(
+    rt: &impl Abort,
+    column: &Column,
+    kinds: &Kinds,
+    direction: Direction,
+    want: Option<u8>,
+) {
+    let pos = Pos { x: 8, y: 64, z: 8 };
+    assert!(rt; column.loaded(pos));
+    assert!(rt; column.has_kinds(kinds));
+    assert_eq!(rt; drop_distance(column, kinds, pos, direction), want);
+}
+
+/// The drops from (8, 64, 8) by north, south, west and east.
+pub fn expect_drops(rt: &impl Abort, column: &Column, kinds: &Kinds, wants: [Option<u8>; 4]) {
+    let directions = [
+        Direction::North,
+        Direction::South,
+        Direction::West,
+        Direction::East,
+    ];
+    for (direction, want) in directions.iter().zip(&wants) {
+        expect_drop(rt, column, kinds, *direction, *want);
+    }
+}
+
+/// The entries are of these blocks, in order, due in tick 6.
+pub fn expect_entries(rt: &impl Abort, entries: &[Entry], wants: &[Block]) {
+    assert_eq!(rt; entries.len(), wants.len());
+    for (entry, block) in entries.iter().zip(wants) {
+        assert_eq!(rt;
+            *entry,
+            Entry {
+                pos: at(*block),
+                due: 6,
+                priority: 0
+            }
+        );
+    }
+}
+
+fn number_at(column: &Column, pos: Pos) -> Option<u16> {
+    if column.loaded(pos) {
+        Some(column.number(pos))
+    } else {
+        None
+    }
+}
+
+/// The blocks have these states.
+pub fn expect_blocks(rt: &impl Abort, column: &Column, wants: &[(Block, u16)]) {
+    for (block, number) in wants {
+        assert_eq!(rt; number_at(column, at(*block)), Some(*number));
+    }
+}
+
+/// In the flat world with these blocks the turn of (8, 64, 8) makes these entries, and leaves those blocks.
+pub fn expect_turn(
+    rt: &impl Abort,
+    alloc: Global,
+    blocks: &[(Block, u16)],
+    entries: &[Block],
+    after: &[(Block, u16)],
+) -> Result<(), Fail> {
+    let kinds = kinds(alloc, rt)?;
+    let mut column = flat_with(alloc, blocks)?;
+    let made = turned(rt, &mut column, &kinds, (8, 64, 8))?;
+    expect_entries(rt, made.as_slice(), entries);
+    expect_blocks(rt, &column, after);
+    Ok(())
+}
