@@ -1,0 +1,42 @@
+-- The order of sections, and the territory of a block as a list.
+use Rattle.std.specs.Prelude.{ℤ, pos, ◌+ℤ◌, ◌-ℤ◌, Bool, true, false, not, ◌&&◌, ◌||◌, if◌then◌else◌, int_lt, IsTrue, List, [], ◌∷◌, ◌++◌}
+use Rattle.std.specs.Ordering.{int_eq}
+use Rattle.std.specs.List.{AllPairs}
+use Rattle.av_types.specs.Division.{divided}
+use Rattle.av_types.specs.declared.place.Pos.{Pos}
+use Rattle.av_types.specs.declared.place.SectionPos.{SectionPos}
+use Rattle.av_types.specs.Places.{section_of}
+use Rattle.av_cells.specs.Grid.{Grid, is_here}
+use Rattle.av_play.specs.Corners.{corner}
+
+-- earlier in the order (z, x, y)
+abbrev pub before : SectionPos → SectionPos → Bool
+before s t = int_lt s.z t.z || int_eq s.z t.z && (int_lt s.x t.x || int_eq s.x t.x && int_lt s.y t.y)
+
+-- in this order, and none there twice
+abbrev pub IsRising : List SectionPos → Type 0
+IsRising ss = AllPairs (λ s t. IsTrue (before s t)) ss
+
+-- ---- The territory as a list. No public clause cites what follows.
+
+-- the end of a line is not in the section of its start, where the end is meant
+abbrev pub is_new : Bool → ℤ → ℤ → Bool
+is_new b low high = not (b && int_eq (divided low 16) (divided high 16))
+
+abbrev pub is_first_there : Pos → Bool → Bool → Bool → Bool
+is_first_there p east high south = is_new east (p.x -ℤ pos 5) (p.x +ℤ pos 5) && is_new high (p.y -ℤ pos 2) (p.y +ℤ pos 1) && is_new south (p.z -ℤ pos 5) (p.z +ℤ pos 5)
+
+abbrev pub one_if : Bool → SectionPos → List SectionPos
+one_if b s = if b then s ∷ [] else []
+
+abbrev pub at_corner : Grid → Pos → Bool → Bool → Bool → List SectionPos
+at_corner g p east south high = one_if (is_first_there p east high south && is_here (g (section_of (corner p east high south)))) (section_of (corner p east high south))
+
+abbrev pub at_column : Grid → Pos → Bool → Bool → List SectionPos
+at_column g p east south = at_corner g p east south false ++ at_corner g p east south true
+
+abbrev pub at_side : Grid → Pos → Bool → List SectionPos
+at_side g p south = at_column g p false south ++ at_column g p true south
+
+abbrev pub territory_list : Grid → Pos → List SectionPos
+territory_list g p = at_side g p false ++ at_side g p true

@@ -1,0 +1,278 @@
+//! The parts of a tick.
+ghost use Rattle.std.specs.Prelude.{◌≡◌, ◌↔◌, ◌<◌, ◌≤◌, ◌+◌, ◌++◌, ◌∷◌, [], None, Some, ℕ, IsTrue, OnOk, IfOk, IfErr, length, All, map, slice_get, slice_set, slice_index, slice_index_or, vec_len};
+ghost use Rattle.indexmap.specs.IndexMap.{keys};
+ghost use Rattle.av_types.specs.declared.fault.Fault.TheVariants.{OutOfMemory};
+ghost use Rattle.av_types.specs.declared.tick.Entry.{Entry};
+ghost use Rattle.av_world.specs.Views.{blocks};
+ghost use Rattle.av_play.specs.Parts.{numbered};
+ghost use Rattle.av_play.specs.Groups.{rank, grouped};
+ghost use Rattle.av_cluster.specs.Forest.{first, IsFalling, AreSame};
+ghost use Rattle.av_cluster.specs.Gathering.{IsGathered, AreAlone};
+ghost use Rattle.av_cluster.specs.Clusters.{parts_of, sections_of, IsGiven, AreBare, AreShared, AreOnce, ArePlanned};
+ghost use Rattle.av_types.specs.declared.place.SectionPos.{SectionPos};
+ghost use Rattle.av_cluster.specs.Joining.{key_of, owner_in, IsTouched, IsNoted, IsBefore, Touches};
+
+use crate::cluster_part::Cluster;
+use crate::forest::{find, join};
+use crate::territories::territory;
+use av_play::Placed;
+use av_types::{Entry, Fault, SectionPos};
+use av_world::World;
+use indexmap::IndexMap;
+use std::alloc::Global;
+
+/// The most parts that a plan can have: their numbers fit a `u32`.
+const MOST: usize = 4_294_967_295;
+
+/// The first place that touched each section.
+type Owners = IndexMap<(i32, i32, i32), usize>;
+
+/// The key of a section.
+fn key(section: SectionPos) -> (i32, i32, i32)
+    ensures { result ≡ key_of section }
+{
+    (section.x, section.y, section.z)
+}
+
+/// Notes that the entry at a place touches a section.
+fn touch(
+    owners: &mut Owners,
+    parents: &mut [usize],
+    section: SectionPos,
+    place: usize,
+) -> Result<(), Fault>
+    requires falling { IsFalling parents.old }
+    requires place { place < length parents.old }
+    requires owner { (k : ℕ) → owner_in owners.old.entries section ≡ Some k → k < length parents.old }
+    ensures ok { OnOk result (IsTouched parents.old parents.new (owner_in owners.old.entries) (owner_in owners.new.entries) section place) }
+    ensures fault { IfErr result (λ e. e ≡ OutOfMemory) }
+{
+    if let Some(owner) = owners.get(&key(section)) {
+        let owner = *owner;
+        join(parents, owner, place);
+        return Ok(());
+    }
+    owners.insert(key(section), place)?;
+    Ok(())
+}
+
+/// Notes that the entry at a place touches the sections of its territory.
+fn touch_all(
+    world: &World,
+    entries: &[Entry],
+    place: usize,
+    owners: &mut Owners,
+    parents: &mut [usize],
+) -> Result<(), Fault>
+    requires place { place < length entries.now }
+    requires loaded { All (λ e. IsTrue ((blocks world.now).loaded e.pos)) entries.now }
+    requires noted { IsNoted (blocks world.now) entries.now parents.old (owner_in owners.old.entries) (IsBefore (blocks world.now) entries.now place) }
+    ensures ok { OnOk result (IsNoted (blocks world.now) entries.now parents.new (owner_in owners.new.entries) (IsBefore (blocks world.now) entries.now (place + 1))) }
+    ensures fault { IfErr result (λ e. e ≡ OutOfMemory) }
+{
+    let sections = territory(world, entries[place].pos);
+    for section in sections.as_slice() {
+        touch(owners, parents, *section, place)?;
+    }
+    Ok(())
+}
+
+/// Joins the entries that share a section.
+fn connect(
+    world: &World,
+    entries: &[Entry],
+    owners: &mut Owners,
+    parents: &mut [usize],
+) -> Result<(), Fault>
+    requires loaded { All (λ e. IsTrue ((blocks world.now).loaded e.pos)) entries.now }
+    requires noted { IsNoted (blocks world.now) entries.now parents.old (owner_in owners.old.entries) (IsBefore (blocks world.now) entries.now 0) }
+    ensures ok { OnOk result (IsNoted (blocks world.now) entries.now parents.new (owner_in owners.new.entries) (IsBefore (blocks world.now) entries.now (length entries.now))) }
+    ensures fault { IfErr result (λ e. e ≡ OutOfMemory) }
+{
+    for place in 0..entries.len() {
+        touch_all(world, entries, place, owners, parents)?;
+    }
+    Ok(())
+}
+
+/// So many places, each alone in its group.
+fn alone(alloc: Global, count: usize) -> Result<Vec<usize>, Fault>
+    ensures ok { IfOk result (λ ps. AreAlone ps.items count) }
+    ensures fault { IfErr result (λ e. e ≡ OutOfMemory) }
+{
+    let mut parents = Vec::with_capacity(alloc, count)?;
+    for place in 0..count {
+        parents.push(place)?;
+    }
+    Ok(parents)
+}
+
+/// Begins a part.
+fn begin(clusters: &mut Vec<Cluster>, placed: Placed) -> Result<(), Fault>
+    ensures parts { OnOk result (parts_of clusters.new.items ≡ parts_of clusters.old.items ++ (placed ∷ []) ∷ []) }
+    ensures bare { OnOk result (sections_of clusters.new.items ≡ sections_of clusters.old.items ++ [] ∷ []) }
+    ensures fault { IfErr result (λ e. e ≡ OutOfMemory) }
+{
+    let alloc = *clusters.allocator();
+    let mut entries = Vec::new(alloc);
+    entries.push(placed)?;
+    clusters.push(Cluster {
+        entries,
+        sections: Vec::new(alloc),
+    })?;
+    Ok(())
+}
+
+/// Appends an entry to a part.
+fn put(clusters: &mut Vec<Cluster>, number: usize, placed: Placed) -> Result<(), Fault>
+    requires { number < length (parts_of clusters.old.items) }
+    ensures parts { OnOk result (parts_of clusters.new.items ≡ slice_set (parts_of clusters.old.items) number (slice_index_or (parts_of clusters.old.items) number [] ++ placed ∷ [])) }
+    ensures bare { OnOk result (sections_of clusters.new.items ≡ sections_of clusters.old.items) }
+    ensures fault { IfErr result (λ e. e ≡ OutOfMemory) }
+{
+    let cluster = &mut clusters[number];
+    cluster.entries.push(placed)?;
+    Ok(())
+}
+
+/// Appends a section to a part.
+fn own(clusters: &mut Vec<Cluster>, number: usize, section: SectionPos) -> Result<(), Fault>
+    requires { number < length (parts_of clusters.old.items) }
+    ensures parts { OnOk result (parts_of clusters.new.items ≡ parts_of clusters.old.items) }
+    ensures sections { OnOk result (sections_of clusters.new.items ≡ slice_set (sections_of clusters.old.items) number (slice_index_or (sections_of clusters.old.items) number [] ++ section ∷ [])) }
+    ensures fault { IfErr result (λ e. e ≡ OutOfMemory) }
+{
+    let cluster = &mut clusters[number];
+    cluster.sections.push(section)?;
+    Ok(())
+}
+
+/// Puts one more entry into its part.
+fn gather_one(
+    entries: &[Entry],
+    place: usize,
+    parents: &mut [usize],
+    numbers: &mut Vec<usize>,
+    clusters: &mut Vec<Cluster>,
+) -> Result<(), Fault>
+    requires place { place < length entries.now }
+    requires falling { IsFalling parents.old }
+    requires count { length parents.old ≡ length entries.now }
+    requires gathered { IsGathered entries.now (first parents.old) place numbers.old.items (parts_of clusters.old.items) }
+    ensures same { OnOk result (AreSame parents.old parents.new) }
+    ensures bare { OnOk result (AreBare (sections_of clusters.old.items) → AreBare (sections_of clusters.new.items)) }
+    ensures gathered { OnOk result (IsGathered entries.now (first parents.old) (place + 1) numbers.new.items (parts_of clusters.new.items)) }
+    ensures fault { IfErr result (λ e. e ≡ OutOfMemory) }
+{
+    let placed = Placed {
+        place: place as u64,
+        entry: entries[place],
+    };
+    let first = find(parents, place);
+    if first == place {
+        numbers.push(clusters.len())?;
+        begin(clusters, placed)?;
+        return Ok(());
+    }
+    let number = numbers[first];
+    numbers.push(number)?;
+    put(clusters, number, placed)?;
+    Ok(())
+}
+
+/// Puts the entries into parts, by their groups, and notes the number of each one's part.
+fn gather(
+    entries: &[Entry],
+    parents: &mut [usize],
+    numbers: &mut Vec<usize>,
+    clusters: &mut Vec<Cluster>,
+) -> Result<(), Fault>
+    requires falling { IsFalling parents.old }
+    requires count { length parents.old ≡ length entries.now }
+    requires gathered { IsGathered entries.now (first parents.old) 0 numbers.old.items (parts_of clusters.old.items) }
+    ensures bare { OnOk result (AreBare (sections_of clusters.old.items) → AreBare (sections_of clusters.new.items)) }
+    ensures gathered { OnOk result (IsGathered entries.now (first parents.old) (length entries.now) numbers.new.items (parts_of clusters.new.items)) }
+    ensures fault { IfErr result (λ e. e ≡ OutOfMemory) }
+{
+    for place in 0..entries.len() {
+        gather_one(entries, place, parents, numbers, clusters)?;
+    }
+    Ok(())
+}
+
+/// The owner of a section.
+fn owner_of(owners: &Owners, section: SectionPos) -> Option<usize>
+    ensures { result ≡ owner_in owners.now.entries section }
+{
+    owners.get(&key(section)).copied()
+}
+
+/// The section of a key.
+fn section_of(key: (i32, i32, i32)) -> SectionPos
+    ensures { key_of result ≡ key }
+{
+    let (x, y, z) = key;
+    SectionPos { x, y, z }
+}
+
+/// Gives a section to the part of its owner.
+fn give(
+    owners: &Owners,
+    numbers: &[usize],
+    section: SectionPos,
+    clusters: &mut Vec<Cluster>,
+) -> Result<(), Fault>
+    requires numbers { (k : ℕ) → k < length numbers.now → slice_index numbers.now k < length (parts_of clusters.old.items) }
+    requires owners { (k : ℕ) → owner_in owners.now.entries section ≡ Some k → k < length numbers.now }
+    ensures parts { OnOk result (parts_of clusters.new.items ≡ parts_of clusters.old.items) }
+    ensures sections { OnOk result (IsGiven (owner_in owners.now.entries section) numbers.now section (sections_of clusters.old.items) (sections_of clusters.new.items)) }
+    ensures fault { IfErr result (λ e. e ≡ OutOfMemory) }
+{
+    if let Some(owner) = owner_of(owners, section) {
+        own(clusters, numbers[owner], section)?;
+    }
+    Ok(())
+}
+
+/// Gives each part its sections.
+fn share(owners: &Owners, numbers: &[usize], clusters: &mut Vec<Cluster>) -> Result<(), Fault>
+    requires numbers { (k : ℕ) → k < length numbers.now → slice_index numbers.now k < length (parts_of clusters.old.items) }
+    requires owners { (s : SectionPos) (k : ℕ) → owner_in owners.now.entries s ≡ Some k → k < length numbers.now }
+    requires bare { AreBare (sections_of clusters.old.items) }
+    ensures parts { OnOk result (parts_of clusters.new.items ≡ parts_of clusters.old.items) }
+    ensures sections { OnOk result (AreShared (owner_in owners.now.entries) numbers.now (keys owners.now) (sections_of clusters.new.items)) }
+    ensures once { OnOk result (AreOnce (sections_of clusters.new.items)) }
+    ensures fault { IfErr result (λ e. e ≡ OutOfMemory) }
+{
+    let keys = owners.keys().as_slice();
+    for key in keys {
+        give(owners, numbers, section_of(*key), clusters)?;
+    }
+    Ok(())
+}
+
+/// The plan of a tick's entries, whose blocks are loaded: two entries are in one part exactly if a chain of entries
+/// links them, each sharing a section of its territory with the next. The parts stand in the order of their first
+/// entries, and the entries of a part in the tick's order.
+///
+/// # Errors
+/// `OutOfMemory`, also where there are more than 4,294,967,295 parts.
+pub fn plan(alloc: Global, world: &World, entries: &[Entry]) -> Result<Vec<Cluster>, Fault>
+    requires loaded { All (λ e. IsTrue ((blocks world.now).loaded e.pos)) entries.now }
+    ensures planned { IfOk result (λ clusters. ArePlanned (blocks world.now) entries.now clusters.items) }
+    ensures count { IfOk result (λ clusters. vec_len clusters ≤ 4294967295) }
+    ensures fault { IfErr result (λ e. e ≡ OutOfMemory) }
+{
+    let mut owners = IndexMap::new(alloc);
+    let mut parents = alone(alloc, entries.len())?;
+    let groups = parents.as_mut_slice();
+    connect(world, entries, &mut owners, groups)?;
+    let mut numbers = Vec::with_capacity(alloc, entries.len())?;
+    let mut clusters = Vec::new(alloc);
+    gather(entries, groups, &mut numbers, &mut clusters)?;
+    share(&owners, numbers.as_slice(), &mut clusters)?;
+    if clusters.len() > MOST {
+        return Err(Fault::OutOfMemory);
+    }
+    Ok(clusters)
+}

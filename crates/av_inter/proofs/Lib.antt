@@ -1,0 +1,11 @@
+mod Cutting
+mod Ending
+mod Holding
+mod Homing
+mod Labels
+mod LookUps
+mod Mending
+mod OneTurn
+mod Parts
+mod Starting
+mod Steps

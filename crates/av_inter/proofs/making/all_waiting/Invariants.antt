@@ -1,0 +1,6 @@
+use Rattle.std.proofs.Common.{◌≡◌, replicate}
+use Rattle.av_play.specs.declared.event.Stage.TheVariants.{Waits}
+use Rattle.av_inter.proofs.making.all_waiting.Given as goal
+
+abbrev pub invariant-loop-place : goal.invariant-loop-place
+invariant-loop-place l = l.stages.items ≡ replicate l.place Waits

@@ -1,0 +1,33 @@
+-- When an event is refused.
+use Rattle.std.specs.Prelude.{◌≡◌, ℕ, nat_eq, if◌then◌else◌, List, Option, Some, None, length}
+use Rattle.std.specs.List.{slice_get}
+use Rattle.av_play.specs.declared.event.Placed.{Placed}
+use Rattle.av_play.specs.declared.event.Stage.{Stage}
+use Rattle.av_play.specs.declared.event.Stage.TheVariants.{Waits, Held}
+use Rattle.av_play.specs.declared.event.Event.{Event}
+use Rattle.av_play.specs.declared.event.Event.TheVariants.{Take, Turn, Back}
+use Rattle.av_play.specs.Parts.{part_at}
+use Rattle.av_play.specs.Play.{State, AllBack}
+use Rattle.av_inter.specs.declared.refused.Refused.{Refused}
+use Rattle.av_inter.specs.declared.refused.Refused.TheVariants.{NotWaiting, NotHolder, NoEntry, NotDone, NoMemory}
+
+-- how many entries of the part a worker that holds it has turned
+abbrev pub done_by : ℕ → Option Stage → Option ℕ
+done_by worker (Some (Held holder done)) = if nat_eq holder worker then Some done else None
+done_by worker _ = None
+
+-- Memory may be refused to a turn alone. Every other refusal says why the event is not lawful.
+abbrev pub IsRefusal : List (List Placed) → State → Event → Refused → Type 0
+IsRefusal parts s (Take worker n) NotWaiting = ¬ (slice_get s.stages n ≡ Some Waits)
+IsRefusal parts s (Turn worker n) NotHolder = (done : ℕ) → ¬ (slice_get s.stages n ≡ Some (Held worker done))
+IsRefusal parts s (Turn worker n) NoEntry = (done : ℕ) × (slice_get s.stages n ≡ Some (Held worker done)) × (slice_get (part_at parts n) done ≡ None)
+IsRefusal parts s (Turn worker n) NoMemory = Unit {0}
+IsRefusal parts s (Back worker n) NotHolder = (done : ℕ) → ¬ (slice_get s.stages n ≡ Some (Held worker done))
+IsRefusal parts s (Back worker n) NotDone = (done : ℕ) × (slice_get s.stages n ≡ Some (Held worker done)) × (¬ (done ≡ length (part_at parts n)))
+IsRefusal parts s event refused = ⊥
+
+-- why a core can't be finished: a part is not back, or memory was refused
+abbrev pub IsUnfinished : State → Refused → Type 0
+IsUnfinished s NotDone = ¬ AllBack s
+IsUnfinished s NoMemory = AllBack s
+IsUnfinished s refused = ⊥
