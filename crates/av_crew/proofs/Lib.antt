@@ -1,0 +1,17 @@
+pub mod MoreTurned
+pub mod OneDone
+pub mod Zips
+pub mod Threads
+pub mod Totals
+pub mod Staying
+pub mod LandOrder
+pub mod MadeInside
+pub mod Mending
+pub mod Settling
+pub mod Numbers
+pub mod Appended
+pub mod Ticked
+pub mod DueParts
+pub mod Steps
+pub mod Whole
+pub mod Cut

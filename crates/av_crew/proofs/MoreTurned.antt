@@ -1,0 +1,52 @@
+-- One more entry turned.
+use Rattle.std.proofs.Common.{◌≡◌, ℕ, suc, ◌+◌, ◌<◌, List, [], ◌∷◌, ◌++◌, length, get_or, take, true, Result, Ok, Err, OnErr, refl, sym, ap, ◌∙◌, add-one, arith}
+use Rattle.std.proofs.lemmas.Option.{slice_get-get_or}
+use Rattle.av_types.specs.declared.tick.Entry.{Entry}
+use Rattle.av_types.specs.declared.tick.Made.{Made}
+use Rattle.av_cells.specs.declared.kind.Kind.{Kind}
+use Rattle.av_cells.specs.World.{World, Lists, listed_if, listed_all}
+use Rattle.av_play.specs.declared.event.Placed.{Placed}
+use Rattle.av_play.specs.Play.{turn_of, made_by, labelled, entries_of, world_after, made_after}
+use Rattle.av_play.proofs.Lists.{take_one_more}
+use Rattle.av_play.proofs.Trace.{world_push, made_push}
+use Rattle.av_crew.specs.Work.{AreTurned}
+
+pub labelled_push : (maker a : ℕ) (es : List Entry) (e : Entry) → labelled maker a (es ++ e ∷ []) ≡ labelled maker a es ++ record { maker = maker; number = a + length es; entry = e } ∷ []
+labelled_push maker a [] e = let g : a ≡ a + 0 = omega arith in ap (λ (n : ℕ). record { maker = maker; number = n; entry = e } ∷ []) g
+labelled_push maker a (x ∷ xs) e =
+    let g : suc a + length xs ≡ a + suc (length xs) = omega arith in
+    ap (λ l. record { maker = maker; number = a; entry = x } ∷ l) (labelled_push maker (suc a) xs e ∙ ap (λ (n : ℕ). labelled maker (suc a) xs ++ record { maker = maker; number = n; entry = e } ∷ []) g)
+
+pub entries_of_labelled : (maker n : ℕ) (es : List Entry) → entries_of (labelled maker n es) ≡ es
+entries_of_labelled maker n [] = refl
+entries_of_labelled maker n (e ∷ es) = ap (λ l. e ∷ l) (entries_of_labelled maker (suc n) es)
+
+pub entries_of_append : (xs ys : List Made) → entries_of (xs ++ ys) ≡ entries_of xs ++ entries_of ys
+entries_of_append [] ys = refl
+entries_of_append (x ∷ xs) ys = ap (λ l. x.entry ∷ l) (entries_of_append xs ys)
+
+listed_append : (xs ys : List Entry) (l : Lists) → listed_all l (xs ++ ys) ≡ listed_all (listed_all l xs) ys
+listed_append [] ys l = refl
+listed_append (x ∷ xs) ys l = listed_append xs ys (listed_if true l x)
+
+pub one_more : (k : ℕ → Kind) (now i : ℕ) (entries : List Placed) (d : Placed) (old mid new : World) (l m n : Lists) (made more : List Made) → AreTurned k now i entries old mid l m made → i < length entries
+    → new ≡ (turn_of k now (get_or entries i d) mid).world → more ≡ made ++ made_by k now (get_or entries i d) mid → n ≡ listed_all m (turn_of k now (get_or entries i d) mid).made → AreTurned k now (i + 1) entries old new l n more
+one_more k now i entries d old mid new l m n made more t h e f g =
+    let x : Placed = get_or entries i d in
+    let is : take (i + 1) entries ≡ take i entries ++ x ∷ [] = ap (λ (n : ℕ). take n entries) (add-one i) ∙ take_one_more entries i x (slice_get-get_or entries i d h) in
+    record {
+      world = e ∙ ap (λ v. (turn_of k now x v).world) t.world ∙ sym (world_push k now (take i entries) x old) ∙ ap (λ (xs : List Placed). world_after k now xs old) (sym is);
+      put_aside = f ∙ (λ j. t.put_aside j ++ made_by k now x (t.world j)) ∙ sym (made_push k now (take i entries) x old) ∙ ap (λ (xs : List Placed). made_after k now xs old) (sym is);
+      listed = g ∙ ap (λ s. listed_all s (turn_of k now x mid).made) t.listed ∙ sym (listed_append (entries_of made) (turn_of k now x mid).made l)
+          ∙ ap (λ es. listed_all l (entries_of made ++ es)) (sym (entries_of_labelled x.place 0 (turn_of k now x mid).made))
+          ∙ ap (listed_all l) (sym (entries_of_append made (made_by k now x mid))) ∙ ap (λ ms. listed_all l (entries_of ms)) (sym f);
+    }
+
+pub on_err : {X E : Type 0} (r : Result X E) (P : Type 0) → P → OnErr r P
+on_err (Ok x) P p = tt
+on_err (Err e) P p = p
+
+-- nothing more was turned
+pub no_more : (k : ℕ → Kind) (now i : ℕ) (entries : List Placed) (old mid new : World) (l m n : Lists) (made more : List Made) → AreTurned k now i entries old mid l m made
+    → new ≡ mid → more ≡ made → n ≡ m → AreTurned k now i entries old new l n more
+no_more k now i entries old mid new l m n made more t e f g = record { world = e ∙ t.world; put_aside = f ∙ t.put_aside; listed = g ∙ t.listed ∙ ap (λ ms. listed_all l (entries_of ms)) (sym f) }

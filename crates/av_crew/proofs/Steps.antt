@@ -1,0 +1,128 @@
+-- One more parcel carved or mended.
+use Rattle.std.proofs.Common.{◌≡◌, ℕ, zero, suc, ◌+◌, ◌<◌, Bool, true, false, cond, List, [], ◌∷◌, ◌++◌, length, get_or, slice_index_or, refl, sym, ap, subst, ◌∙◌, arith, IsTrue, None, All, append-nil}
+use Rattle.std.proofs.lemmas.List.Elements.{All-push}
+use Rattle.std.proofs.lemmas.List.Concat.{flat_map-append}
+use Rattle.std.specs.List.{flat_map}
+use Rattle.av_types.specs.declared.place.SectionPos.{SectionPos}
+use Rattle.av_types.specs.declared.tick.Entry.{Entry}
+use Rattle.av_cells.specs.Positions.{same_section}
+use Rattle.av_cells.specs.World as cells
+use Rattle.av_cells.specs.World.{Lists}
+use Rattle.av_cells.specs.Grid.{Grid, is_here, cells_of, among, only, without}
+use Rattle.av_play.specs.declared.event.Placed.{Placed}
+use Rattle.av_play.specs.Parts.{part_at}
+use Rattle.av_play.proofs.Interleaving.{parts_share_nothing}
+use Rattle.av_world.specs.OutOf.{mended, IsPartOf}
+use Rattle.av_world.specs.Views.{grid, lists, IsSamePlaces}
+use Rattle.av_world.specs.Parcels.{with_aside}
+use Rattle.av_world.specs.ParcelViews.{blocks as parcel_blocks, lists as parcel_lists}
+use Rattle.av_world.specs.declared.worlds.World.{World}
+use Rattle.av_world.specs.declared.parcels.Parcel.{Parcel}
+use Rattle.av_world.proofs.Grids.{same_section_true}
+use Rattle.av_crew.specs.declared.jobs.Job.{Job}
+use Rattle.av_crew.specs.declared.jobs.Done.{Done}
+use Rattle.av_cluster.specs.declared.cluster_part.Cluster.{Cluster}
+use Rattle.av_crew.specs.Jobs.{IsJob, AreJobs, mended_all, IsCarved}
+use Rattle.av_cluster.specs.Clusters.{parts_of, sections_of, sections_at}
+use Rattle.av_crew.specs.Parts.{picks_of, IsCut, CanCarve, IsPartIn, HaveParts, CarvesOne}
+
+pub mended_push : {X : Type 0} (part : X → cells.World) (l : Lists) (xs : List X) (x : X) (w : cells.World) → mended_all part l (xs ++ x ∷ []) w ≡ mended l (part x) (mended_all part l xs w)
+mended_push part l [] x w = refl
+mended_push part l (y ∷ ys) x w = mended_push part l ys x (mended l (part y) w)
+
+pub flat_push : {X A : Type 0} (f : X → List A) (xs : List X) (x : X) → flat_map f (xs ++ x ∷ []) ≡ flat_map f xs ++ f x
+flat_push f xs x = flat_map-append f xs (x ∷ []) ∙ ap (λ l. flat_map f xs ++ l) (append-nil (f x))
+
+pub same_trans : (u v w : World) → IsSamePlaces u v → IsSamePlaces v w → IsSamePlaces u w
+same_trans u v w a b = record { height = b.height ∙ a.height; positions = b.positions ∙ a.positions; broken = b.broken ∙ a.broken; lists_are = b.lists_are ∙ a.lists_are }
+
+pub part_in_same : (v w : World) (p : Parcel) → IsSamePlaces v w → IsPartIn v p → IsPartIn w p
+part_in_same v w p s i =
+    subst (λ h. IsPartOf h w.positions.items (lists w) (parcel_blocks p) (parcel_lists p)) (sym s.height)
+    (subst (λ ps. IsPartOf v.height ps (lists w) (parcel_blocks p) (parcel_lists p)) (sym (ap (λ x. x.items) s.positions))
+    (subst (λ l. IsPartOf v.height v.positions.items l (parcel_blocks p) (parcel_lists p)) (sym s.lists_are) i))
+
+pub are_more : (g : Grid) (parts : List (List Placed)) (picks : ℕ → SectionPos → Bool) (a : ℕ) (js : List Job) (j : Job) → AreJobs g parts picks a js → IsJob g parts picks (a + length js) j → AreJobs g parts picks a (js ++ j ∷ [])
+are_more g parts picks a [] j h i = (subst (λ n. IsJob g parts picks n j) (omega arith) i, tt)
+are_more g parts picks a (x ∷ js) j h i = (h.0, are_more g parts picks (suc a) js j h.1 (subst (λ n. IsJob g parts picks n j) (omega arith) i))
+
+sections_there : (cs : List Cluster) (i : ℕ) (c : Cluster) → i < length cs → c ≡ get_or cs i c → sections_at (sections_of cs) i ≡ c.sections.items
+sections_there [] i c l e = absurd (omega arith)
+sections_there (x ∷ cs) zero c l e = ap (λ c. c.sections.items) (sym e)
+sections_there (x ∷ cs) (suc i) c l e = sections_there cs i c (omega arith) e
+
+part_there : (cs : List Cluster) (i : ℕ) (c : Cluster) → i < length cs → c ≡ get_or cs i c → part_at (parts_of cs) i ≡ c.entries.items
+part_there [] i c l e = absurd (omega arith)
+part_there (x ∷ cs) zero c l e = ap (λ c. c.entries.items) (sym e)
+part_there (x ∷ cs) (suc i) c l e = part_there cs i c (omega arith) e
+
+among_at : (ss : List SectionPos) (k : ℕ) (d : SectionPos) → k < length ss → among ss (slice_index_or ss k d) ≡ true
+among_at [] k d h = absurd (omega arith)
+among_at (s ∷ ss) zero d h = ap (λ b. cond b true (among ss s)) (same_section_true s s refl)
+among_at (s ∷ ss) (suc k) d h = either (same_section (slice_index_or ss k d) s) (among ss (slice_index_or ss k d)) (among_at ss k d (omega arith)) where
+  either : (b c : Bool) → c ≡ true → cond b true c ≡ true
+  either true c e = refl
+  either false c e = e
+
+module _ (g : Grid) (entries : List Entry) (clusters : List Cluster) (cut : IsCut g entries clusters) (i : ℕ) (cluster : Cluster) (within : i < length clusters) (is : cluster ≡ get_or clusters i cluster) (rest : Grid) (carved : IsCarved g (picks_of clusters) i rest) where
+  abbrev picks : ℕ → SectionPos → Bool
+  picks = picks_of clusters
+
+  sections : sections_at (sections_of clusters) i ≡ cluster.sections.items
+  sections = sections_there clusters i cluster within is
+
+  mine : (s : SectionPos) → among cluster.sections.items s ≡ picks i s
+  mine s = ap (λ ss. among ss s) (sym sections)
+
+  -- a section of the part was not carved before
+  still : (s : SectionPos) → IsTrue (picks i s) → rest s ≡ g s
+  still s c = carved.others s (λ n u d. parts_share_nothing (cells_of g) entries (parts_of clusters) cut.plan i n s (λ e. omega (arith, e, u)) ((cut.exact i s).0 c) ((cut.exact n s).0 d))
+
+  there : (s : SectionPos) → IsTrue (picks i s) → is_here (g s) ≡ true
+  there s c = let o = (cut.exact i s).0 c in subst (λ s. is_here (g s) ≡ true) o.territory.lies o.territory.loaded
+
+  pub can_carve : CanCarve rest cluster
+  can_carve =
+      record {
+        here = λ k d u. let c : IsTrue (picks i (slice_index_or cluster.sections.items k d)) = sym (mine (slice_index_or cluster.sections.items k d)) ∙ among_at cluster.sections.items k d u in
+            ap is_here (still _ c) ∙ there _ c;
+        distinct = λ m n d. subst (λ ss. m < n → n < length ss → same_section (slice_index_or ss n d) (slice_index_or ss m d) ≡ false) sections (cut.distinct i m n d);
+      }
+
+  only_mine : only (among cluster.sections.items) rest ≡ only (picks i) g
+  only_mine = λ t s. by s (among cluster.sections.items s) refl t where
+    by : (s : SectionPos) (b : Bool) → among cluster.sections.items s ≡ b → only (among cluster.sections.items) rest s ≡ only (picks i) g s
+    by s true e = ap (λ b. cond b (rest s) None) e ∙ still s (sym (mine s) ∙ e) ∙ ap (λ b. cond b (g s) None) (sym (sym (mine s) ∙ e))
+    by s false e = ap (λ b. cond b (rest s) None) e ∙ ap (λ b. cond b (g s) None) (sym (sym (mine s) ∙ e))
+
+  module _ (old new : World) (at : grid old ≡ rest) (job : Job) (one : CarvesOne old new cluster i job) where
+    pub job_is : IsJob g (parts_of clusters) picks i job
+    job_is =
+        record {
+          number = one.number_is;
+          entries = one.entries_are ∙ sym (part_there clusters i cluster within is);
+          blocks_are = (λ t. with_aside (one.nothing_aside t) (cells_of ((one.out ∙ ap (only (among cluster.sections.items)) at ∙ only_mine) t)));
+        }
+
+    pub carved_more : IsCarved g picks (i + 1) (grid new)
+    carved_more =
+        record {
+          others = λ s f. ap (λ h. h s) (one.left ∙ ap (without (among cluster.sections.items)) at) ∙ ap (λ b. cond b None (rest s)) (mine s ∙ not_true (picks i s) (f i (omega arith))) ∙ carved.others s (λ n u. f n (omega (arith, u)));
+        }
+      where
+        not_true : (b : Bool) → ¬ (b ≡ true) → b ≡ false
+        not_true true f = absurd (f refl)
+        not_true false f = refl
+
+-- the element in the middle of a list
+pub at_middle : {X : Type 0} (all ys : List X) (x : X) (zs : List X) → all ≡ ys ++ x ∷ zs → (length ys < length all) × (x ≡ get_or all (length ys) x)
+at_middle {X} all ys x zs e = subst (λ l. (length ys < length l) × (x ≡ get_or l (length ys) x)) (sym e) (by ys) where
+  by : (ys : List X) → (length ys < length (ys ++ x ∷ zs)) × (x ≡ get_or (ys ++ x ∷ zs) (length ys) x)
+  by [] = (omega arith, refl)
+  by (y ∷ ys) = let r = by ys in (omega (arith, r.0), r.1)
+
+pub parts_more : (v w : World) (js : List Job) (j : Job) → HaveParts v js → IsSamePlaces v w → IsPartIn w j.parcel → HaveParts w (js ++ j ∷ [])
+parts_more v w js j h s p = All-push (λ j. IsPartIn w j.parcel) js j (λ k d u. part_in_same v w (slice_index_or js k d).parcel s (h k d u)) p
+
+pub whole_more : (ds : List Done) (d : Done) → All (λ d. d.fault ≡ None) ds → d.fault ≡ None → All (λ d. d.fault ≡ None) (ds ++ d ∷ [])
+whole_more ds d h p = All-push (λ d. d.fault ≡ None) ds d h p

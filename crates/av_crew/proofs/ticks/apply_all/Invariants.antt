@@ -1,0 +1,15 @@
+use Rattle.std.proofs.Common.{◌≡◌, drop}
+use Rattle.av_rules.specs.Kinds.{kind_count}
+use Rattle.av_cells.specs.Kinds.{kinds_of}
+use Rattle.av_land.specs.Tick.{edited}
+use Rattle.av_world.specs.Lands.{land_of}
+use Rattle.av_edits.specs.Numbered.{number_sets}
+use Rattle.av_serial.specs.Ready.{IsReady, IsSamePlace}
+use Rattle.av_crew.proofs.ticks.apply_all.Given as goal
+
+abbrev pub invariant-loop-edit : goal.invariant-loop-edit
+invariant-loop-edit l = record {
+  edited : edited (kinds_of l.kinds) l.now (number_sets (drop l.edit-index l.edits)) (land_of l.world) ≡ edited (kinds_of l.kinds) l.now (number_sets l.edits) (land_of l.initial.world);
+  ready : IsReady (kind_count l.kinds) l.world;
+  place : IsSamePlace l.initial.world l.world;
+}

@@ -1,0 +1,53 @@
+//! The parts of a tick, worked off and brought together.
+ghost use Rattle.std.specs.Prelude.{◌≡◌, ◌≤◌, ◌<◌, ℕ, List, [], IsTrue, IfOk, OnOk, IfErr, false, vec_len};
+ghost use Rattle.std.specs.List.{All};
+ghost use Rattle.av_types.specs.declared.fault.Fault.TheVariants.{OutOfMemory};
+ghost use Rattle.av_types.specs.declared.tick.Entry.{Entry};
+ghost use Rattle.av_rules.specs.Kinds.{kind_count};
+ghost use Rattle.av_cells.specs.Kinds.{kinds_of};
+ghost use Rattle.av_cells.specs.Rule.{HasKinds};
+ghost use Rattle.av_world.specs.Views.{grid, blocks, lists, is_broken, IsSamePlaces};
+ghost use Rattle.av_crew.specs.Parts.{IsCut};
+ghost use Rattle.av_crew.specs.Gathered.{IsGathered};
+
+use crate::gates::Gate;
+use crate::parts::{carve_all, mend_all};
+use crate::workers::work_all;
+use av_cluster::Cluster;
+use av_rules::Kinds;
+use av_ticks::merge_made;
+use av_types::{Fault, Made};
+use av_world::World;
+use std::sync::Wait;
+use std::thread::Threads;
+
+/// Turns the parts of a tick in parcels of their own, and mends them. The answer is what was made, in the order in
+/// which it is to be appended.
+pub fn turn_parts<R: Threads + Wait + Sync, G: Gate + Sync>(
+    rt: &R,
+    world: &mut World,
+    kinds: &Kinds,
+    now: u32,
+    clusters: Vec<Cluster>,
+    workers: usize,
+    gate: &G,
+) -> Result<Vec<Made>, Fault>
+    requires workers { (0 < workers) × (workers ≤ 8) }
+    requires whole { is_broken world.old ≡ false }
+    requires few { vec_len clusters ≤ 4294967295 }
+    requires kinds { HasKinds (kind_count kinds.now) (blocks world.old) }
+    requires cut { (entries : List Entry) × IsCut (grid world.old) entries clusters.items × All (λ e. IsTrue ((blocks world.old).loaded e.pos)) entries }
+    ensures ok { IfOk result (λ made. (entries : List Entry) → IsCut (grid world.old) entries clusters.items → IsGathered (kinds_of kinds.now) now entries (blocks world.old) (lists world.old) (blocks world.new) made.items) }
+    ensures same { IsSamePlaces world.old world.new }
+    ensures fault { IfErr result (λ e. e ≡ OutOfMemory) }
+{
+    let alloc = *clusters.allocator();
+    let mut jobs = Vec::new(alloc);
+    carve_all(world, clusters, &mut jobs)?;
+    let dones = work_all(rt, jobs, kinds, now, workers, gate)?;
+    let mut made = Vec::with_capacity(alloc, dones.len())?;
+    if mend_all(world, dones, &mut made) {
+        return Err(Fault::OutOfMemory);
+    }
+    merge_made(alloc, made.as_slice())
+}

@@ -1,0 +1,180 @@
+//! The tick on several workers.
+ghost use Rattle.std.specs.Prelude.{nat_eq, ◌≡◌, ◌≢◌, ◌≤◌, ◌<◌, nat_lt, nat_le, ◌||◌, true, false, All, OnOk, OnErr, IfOk, IfErr, if◌then◌else◌, length};
+ghost use Rattle.av_types.specs.declared.fault.Fault.TheVariants.{OutOfMemory, BadCount, Broken};
+ghost use Rattle.av_rules.specs.Kinds.{kind_count};
+ghost use Rattle.av_cells.specs.Kinds.{kinds_of};
+ghost use Rattle.av_land.specs.Tick.{set_in, edited, turned_all, ticked, tick_count, due_entries, without_due};
+ghost use Rattle.av_world.specs.Views.{is_broken, blocks};
+ghost use Rattle.av_world.specs.Lands.{land_of};
+ghost use Rattle.av_edits.specs.Numbered.{number_sets};
+ghost use Rattle.av_serial.specs.Ready.{IsReady, IsSamePlace, CanApply};
+ghost use Rattle.av_crew.specs.Counts.{is_count_of_workers};
+
+use crate::gates::Gate;
+use crate::ticking::turn_parts;
+use av_cluster::plan;
+use av_edits::Edit;
+use av_rules::Kinds;
+use av_serial::apply;
+use av_types::Fault;
+use av_world::World;
+use std::sync::Wait;
+use std::thread::Threads;
+
+const MOST_WORKERS: u32 = 8;
+
+/// Applies an edit, if it is of this tick.
+fn apply_now(world: &mut World, kinds: &Kinds, now: u32, edit: &Edit) -> Result<(), Fault>
+    requires ready { IsReady (kind_count kinds.now) world.old }
+    requires sound { is_broken world.old ≡ false }
+    requires edit { CanApply (kind_count kinds.now) world.old edit.now }
+    ensures done { OnOk result (land_of world.new ≡ (if nat_eq edit.now.tick now then set_in (kinds_of kinds.now) now edit.now.pos edit.now.number (land_of world.old) else land_of world.old)) }
+    ensures ready { IsReady (kind_count kinds.now) world.new }
+    ensures place { IsSamePlace world.old world.new }
+    ensures fault { IfErr result (λ e. e ≡ OutOfMemory) }
+{
+    if edit.tick == now {
+        apply(world, kinds, now, edit)?;
+    }
+    Ok(())
+}
+
+/// Applies the edits of a tick, in order.
+fn apply_all(world: &mut World, kinds: &Kinds, now: u32, edits: &[Edit]) -> Result<(), Fault>
+    requires ready { IsReady (kind_count kinds.now) world.old }
+    requires sound { is_broken world.old ≡ false }
+    requires edits { All (CanApply (kind_count kinds.now) world.old) edits.now }
+    ensures done { OnOk result (land_of world.new ≡ edited (kinds_of kinds.now) now (number_sets edits.now) (land_of world.old)) }
+    ensures ready { IsReady (kind_count kinds.now) world.new }
+    ensures place { IsSamePlace world.old world.new }
+    ensures fault { IfErr result (λ e. e ≡ OutOfMemory) }
+{
+    for edit in edits {
+        apply_now(world, kinds, now, edit)?;
+    }
+    Ok(())
+}
+
+/// Takes what is due, and turns it in parts.
+fn turn_due<R: Threads + Wait + Sync, G: Gate + Sync>(
+    rt: &R,
+    world: &mut World,
+    kinds: &Kinds,
+    now: u32,
+    workers: usize,
+    gate: &G,
+) -> Result<u64, Fault>
+    requires workers { (0 < workers) × (workers ≤ 8) }
+    requires ready { IsReady (kind_count kinds.now) world.old }
+    requires sound { is_broken world.old ≡ false }
+    ensures done { OnOk result (land_of world.new ≡ turned_all (kinds_of kinds.now) now (due_entries now (land_of world.old)) (without_due now (land_of world.old))) }
+    ensures count { IfOk result (λ n. n ≡ length (due_entries now (land_of world.old))) }
+    ensures ready { OnOk result (IsReady (kind_count kinds.now) world.new) }
+    ensures place { OnOk result (IsSamePlace world.old world.new) }
+    ensures fault { IfErr result (λ e. e ≡ OutOfMemory) }
+{
+    let entries = world.take_due(now)?;
+    let alloc = *entries.allocator();
+    let clusters = plan(alloc, world, entries.as_slice())?;
+    let made = turn_parts(rt, world, kinds, now, clusters, workers, gate)?;
+    world.append(made.as_slice())?;
+    Ok(entries.len() as u64)
+}
+
+/// The edits of a tick, and then the entries that are due.
+fn work_tick<R: Threads + Wait + Sync, G: Gate + Sync>(
+    rt: &R,
+    world: &mut World,
+    kinds: &Kinds,
+    now: u32,
+    edits: &[Edit],
+    workers: usize,
+    gate: &G,
+) -> Result<u64, Fault>
+    requires workers { (0 < workers) × (workers ≤ 8) }
+    requires ready { IsReady (kind_count kinds.now) world.old }
+    requires sound { is_broken world.old ≡ false }
+    requires edits { All (CanApply (kind_count kinds.now) world.old) edits.now }
+    ensures done { OnOk result (land_of world.new ≡ ticked (kinds_of kinds.now) now (number_sets edits.now) (land_of world.old)) }
+    ensures count { IfOk result (λ n. n ≡ tick_count (kinds_of kinds.now) now (number_sets edits.now) (land_of world.old)) }
+    ensures ready { OnOk result (IsReady (kind_count kinds.now) world.new) }
+    ensures place { OnOk result (IsSamePlace world.old world.new) }
+    ensures fault { IfErr result (λ e. e ≡ OutOfMemory) }
+{
+    apply_all(world, kinds, now, edits)?;
+    turn_due(rt, world, kinds, now, workers, gate)
+}
+
+/// Works a tick off, and gives the world up where memory is refused.
+fn tick_or_give_up<R: Threads + Wait + Sync, G: Gate + Sync>(
+    rt: &R,
+    world: &mut World,
+    kinds: &Kinds,
+    now: u32,
+    edits: &[Edit],
+    workers: usize,
+    gate: &G,
+) -> Result<u64, Fault>
+    requires workers { (0 < workers) × (workers ≤ 8) }
+    requires ready { IsReady (kind_count kinds.now) world.old }
+    requires sound { is_broken world.old ≡ false }
+    requires edits { All (CanApply (kind_count kinds.now) world.old) edits.now }
+    ensures done { OnOk result (land_of world.new ≡ ticked (kinds_of kinds.now) now (number_sets edits.now) (land_of world.old)) }
+    ensures count { IfOk result (λ n. n ≡ tick_count (kinds_of kinds.now) now (number_sets edits.now) (land_of world.old)) }
+    ensures ready { OnOk result (IsReady (kind_count kinds.now) world.new) }
+    ensures place { OnOk result (IsSamePlace world.old world.new) }
+    ensures broken { OnErr result (is_broken world.new ≡ true) }
+    ensures fault { IfErr result (λ e. e ≡ OutOfMemory) }
+{
+    match work_tick(rt, world, kinds, now, edits, workers, gate) {
+        Ok(count) => Ok(count),
+        Err(fault) => {
+            world.give_up();
+            Err(fault)
+        }
+    }
+}
+
+/// Whether a tick can have so many workers.
+fn are_few(workers: u32) -> bool
+    ensures { result ≡ is_count_of_workers workers }
+{
+    1 <= workers && workers <= MOST_WORKERS
+}
+
+/// Tick `now` on 1 to 8 workers, of which the calling thread is one: its edits, in order, and then the entries that are
+/// due leave their lists and are turned, those of each part of the plan by one worker. Returns how many they are. What
+/// is left is that of the tick on one thread.
+///
+/// # Errors
+/// `BadCount` where the workers are not 1 to 8, and else `Broken` of a broken world; then the world stays as it is.
+/// `OutOfMemory`, also where a worker can't be started: then all workers have ended, and the world is broken.
+pub fn tick<R: Threads + Wait + Sync, G: Gate + Sync>(
+    rt: &R,
+    world: &mut World,
+    kinds: &Kinds,
+    now: u32,
+    edits: &[Edit],
+    workers: u32,
+    gate: &G,
+) -> Result<u64, Fault>
+    requires ready { is_broken world.old ≡ false → IsReady (kind_count kinds.now) world.old }
+    requires edits { is_broken world.old ≡ false → All (CanApply (kind_count kinds.now) world.old) edits.now }
+    ensures done { OnOk result (land_of world.new ≡ ticked (kinds_of kinds.now) now (number_sets edits.now) (land_of world.old)) }
+    ensures count { IfOk result (λ n. n ≡ tick_count (kinds_of kinds.now) now (number_sets edits.now) (land_of world.old)) }
+    ensures ready { OnOk result (IsReady (kind_count kinds.now) world.new) }
+    ensures place { OnOk result (IsSamePlace world.old world.new) }
+    ensures sound { OnOk result (is_broken world.old ≡ false) }
+    ensures workers { OnOk result (is_count_of_workers workers ≡ true) }
+    ensures fault { IfErr result (λ e. e ≡ (if is_count_of_workers workers then (if is_broken world.old then Broken else OutOfMemory) else BadCount)) }
+    ensures broken { IfErr result (λ e. e ≡ OutOfMemory → is_broken world.new ≡ true) }
+    ensures unchanged { IfErr result (λ e. e ≢ OutOfMemory → world.new ≡ world.old) }
+{
+    if !are_few(workers) {
+        return Err(Fault::BadCount);
+    }
+    if world.broken() {
+        return Err(Fault::Broken);
+    }
+    tick_or_give_up(rt, world, kinds, now, edits, workers as usize, gate)
+}
