@@ -1,0 +1,3 @@
+pub mod SameFiles
+pub mod Alike
+pub mod Three

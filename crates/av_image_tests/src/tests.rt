@@ -1,0 +1,114 @@
+//! Small region files, read as a world and a rest.
+use av_image::{Rest, Slot, load};
+use av_rules::Rules;
+use av_sink::RegionFile;
+use av_state::StateTable;
+use av_types::{Fault, RegionPos};
+use av_world::World;
+use std::alloc::{AllocError, Global};
+use std::process::Abort;
+use std::test::Fail;
+
+/// What files of these regions are read as, under a table without rows.
+fn read(alloc: Global, files: Vec<RegionFile>) -> Result<(World, Rest), Fault> {
+    let rules = Rules::read(alloc, b"version = 1")?;
+    let mut table = StateTable::new(alloc)?;
+    load(alloc, files, &rules, &mut table)
+}
+
+/// One file.
+fn one(alloc: Global, pos: RegionPos, bytes: Vec<u8>) -> Result<Vec<RegionFile>, AllocError> {
+    let mut files = Vec::new(alloc);
+    files.push(RegionFile { pos, bytes })?;
+    Ok(files)
+}
+
+/// That nothing is loaded and there is one region, whose chunks are absent from this index on.
+fn has_no_chunk_from(rt: &impl Abort, read: &(World, Rest), index: usize) {
+    assert!(rt; read.0.positions().is_empty());
+    assert_eq!(rt; read.1.regions.len(), 1);
+    for region in &read.1.regions {
+        assert_eq!(rt; region.slots.len(), 1024);
+        assert_eq!(rt; region.stamps.len(), 1024);
+        for slot in region.slots.iter().skip(index) {
+            assert!(rt; matches!(slot, Slot::Absent));
+        }
+    }
+}
+
+/// A file of 0 bytes is one of 8,192 zeros.
+#[test]
+fn regions_without_chunks(rt: HostRuntime) -> Result<(), Fail> {
+    let alloc = rt.alloc();
+    for len in [0, 8192] {
+        let pos = RegionPos { x: 3, z: -2 };
+        let files = one(alloc, pos, vec![in alloc; 0; len]?)?;
+        let read = read(alloc, files)?;
+        has_no_chunk_from(&rt, &read, 0);
+        for region in &read.1.regions {
+            assert_eq!(rt; region.pos, pos);
+            assert!(rt; region.stamps.iter().all(|stamp| *stamp == 0));
+        }
+    }
+    Ok(())
+}
+
+/// The tags of a chunk whose `Status` is `empty`.
+const KEPT: &[u8] = b"\x0a\0\0\x08\0\x06Status\0\x05empty\0";
+
+/// A region with that chunk at index 0, of 20 bytes and a byte for its type, and with the stamps 1 to 4 at the bytes of
+/// index 0 and 5 at the last byte of index 1023.
+fn kept_region(alloc: Global) -> Result<Vec<u8>, AllocError> {
+    let mut bytes = Vec::from_slice(alloc, b"\0\0\x02\x01")?;
+    bytes.resize(4096, 0)?;
+    bytes.extend_from_slice(b"\x01\x02\x03\x04")?;
+    bytes.resize(8191, 0)?;
+    bytes.extend_from_slice(b"\x05\0\0\0\x15\x03")?;
+    bytes.extend_from_slice(KEPT)?;
+    bytes.resize(12288, 0)?;
+    Ok(bytes)
+}
+
+/// A chunk that is not full stays as its payload, and a stamp stays also where no chunk is.
+#[test]
+fn payloads_and_stamps_that_are_kept(rt: HostRuntime) -> Result<(), Fail> {
+    let alloc = rt.alloc();
+    let files = one(alloc, RegionPos { x: 0, z: 0 }, kept_region(alloc)?)?;
+    let read = read(alloc, files)?;
+    has_no_chunk_from(&rt, &read, 1);
+    let region = read.1.regions.first().ok_or("no region")?;
+    assert!(rt; region.stamps.first() == Some(&0x0102_0304));
+    assert!(rt; region.stamps.last() == Some(&5));
+    let slot = region.slots.first().ok_or("no slot")?;
+    let Slot::Kept(payload) = slot else {
+        return Err("the chunk is not kept".into());
+    };
+    assert_eq!(rt; payload.as_slice(), KEPT);
+    Ok(())
+}
+
+/// Why files of these regions, each of so many zeros, are refused.
+fn refusal(alloc: Global, regions: &[(i32, i32, usize)]) -> Result<Option<Fault>, Fail> {
+    let mut files = Vec::new(alloc);
+    for (x, z, len) in regions {
+        files.push(RegionFile {
+            pos: RegionPos { x: *x, z: *z },
+            bytes: vec![in alloc; 0; *len]?,
+        })?;
+    }
+    Ok(read(alloc, files).err())
+}
+
+/// The list of files is judged before any file, and its limits before regions that are there twice.
+#[test]
+fn files_that_are_refused(rt: HostRuntime) -> Result<(), Fail> {
+    let alloc = rt.alloc();
+    for (regions, fault) in [
+        ([(0, 0, 1), (0, 0, 0), (60001, 0, 0)], Fault::RegionRange),
+        ([(0, 0, 1), (1, 0, 0), (0, 0, 0)], Fault::RepeatedRegion),
+        ([(0, 0, 0), (1, 0, 8191), (2, 0, 8192)], Fault::ShortHeader),
+    ] {
+        assert!(rt; refusal(alloc, regions.as_slice())? == Some(fault));
+    }
+    Ok(())
+}

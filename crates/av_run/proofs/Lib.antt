@@ -1,0 +1,4 @@
+pub mod Edited
+pub mod Lit
+pub mod Inputs
+pub mod Answered

@@ -1,0 +1,4 @@
+pub mod Answer
+pub mod Written
+pub mod Input
+pub mod Finished

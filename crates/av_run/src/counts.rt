@@ -1,0 +1,19 @@
+//! How much a run may be given.
+ghost use Rattle.std.specs.Prelude.{IsTrue, ◌↔◌, map};
+ghost use Rattle.av_files.specs.FirstFault.{AreCountsGood};
+ghost use Rattle.av_image.specs.Loading.{file_in};
+
+use av_sink::RegionFile;
+
+const MOST_WORKERS: u32 = 8;
+
+const MOST_TICKS: u32 = 1_000_000;
+
+const MOST_FILES: usize = 1024;
+
+/// Whether there are 1 to 8 workers, at most 1,000,000 ticks and at most 1,024 files.
+pub fn are_counts_good(files: &[RegionFile], ticks: u32, workers: u32) -> bool
+    ensures { IsTrue result ↔ AreCountsGood (map file_in files.now) ticks workers }
+{
+    1 <= workers && workers <= MOST_WORKERS && ticks <= MOST_TICKS && files.len() <= MOST_FILES
+}

@@ -1,0 +1,101 @@
+//! What a run begins with: its world, the rest, the kinds of states, and its edits.
+ghost use Rattle.std.specs.Prelude.{◌≡◌, ◌≢◌, IfOk, IfErr, Some, map};
+ghost use Rattle.av_types.specs.declared.fault.Fault.TheVariants.{OutOfMemory, BadTable};
+ghost use Rattle.av_state.specs.Table.{states};
+ghost use Rattle.av_rules.specs.Tables.{table_of};
+ghost use Rattle.av_land.specs.Land.{is_loaded};
+ghost use Rattle.av_edits.specs.Edits.{first_in_edits};
+ghost use Rattle.av_edits.specs.Numbered.{number_sets};
+ghost use Rattle.av_world.specs.Lands.{land_of, IsWhole};
+ghost use Rattle.av_files.specs.FirstFault.{IsTable, IsBadTable, IsFilesFault};
+ghost use Rattle.av_files.specs.Layers.{AreEdits};
+ghost use Rattle.av_image.specs.Loading.{file_in};
+ghost use Rattle.av_run.specs.Input.{IsLoaded, IsInput, IsInputFault};
+
+use av_edits::Edit;
+use av_image::{Rest, load};
+use av_rules::{Kinds, Rules};
+use av_sink::RegionFile;
+use av_state::StateTable;
+use av_types::Fault;
+use av_world::World;
+use std::alloc::Global;
+
+/// What a run begins with.
+#[derive(Drop)]
+pub struct Input {
+    pub world: World,
+    pub rest: Rest,
+    /// The kinds of the states of the world and of the edits.
+    pub kinds: Kinds,
+    /// The edits, by line.
+    pub edits: Vec<Edit>,
+}
+
+/// What files say, and the states that they name.
+#[derive(Drop)]
+struct Loaded {
+    table: StateTable,
+    world: World,
+    rest: Rest,
+}
+
+/// The block table that a text spells.
+fn read_rules(alloc: Global, text: &[u8]) -> Result<Rules, Fault>
+    ensures ok { IfOk result (λ r. IsTable text.now (table_of r) r.height) }
+    ensures err { IfErr result (λ e. e ≢ OutOfMemory → (e ≡ BadTable) × IsBadTable text.now) }
+{
+    Rules::read(alloc, text)
+}
+
+/// What files say, by a new table of states.
+fn load_new(alloc: Global, files: Vec<RegionFile>, rules: &Rules) -> Result<Loaded, Fault>
+    ensures ok { IfOk result (IsLoaded rules.now.height (map file_in files.items)) }
+    ensures err { IfErr result (λ e. e ≢ OutOfMemory → IsFilesFault rules.now.height (map file_in files.items) e) }
+{
+    let mut table = StateTable::new(alloc)?;
+    let (world, rest) = load(alloc, files, rules, &mut table)?;
+    Ok(Loaded { table, world, rest })
+}
+
+/// The edits that a text states.
+fn read_edits(
+    alloc: Global,
+    text: &[u8],
+    ticks: u32,
+    world: &World,
+    table: &mut StateTable,
+) -> Result<Vec<Edit>, Fault>
+    requires { IsWhole world.now }
+    ensures ok { IfOk result (λ es. AreEdits (is_loaded (land_of world.now)) ticks text.now (states table.old) (states table.new) (number_sets es.items)) }
+    ensures err { IfErr result (λ e. e ≢ OutOfMemory → first_in_edits (is_loaded (land_of world.now)) ticks (states table.old) text.now ≡ Some e) }
+{
+    av_edits::read(alloc, text, ticks, world, table)
+}
+
+/// What a run begins with, from its files, its block table and its edits, in this order. Want of memory aside, the fault
+/// is the first of an input whose counts are good.
+pub fn read_input(
+    alloc: Global,
+    files: Vec<RegionFile>,
+    table: &[u8],
+    edits: &[u8],
+    ticks: u32,
+) -> Result<Input, Fault>
+    ensures ok { IfOk result (IsInput (map file_in files.items) table.now edits.now ticks) }
+    ensures err { IfErr result (λ e. e ≢ OutOfMemory → IsInputFault (map file_in files.items) table.now edits.now ticks e) }
+{
+    let rules = read_rules(alloc, table)?;
+    let loaded = load_new(alloc, files, &rules)?;
+    let world = loaded.world;
+    let rest = loaded.rest;
+    let mut states = loaded.table;
+    let edits = read_edits(alloc, edits, ticks, &world, &mut states)?;
+    let kinds = Kinds::new(alloc, states, &rules)?;
+    Ok(Input {
+        world,
+        rest,
+        kinds,
+        edits,
+    })
+}

@@ -1,0 +1,10 @@
+//! A run of the whole program: region files, a block table and edits in, region files out.
+#![tactic(auto)]
+
+mod counts;
+mod input;
+mod runs;
+mod writing;
+
+pub use av_sink::RegionFile;
+pub use runs::{Outcome, run};

@@ -1,0 +1,82 @@
+//! A run from files to files.
+ghost use Rattle.std.specs.Prelude.{◌≢◌, IfOk, IfErr, map};
+ghost use Rattle.av_types.specs.declared.fault.Fault.TheVariants.{OutOfMemory};
+ghost use Rattle.av_rules.specs.Rows.{BlockTable};
+ghost use Rattle.av_image.specs.Loading.{file_in};
+ghost use Rattle.av_image.specs.Views.{rest_in};
+ghost use Rattle.av_run.specs.Answer.{IsAnswer};
+ghost use Rattle.av_run.specs.Written.{AreKindsBy, IsNotWritten};
+ghost use Rattle.av_run.specs.Input.{CanRun};
+ghost use Rattle.av_run.specs.Finished.{reached_from, IsFinished};
+
+use crate::counts::are_counts_good;
+use crate::input::{Input, read_input};
+use crate::writing::written;
+use av_serial::run_ticks;
+use av_sink::RegionFile;
+use av_types::Fault;
+use std::alloc::Global;
+use std::thread::Threads;
+
+/// What a run answers.
+#[derive(Drop)]
+pub struct Outcome {
+    /// The files that are written, by z and then by x of their regions.
+    pub files: Vec<RegionFile>,
+    /// How many entries were taken in all ticks.
+    pub turns: u128,
+    /// How many chunks are loaded.
+    pub chunks: u64,
+}
+
+/// The ticks of a run, the light after them, and the files.
+fn finish(
+    rt: &(impl Threads + Sync),
+    alloc: Global,
+    input: Input,
+    ticks: u32,
+) -> Result<Outcome, Fault>
+    requires { CanRun ticks input }
+    ensures ok { IfOk result (IsFinished ticks input) }
+    ensures err { IfErr result (λ e. e ≢ OutOfMemory → (t : BlockTable) → AreKindsBy t input.kinds → IsNotWritten t (reached_from ticks input) (rest_in input.rest) ticks e) }
+{
+    let mut world = input.world;
+    let rest = input.rest;
+    let kinds = input.kinds;
+    let turns = run_ticks(alloc, &mut world, &kinds, input.edits.as_slice(), ticks)?;
+    let files = written(rt, alloc, &world, &rest, &kinds, ticks)?;
+    Ok(Outcome {
+        files,
+        turns,
+        chunks: world.positions().len() as u64,
+    })
+}
+
+/// Runs edits and water over the world of region files, lights it, and answers the files that it is written as. `table`
+/// is a block table, `edits` are lines of edits, and `workers` is how many threads may turn blocks; the answer is the same
+/// for each number of them. A refused run hands out nothing.
+///
+/// # Errors
+/// The first of these: `BadCount` where there are not 1 to 8 workers, or more than 1,000,000 ticks or 1,024 files;
+/// `BadTable` where the table is none; `RegionRange` and then `RepeatedRegion` of the list of files; the first fault of the
+/// files by (z, x) of their regions, of each `ShortHeader` before those of its chunks by index, of a chunk the
+/// least-numbered one from `BadLocation` to `TooManyStates`; the fault of the first line of edits that has one, `BadEdit`,
+/// `EditTick`, `EditOutside` or `TooManyStates`; `ChunkTooLarge` for the first chunk that does not fit its file when all is
+/// done. `OutOfMemory` may stand in place of any.
+pub fn run(
+    rt: &(impl Threads + Sync),
+    alloc: Global,
+    files: Vec<RegionFile>,
+    table: &[u8],
+    edits: &[u8],
+    ticks: u32,
+    workers: u32,
+) -> Result<Outcome, Fault>
+    ensures { IsAnswer (map file_in files.items) table.now edits.now ticks workers result }
+{
+    if !are_counts_good(files.as_slice(), ticks, workers) {
+        return Err(Fault::BadCount);
+    }
+    let input = read_input(alloc, files, table, edits, ticks)?;
+    finish(rt, alloc, input, ticks)
+}

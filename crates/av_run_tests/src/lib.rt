@@ -1,0 +1,5 @@
+//! Whole runs by hand.
+#![tactic(auto)]
+
+#[cfg(test)]
+mod tests;
