@@ -7,7 +7,11 @@ times=${1:-7}
 work=$(mktemp -d)
 trap 'rm -rf "$work"' EXIT
 
+mkdir "$work/in" "$work/proved" "$work/plain_out"
 "$top/scripts/make_samples.py" --bench "$work/r.0.0.mca"
+"$top/scripts/make_samples.py" --edits "$work/edits.txt"
+: >"$work/no_edits.txt"
+ln "$work/r.0.0.mca" "$work/in/r.0.0.mca"
 rustc --edition 2024 -O "$top/bench/plain/main.rs" -o "$work/plain"
 proved=$top/crates/av_bench/out/av_bench
 log=$(cd "$top/crates/av_bench" && rt run </dev/null 2>&1) || true
@@ -28,3 +32,15 @@ cmp "$work/proved.mca" "$work/plain.mca"
 measure rewrite "$times" "$proved" rewrite "$work/r.0.0.mca" "$work/proved.mca" -- "$work/plain" rewrite "$work/r.0.0.mca" "$work/plain.mca"
 cmp "$work/proved.mca" "$work/plain.mca"
 measure turn "$times" "$proved" turn 10000 -- "$work/plain" turn 10000
+
+# A whole run, of no tick and of 20 ticks with 5,000 edits.
+measure_run() {
+  name=$1 edits=$2 ticks=$3
+  measure "$name" "$times" \
+    "$top/crates/av_main/out/av_main" run --in "$work/in" --out "$work/proved" --table "$top/tables/blocks.toml" \
+    --edits "$edits" --ticks "$ticks" --workers 1 -- \
+    "$work/plain" run "$work/in" "$work/plain_out" "$top/tables/blocks.toml" "$edits" "$ticks"
+  cmp "$work/proved/r.0.0.mca" "$work/plain_out/r.0.0.mca"
+}
+measure_run light "$work/no_edits.txt" 0
+measure_run run "$work/edits.txt" 20

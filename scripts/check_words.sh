@@ -30,6 +30,18 @@ expect() {
   fi
 }
 
+# expect_all STATUS OUTPUT ERRORS WORDS..: the same of a call that may write several lines, or none, to each stream
+expect_all() {
+  local status=$1 out=$2 err=$3 answered=0
+  shift 3
+  "$program" "$@" > "$work/out" 2> "$work/err" || answered=$?
+  asked=$((asked + 1))
+  if [ "$answered" != "$status" ] || ! printf "$out" | cmp -s - "$work/out" || ! printf "$err" | cmp -s - "$work/err"; then
+    wrong=$((wrong + 1))
+    echo "$*: expected $status, '$out', '$err'; status $answered, output '$(cat "$work/out")', errors '$(cat "$work/err")'"
+  fi
+}
+
 # sector FILE BYTES: a region with one chunk, at index 0, whose sector begins with bytes that are written for printf
 sector() {
   printf '\0\0\2\1' > "$1"
@@ -59,7 +71,8 @@ expect 2 "$not_a_region" block README.md 0 0 0
 expect 2 "error: the following required arguments were not provided:" block samples/r.0.0.mca 0 0
 expect 2 "error: unexpected argument '-1' found" block samples/r.0.0.mca 0 -1 0
 expect 2 "error: 'anvilwater' requires a subcommand but one was not provided"
-expect 2 "Reads Minecraft region files" --help
+expect 2 "Reads Minecraft region files, and runs water and light over them" --help
+expect 2 "error: unrecognized subcommand 'blocks'" blocks
 
 # The file is read before its name is, and the name before the region.
 for name in r.60001.0 r.0.60001 r.-60001.0 r.2147483647.0 r.2147483648.0 r.-2147483649.0 r.00.0 r.-0.0; do
@@ -86,6 +99,115 @@ if [ -c /dev/full ]; then
     wrong=$((wrong + 1))
     echo "output to /dev/full: status $answered"
   fi
+fi
+
+# What is wrong with a folder. The words are judged before the table, the table before the folder, and that before its
+# files, which are read in the byte order of their names.
+expect 2 "error: the following required arguments were not provided:" check
+expect 2 "error: unexpected argument 'samples' found" check samples
+expect 2 "error: the argument '--in <DIR>' cannot be used multiple times" check --in samples --in samples
+expect 2 "Lists what is wrong with the region files of a folder" check --help
+expect_all 0 "" "" check --in samples
+expect_all 0 "" "1 of 2 files read\n2 of 2 files read\n" check --progress --in samples
+expect 1 "fault 25: Device missing.toml" check --table missing.toml --in missing
+expect 1 "fault 19: BadTable" check --table README.md --in missing
+expect 1 "fault 25: Device missing" check --in missing
+expect 1 "fault 25: Device README.md" check --in README.md
+folder="$work/folder"
+mkdir "$folder"
+expect_all 0 "" "" check --in "$folder"
+for name in README r.0.0.mcr r.00.0.mca r.-0.0.mca r.0.0.mca.part r.2147483648.0.mca $'r.0.\377.mca'; do
+  printf 'no region' > "$folder/$name"
+done
+expect_all 0 "" "" check --in "$folder"
+mkdir "$folder/r.2.0.mca" "$folder/r.10.0.mca"
+expect 1 "fault 25: Device r.10.0.mca" check --in "$folder"
+rmdir "$folder/r.2.0.mca" "$folder/r.10.0.mca"
+: > "$folder/r.60001.0.mca"
+expect 1 "fault 02: RegionRange" check --in "$folder"
+rm "$folder"/*
+
+# Findings come by (z, x) of the regions and then by the chunks' indices, with the chunks' places in the world.
+two_chunks() {
+  {
+    printf '\0\0\2\1'
+    head -c 128 /dev/zero
+    printf '\0\0\3\1'
+  } > "$1"
+  truncate -s 8192 "$1"
+  printf '\0\0\0\5\2\12\0\0\0' >> "$1"
+  truncate -s 16384 "$1"
+}
+two_chunks "$folder/r.0.0.mca"
+expect_all 1 "r.0.0.mca 0 0 fault 09: Compression 2\nr.0.0.mca 1 1 fault 07: BadLength\n" "" check --in "$folder"
+two_chunks "$folder/r.-1.1.mca"
+head -c 100 /dev/zero > "$folder/r.3.0.mca"
+: > "$folder/r.-2.2.mca"
+expect_all 1 "r.0.0.mca 0 0 fault 09: Compression 2
+r.0.0.mca 1 1 fault 07: BadLength
+r.3.0.mca fault 04: ShortHeader
+r.-1.1.mca -32 32 fault 09: Compression 2
+r.-1.1.mca -31 33 fault 07: BadLength
+" "" check --in "$folder/"
+
+# A run of a folder. The words are judged before the table, the table before the edits, these before the folder, and only
+# when all files were read is anything judged or written: a table that can't be read comes before 9 workers, and these
+# before a table that is no TOML.
+expect 2 "error: the following required arguments were not provided:" run --in samples
+expect 2 "Runs edits, water and block light over the region files of a folder" run --help
+run() {
+  local table=$1 edits=$2 input=$3 output=$4 workers=$5
+  shift 5
+  printf '%s\n' run --in "$input" --out "$output" --table "$table" --edits "$edits" --ticks 10 --workers "$workers" "$@"
+}
+# expect_run STATUS OUTPUT ERRORS TABLE EDITS INPUT OUTPUT WORKERS [OTHERS..]
+expect_run() {
+  local status=$1 out=$2 err=$3 words
+  shift 3
+  mapfile -t words < <(run "$@")
+  expect_all "$status" "$out" "$err" "${words[@]}"
+}
+edits="$work/edits"
+: > "$edits"
+input="$work/input" output="$work/output"
+mkdir "$input" "$output"
+blocks=tables/blocks.toml
+expect_run 1 "" "fault 25: Device missing.toml\n" missing.toml missing.edits missing "$output" 9
+expect_run 1 "" "fault 25: Device missing.edits\n" README.md missing.edits missing "$output" 9
+expect_run 1 "" "fault 25: Device missing\n" README.md "$edits" missing "$output" 9
+expect_run 1 "" "fault 23: BadCount\n" README.md "$edits" "$input" "$output" 9
+expect_run 1 "" "fault 23: BadCount\n" README.md "$edits" "$input" "$output" 0
+expect_run 1 "" "fault 19: BadTable\n" README.md "$edits" "$input" "$output" 8
+expect_run 0 "chunks 0 turns 0\n" "" "$blocks" "$edits" "$input" missing 8
+: > "$input/r.0.0.mca"
+head -c 8192 /dev/zero > "$input/r.-1.0.mca"
+printf 'no region' > "$input/README"
+mkdir "$input/r.2.0.mca"
+expect_run 1 "" "fault 25: Device r.2.0.mca\n" "$blocks" "$edits" "$input" "$output" 9
+rmdir "$input/r.2.0.mca"
+expect_run 1 "" "fault 25: Device r.-1.0.mca\n" "$blocks" "$edits" "$input" missing 1
+expect_run 0 "chunks 0 turns 0\n" "1 of 2 files read\n2 of 2 files read\nrunning\nwriting\n" "$blocks" "$edits" "$input" "$output" 1 --progress
+expect_run 0 "chunks 0 turns 0\n" "" "$blocks" "$edits" "$input" "$input" 2
+for file in "$input"/r.*.mca "$output"/r.*.mca; do
+  asked=$((asked + 1))
+  head -c 8192 /dev/zero | cmp -s - "$file" || {
+    wrong=$((wrong + 1))
+    echo "$file: not the bytes of an empty region"
+  }
+done
+asked=$((asked + 1))
+if [ "$(ls "$output")" != $'r.-1.0.mca\nr.0.0.mca' ] || [ "$(ls "$input")" != $'README\nr.-1.0.mca\nr.0.0.mca' ]; then
+  wrong=$((wrong + 1))
+  echo "folders after a run: $(ls "$input" "$output")"
+fi
+# A file that can't be put in its place leaves nothing behind.
+rm "$output"/*
+mkdir "$output/r.0.0.mca"
+expect_run 1 "" "fault 25: Device r.0.0.mca\n" "$blocks" "$edits" "$input" "$output" 1
+asked=$((asked + 1))
+if [ "$(ls "$output")" != $'r.-1.0.mca\nr.0.0.mca' ]; then
+  wrong=$((wrong + 1))
+  echo "folder after a write that failed: $(ls "$output")"
 fi
 
 # Regions without chunks, and one that ends in its header.

@@ -3,6 +3,7 @@
 
     scripts/make_samples.py                 samples/ and the regions of the stored runs of av_main and av_bench
     scripts/make_samples.py --bench FILE    a full region of 1,024 chunks
+    scripts/make_samples.py --edits FILE    5,000 edits of it in the ticks 1 to 20
 
 Chunks are uncompressed (type 3), DataVersion 2975, sections -4 to 19, with the tags that a server
 writes (minecraft.wiki: Region file format, Chunk format, NBT format). The blocks come from a small
@@ -579,9 +580,23 @@ def bench(path):
     write(os.path.abspath(path), region_bytes(chunks))
 
 
+def edits(path):
+    """Water over the ground, and now and then a stone or a torch."""
+    dice = Dice(11)
+    states = ["minecraft:water[level=0]"] * 6 + ["minecraft:stone", "minecraft:torch"]
+    lines = []
+    for _ in range(5000):
+        x, z = dice.below(512), dice.below(512)
+        y = max(surface_at(x, z), SEA) + 1 + dice.below(6)
+        lines.append("%d %d %d %d %s" % (1 + dice.below(20), x, y, z, dice.pick(states)))
+    write(os.path.abspath(path), ("\n".join(lines) + "\n").encode())
+
+
 def main():
     if len(sys.argv) == 3 and sys.argv[1] == "--bench":
         bench(sys.argv[2])
+    elif len(sys.argv) == 3 and sys.argv[1] == "--edits":
+        edits(sys.argv[2])
     elif len(sys.argv) == 1:
         samples()
         stored_run()

@@ -10,7 +10,8 @@ use Rattle.av_state.specs.BlockState.{BlockState}
 use Rattle.av_chunk.specs.Block.{IsFound, IsBlockRefused}
 use Rattle.av_main.specs.declared.block.refusal.Refusal.{Refusal}
 use Rattle.av_main.specs.declared.block.refusal.Refusal.TheVariants as refusal
-use Rattle.av_main.specs.Names.{FitsRegion, IsFileNameOf, region_name_of}
+use Rattle.av_sink.specs.Names.{region_name_of}
+use Rattle.av_main.specs.Names.{FitsRegion, IsFileNameOf}
 use Rattle.av_main.specs.Output.{answer_line}
 
 -- the path ends in the name of this region, whose coordinates are numbers of 32 bits

@@ -1,6 +1,9 @@
 pub mod CommandLine
 pub mod Names
+pub mod Folders
 pub mod Output
 pub mod BlockCommand
+pub mod CheckCommand
+pub mod RunCommand
 pub mod Tables
 pub mod Running

@@ -1,20 +1,11 @@
--- The names of region files (minecraft.wiki, Region file format).
+-- Names of files, and which numbers those of region files have.
 use Rattle.std.specs.Prelude.{◌≡◌, ◌≢◌, ◌⊎◌, ◌<◌, ℕ, List, ◌++◌, codes, length, slice_index, FitsSigned}
 use Rattle.std.specs.Int.{w32}
-use Rattle.std.specs.Fmt.{signed_decimal}
 use Rattle.av_types.specs.declared.place.RegionPos.{RegionPos}
-
--- the texts between the dots of a name
-abbrev pub name_with : List ℕ → List ℕ → List ℕ
-name_with x z = codes "r." ++ (x ++ (codes "." ++ (z ++ codes ".mca")))
 
 -- no byte of the text is a dot
 abbrev pub HasNoDot : List ℕ → Type 0
 HasNoDot text = (i : ℕ) → i < length text → slice_index text i ≢ 46
-
--- `r.X.Z.mca`: decimal numbers as they are printed, so without leading zeros, without `+` and `-0`
-abbrev pub region_name_of : RegionPos → List ℕ
-region_name_of region = name_with (signed_decimal region.x) (signed_decimal region.z)
 
 -- both coordinates are numbers of 32 bits
 abbrev pub FitsRegion : RegionPos → Type 0

@@ -5,7 +5,7 @@ ghost use Rattle.av_types.specs.Places.{IsInLimits};
 ghost use Rattle.av_main.specs.BlockCommand.{HasAnswered, IsBlockLine, IsBlockRefusal, IsPathOf, IsPathRefused, status_of};
 
 use crate::names::{file_name, region_of_name};
-use crate::output::{FAULT, REFUSED, block_line, report};
+use crate::output::{FAULT, REFUSED, block_line, report_fault};
 use av_chunk::block_at;
 use av_types::{Fault, Height, Pos, RegionPos};
 use std::alloc::Global;
@@ -56,7 +56,7 @@ fn explain<E: Write>(err: &mut E, refusal: &Refusal) -> u8
             );
             REFUSED
         }
-        Refusal::Fault(fault) => report(err, fault),
+        Refusal::Fault(fault) => report_fault(err, fault),
     }
 }
 

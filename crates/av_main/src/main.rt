@@ -1,17 +1,25 @@
-//! The program `anvilwater`: reads blocks of Minecraft's region files.
+//! The program `anvilwater`: reads blocks of Minecraft's region files, and says what is wrong with them.
 #![tactic(auto)]
 
 pub mod block;
+pub mod checking;
 pub mod command_line;
+pub mod folder_sink;
 pub mod names;
 pub mod output;
 pub mod program;
+mod progress;
+mod reading;
+pub mod running;
+mod tables;
 #[cfg(test)]
 mod tests;
 
+use std::io::IsTerminal;
 use std::process::ExitCode;
 
 fn main(rt: HostRuntime) -> ExitCode {
-    let status = program::run(&rt, &mut rt.stdout(), &mut rt.stderr());
+    let is_terminal = rt.stderr().is_terminal();
+    let status = program::run(&rt, is_terminal, &mut rt.stdout(), &mut rt.stderr());
     ExitCode::from(status)
 }

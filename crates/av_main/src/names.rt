@@ -2,9 +2,11 @@
 ghost use Rattle.std.specs.Prelude.{◌≡◌, ◌++◌, codes, ℕ, List, IfOk, IfSome, IfNone, IsSomeAnd, FitsSigned, Some, ℤ};
 ghost use Rattle.std.specs.Int.{w32};
 ghost use Rattle.std.specs.Fmt.{signed_decimal};
-ghost use Rattle.av_main.specs.Names.{FitsRegion, HasNoDot, IsFileNameOf, name_with, region_name_of};
+ghost use Rattle.av_sink.specs.Names.{name_with, region_name_of};
+ghost use Rattle.av_main.specs.Names.{FitsRegion, HasNoDot, IsFileNameOf};
 ghost use Rattle.av_types.specs.declared.place.RegionPos.{RegionPos};
 
+use av_sink::region_name;
 use av_types::RegionPos;
 use std::alloc::{AllocError, Global};
 
@@ -63,7 +65,7 @@ pub fn region_of_name(alloc: Global, name: &str) -> Result<Option<RegionPos>, Al
     let (Some(x), Some(z)) = (number(x), number(z)) else {
         return Ok(None);
     };
-    let printed = format!(in alloc; "r.{x}.{z}.mca")?;
+    let printed = region_name(alloc, RegionPos { x, z })?;
     if printed.as_str() == name {
         Ok(Some(RegionPos { x, z }))
     } else {

@@ -38,7 +38,7 @@ pub fn write_fault<E: Write>(err: &mut E, fault: &Fault) -> io::Result<()>
 }
 
 /// Writes a fault, as well as that can be written, and answers the status.
-pub fn report<E: Write>(err: &mut E, fault: &Fault) -> u8
+pub fn report_fault<E: Write>(err: &mut E, fault: &Fault) -> u8
     ensures { result ≡ FAULT }
 {
     let _ = write_fault(err, fault);

@@ -1,22 +1,29 @@
 //! The program's way from its words to its status.
-ghost use Rattle.std.specs.Prelude.{◌≡◌, ◌≢◌, ◌≤◌, ◌⊎◌, IfErr, IfOk, IsSomeAnd, true, map, option_map, is_some};
+ghost use Rattle.std.specs.Prelude.{◌≡◌, ◌≢◌, ◌≤◌, IfErr, IfOk, map, option_map};
 ghost use Rattle.clap.specs.Words.{kind_of};
-ghost use Rattle.av_types.specs.declared.fault.Fault.TheVariants.{OutOfMemory, BadTable};
-ghost use Rattle.av_main.specs.Running.{HasRun, HasRunProgram, HasRunWords, IsDevice, IsHeightBy, IsUnread};
-ghost use Rattle.av_main.specs.Tables.{IsWorldHeight};
+ghost use Rattle.av_main.specs.RunCommand.{HasRunRegions};
+ghost use Rattle.av_main.specs.Running.{HasChecked, HasRun, HasRunCommand, HasRunProgram, HasRunWords, IsSurveyBy, IsUnread, IsUnreadCheck};
+ghost use Rattle.av_main.specs.Tables.{IsHeightBy};
 
 use crate::block::block_text;
+use crate::checking::findings;
 use crate::command_line::commands::Words;
 use crate::command_line::words;
-use crate::output::{FAULT, REFUSED, report};
-use av_rules::Rules;
+use crate::folder_sink::FolderSink;
+use crate::output::{FAULT, REFUSED, report_fault};
+use crate::reading::{read_file, read_folder};
+use crate::running::{Request, report, run_over};
+use crate::tables::read_height;
+use av_sink::{RegionFile, Sink};
+use av_survey::{Finding, survey};
 use av_types::{Fault, Height, Pos};
 use clap::Error;
 use clap::error::ErrorKind;
 use std::alloc::{AllocError, Global};
+use std::env;
 use std::io::{self, Write};
 use std::rt::{Env, Files};
-use std::{env, fs};
+use std::thread::Threads;
 
 /// Writes why words were refused, or the help that was called for, and answers the status.
 fn explain_words<O: Write, E: Write>(out: &mut O, err: &mut E, error: &Error) -> u8
@@ -24,7 +31,7 @@ fn explain_words<O: Write, E: Write>(out: &mut O, err: &mut E, error: &Error) ->
     ensures refused { kind_of error.now ≢ ErrorKind.OutOfMemory → result ≡ REFUSED }
 {
     if error.kind() == ErrorKind::OutOfMemory {
-        return report(err, &Fault::OutOfMemory);
+        return report_fault(err, &Fault::OutOfMemory);
     }
     let _ = if error.use_stderr() {
         write!(err, "{error}")
@@ -32,39 +39,6 @@ fn explain_words<O: Write, E: Write>(out: &mut O, err: &mut E, error: &Error) ->
         write!(out, "{error}")
     };
     REFUSED
-}
-
-/// The bytes of a file. A file that can't be read is `Device` with its name as it was given.
-fn read_file<R: Files + AllocGlobal>(rt: &R, name: &str) -> Result<Vec<u8>, Fault>
-    ensures { IfErr result (λ e. (e ≡ OutOfMemory) ⊎ IsDevice name.now e) }
-{
-    match fs::read(rt, name) {
-        Ok(bytes) => Ok(bytes),
-        Err(error) if error.kind() == io::ErrorKind::OutOfMemory => Err(Fault::OutOfMemory),
-        Err(_) => Err(Fault::Device(String::from_str(rt.alloc(), name)?)),
-    }
-}
-
-/// The world's height: that of a block table, or the game's where there is none.
-fn world_height(alloc: Global, table: Option<&[u8]>) -> Result<Height, Fault>
-    ensures height { IfOk result (IsWorldHeight (option_map (λ t. t.now) table.entry)) }
-    ensures refused { IfErr result (λ e. (e ≡ OutOfMemory) ⊎ ((is_some table.entry ≡ true) × (e ≡ BadTable))) }
-{
-    match table {
-        Some(text) => Ok(Rules::read(alloc, text)?.height()),
-        None => Ok(Height::game()),
-    }
-}
-
-/// The bytes of the block table, where one is named.
-fn read_table<R: Files + AllocGlobal>(rt: &R, name: Option<&str>) -> Result<Option<Vec<u8>>, Fault>
-    ensures there { IfOk result (λ read. is_some read ≡ is_some name.entry) }
-    ensures unread { IfErr result (λ e. (e ≡ OutOfMemory) ⊎ IsSomeAnd name.entry (λ n. IsDevice n.now e)) }
-{
-    match name {
-        Some(name) => Ok(Some(read_file(rt, name)?)),
-        None => Ok(None),
-    }
 }
 
 /// What `block` reads: the world's height, by the block table, and then the file.
@@ -76,8 +50,7 @@ fn read_inputs<R: Files + AllocGlobal>(
     ensures height { IfOk result (λ read. IsHeightBy (option_map (λ t. t.now) table.entry) read.0) }
     ensures unread { IfErr result (IsUnread file.now (option_map (λ t. t.now) table.entry)) }
 {
-    let table = read_table(rt, table)?;
-    let height = world_height(rt.alloc(), table.as_ref().map(|text| text.as_slice()))?;
+    let height = read_height(rt, table)?;
     Ok((height, read_file(rt, file)?))
 }
 
@@ -103,13 +76,117 @@ fn run_block<R: Files + AllocGlobal, O: Write, E: Write>(
             out,
             err,
         ),
-        Err(fault) => report(err, &fault),
+        Err(fault) => report_fault(err, &fault),
+    }
+}
+
+/// What `check` reads: the world's height, by the block table, and then the folder's region files.
+fn read_check_inputs<R: Files + AllocGlobal + Clone + Drop, E: Write>(
+    rt: &R,
+    folder: &str,
+    table: Option<&str>,
+    progress: bool,
+    err: &mut E,
+) -> Result<(Height, Vec<RegionFile>), Fault>
+    ensures height { IfOk result (λ read. IsHeightBy (option_map (λ t. t.now) table.entry) read.0) }
+    ensures unread { IfErr result (IsUnreadCheck folder.now (option_map (λ t. t.now) table.entry)) }
+{
+    let height = read_height(rt, table)?;
+    Ok((height, read_folder(rt, folder, progress, err)?))
+}
+
+/// What is wrong with the region files of a folder.
+fn survey_folder<R: Files + AllocGlobal + Clone + Drop, E: Write>(
+    rt: &R,
+    folder: &str,
+    table: Option<&str>,
+    progress: bool,
+    err: &mut E,
+) -> Result<Vec<Finding>, Fault>
+    ensures { IfOk result (λ found. IsSurveyBy (option_map (λ t. t.now) table.entry) found.items) }
+{
+    let (height, files) = read_check_inputs(rt, folder, table, progress, err)?;
+    survey(rt.alloc(), files, height)
+}
+
+/// Runs `check`.
+fn run_check<R: Files + AllocGlobal + Clone + Drop + Threads + Sync, O: Write, E: Write>(
+    rt: &R,
+    folder: &str,
+    table: Option<&str>,
+    progress: bool,
+    out: &mut O,
+    err: &mut E,
+) -> u8
+    ensures status { result ≤ REFUSED }
+    ensures ran { HasChecked (option_map (λ t. t.now) table.entry) (O.contents out.old) (O.contents out.new) result }
+{
+    let surveyed = survey_folder(rt, folder, table, progress, err);
+    findings(&surveyed, out, err)
+}
+
+/// Runs `run`, and hands its files to a sink that has taken none yet and has not failed.
+fn run_regions<R: Files + AllocGlobal + Clone + Drop + Threads + Sync, S: Sink, O: Write, E: Write>(
+    rt: &R,
+    request: Request<'_>,
+    sink: &mut S,
+    progress: bool,
+    out: &mut O,
+    err: &mut E,
+) -> u8
+    requires failures { (S.account sink.old).failures ≡ 0 }
+    requires handed { (S.account sink.old).handed ≡ 0 }
+    ensures status { result ≤ REFUSED }
+    ensures ran { HasRunRegions request.entry.ticks request.entry.workers (S.account sink.old) (S.account sink.new) (O.contents out.old) (O.contents out.new) result }
+{
+    let ran = run_over(rt, request, sink, progress, err);
+    report(&ran, out, err)
+}
+
+/// Runs a command. Where standard error is a terminal, it says how far long work is.
+fn run_command<R: Files + AllocGlobal + Clone + Drop + Threads + Sync, O: Write, E: Write>(
+    rt: &R,
+    is_terminal: bool,
+    command: Words<'_>,
+    out: &mut O,
+    err: &mut E,
+) -> u8
+    ensures status { result ≤ REFUSED }
+    ensures ran { HasRunCommand command.entry (O.contents out.old) (O.contents out.new) result }
+{
+    match command {
+        Words::Block { file, pos, table } => run_block(rt, file, pos, table, out, err),
+        Words::Check {
+            input,
+            table,
+            progress,
+        } => run_check(rt, input, table, progress || is_terminal, out, err),
+        Words::Run {
+            input,
+            output,
+            table,
+            edits,
+            ticks,
+            workers,
+            progress,
+        } => {
+            let request = Request {
+                input,
+                table,
+                edits,
+                ticks,
+                workers,
+            };
+            let mut sink = FolderSink::new(rt, output);
+            run_regions(rt, request, &mut sink, progress || is_terminal, out, err)
+        }
     }
 }
 
 /// Runs the command that the words name.
-pub(crate) fn run_words<R: Files + AllocGlobal, O: Write, E: Write>(
+fn run_words<R: Files + AllocGlobal + Clone + Drop + Threads + Sync, O: Write, E: Write>(
     rt: &R,
+    is_terminal: bool,
     given: &[&str],
     out: &mut O,
     err: &mut E,
@@ -118,7 +195,7 @@ pub(crate) fn run_words<R: Files + AllocGlobal, O: Write, E: Write>(
     ensures ran { HasRunWords (map (λ s. s.now) given.now) (O.contents out.old) (O.contents out.new) result }
 {
     match words(rt.alloc(), given) {
-        Ok(Words::Block { file, pos, table }) => run_block(rt, file, pos, table, out, err),
+        Ok(command) => run_command(rt, is_terminal, command, out, err),
         Err(error) => explain_words(out, err, &error),
     }
 }
@@ -133,15 +210,21 @@ fn as_texts(alloc: Global, words: &[String]) -> Result<Vec<&str>, AllocError> {
     words.iter().map(|word| word.as_str()).collect(alloc)
 }
 
-/// Reads the words that the program was called with and does what they say. The answer is the program's status: 0, 1
-/// after a fault, 2 after words that are refused or call for help.
-pub fn run<R: Env + Files + AllocGlobal, O: Write, E: Write>(rt: &R, out: &mut O, err: &mut E) -> u8
+/// Reads the words that the program was called with and does what they say. Where standard error is a terminal, long work
+/// says there how far it is. The answer is the program's status: 0; 1 after a fault, and where `check` found something; 2
+/// after words that are refused or call for help.
+pub fn run<R: Env + Files + AllocGlobal + Clone + Drop + Threads + Sync, O: Write, E: Write>(
+    rt: &R,
+    is_terminal: bool,
+    out: &mut O,
+    err: &mut E,
+) -> u8
     ensures status { result ≤ REFUSED }
     ensures ran { HasRunProgram (O.contents out.old) (O.contents out.new) result }
 {
     let given = match given_words(rt) {
         Ok(given) => given,
-        Err(error) if error.kind() == io::ErrorKind::OutOfMemory => return report(
+        Err(error) if error.kind() == io::ErrorKind::OutOfMemory => return report_fault(
             err,
             &Fault::OutOfMemory,
         ),
@@ -151,7 +234,7 @@ pub fn run<R: Env + Files + AllocGlobal, O: Write, E: Write>(rt: &R, out: &mut O
         }
     };
     match as_texts(rt.alloc(), given.as_slice()) {
-        Ok(given) => run_words(rt, given.as_slice(), out, err),
-        Err(_) => report(err, &Fault::OutOfMemory),
+        Ok(given) => run_words(rt, is_terminal, given.as_slice(), out, err),
+        Err(_) => report_fault(err, &Fault::OutOfMemory),
     }
 }

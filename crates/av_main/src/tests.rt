@@ -1,8 +1,10 @@
 //! Words and names. What the program answers, `scripts/check_words.sh` asks of the built one.
+use crate::checking::findings;
 use crate::command_line::commands::Words;
 use crate::command_line::words;
 use crate::names::{file_name, region_of_name};
-use av_types::{Pos, RegionPos};
+use av_survey::Finding;
+use av_types::{ChunkPos, Fault, Pos, RegionPos};
 use clap::error::ErrorKind;
 use std::alloc::Global;
 use std::test::Fail;
@@ -44,11 +46,19 @@ fn names_of_regions(rt: HostRuntime) -> Result<(), Fail> {
     Ok(())
 }
 
+/// The values of `block`.
+fn block_of<'a>(command: Words<'a>) -> Option<(&'a str, Pos, Option<&'a str>)> {
+    match command {
+        Words::Block { file, pos, table } => Some((file, pos, table)),
+        Words::Check { .. } | Words::Run { .. } => None,
+    }
+}
+
 #[test]
 fn words_of_block(rt: HostRuntime) -> Result<(), Fail> {
     let alloc = rt.alloc();
     let plain = ["block", "--", "r.-1.-1.mca", "-1", "64", "-1"];
-    let Words::Block { file, pos, table } = words(alloc, plain.as_slice())?;
+    let (file, pos, table) = block_of(words(alloc, plain.as_slice())?).ok_or("another command")?;
     assert_eq!(rt; file, "r.-1.-1.mca");
     assert_eq!(rt;
         pos,
@@ -60,10 +70,71 @@ fn words_of_block(rt: HostRuntime) -> Result<(), Fail> {
     );
     assert!(rt; table.is_none());
     let with_table = ["block", "--table", "t.toml", "f", "3", "+4", "0005"];
-    let Words::Block { file, pos, table } = words(alloc, with_table.as_slice())?;
+    let (file, pos, table) = block_of(words(alloc, with_table.as_slice())?).ok_or(
+        "another command",
+    )?;
     assert_eq!(rt; file, "f");
     assert_eq!(rt; pos, Pos { x: 3, y: 4, z: 5 });
     assert!(rt; table == Some("t.toml"));
+    Ok(())
+}
+
+/// The values of `check`.
+fn check_of<'a>(command: Words<'a>) -> Option<(&'a str, Option<&'a str>, bool)> {
+    match command {
+        Words::Block { .. } | Words::Run { .. } => None,
+        Words::Check {
+            input,
+            table,
+            progress,
+        } => Some((input, table, progress)),
+    }
+}
+
+#[test]
+fn words_of_check(rt: HostRuntime) -> Result<(), Fail> {
+    let alloc = rt.alloc();
+    let plain = ["check", "--in", "world"];
+    let (input, table, progress) = check_of(words(alloc, plain.as_slice())?).ok_or(
+        "another command",
+    )?;
+    assert_eq!(rt; input, "world");
+    assert!(rt; table.is_none());
+    assert!(rt; !progress);
+    let all = ["check", "--progress", "--table", "t.toml", "--in=world"];
+    let (input, table, progress) = check_of(words(alloc, all.as_slice())?).ok_or(
+        "another command",
+    )?;
+    assert_eq!(rt; input, "world");
+    assert!(rt; table == Some("t.toml"));
+    assert!(rt; progress);
+    Ok(())
+}
+
+#[test]
+fn a_line_for_each_finding(rt: HostRuntime) -> Result<(), Fail> {
+    let alloc = rt.alloc();
+    let mut found = Vec::new(alloc);
+    let region = RegionPos { x: -1, z: 2 };
+    found.push(Finding {
+        region: RegionPos { x: -1, z: 2 },
+        chunk: Some(ChunkPos { x: -31, z: 64 }),
+        fault: Fault::Compression(2),
+    })?;
+    found.push(Finding {
+        region: RegionPos { x: 3, z: 4 },
+        chunk: None,
+        fault: Fault::ShortHeader,
+    })?;
+    let mut out = Vec::new(alloc);
+    let mut err = Vec::new(alloc);
+    let surveyed = Ok(found);
+    assert_eq!(rt; findings(&surveyed, &mut out, &mut err), 1);
+    assert_eq!(rt;
+        out.as_slice(),
+        b"r.-1.2.mca -31 64 fault 09: Compression 2\nr.3.4.mca fault 04: ShortHeader\n".as_slice()
+    );
+    assert_eq!(rt; err.len(), 0);
     Ok(())
 }
 
@@ -115,4 +186,3 @@ fn words_that_are_refused(rt: HostRuntime) {
         Some(ErrorKind::DisplayHelp)
     );
 }
-

@@ -12,4 +12,28 @@ pub enum Words<'a> {
         /// A block table, whose height the world has. Without one it has the game's.
         table: Option<&'a str>,
     },
+    /// Lists what is wrong with the region files of a folder.
+    Check {
+        /// The folder.
+        input: &'a str,
+        /// A block table, whose height the world has. Without one it has the game's.
+        table: Option<&'a str>,
+        /// Whether to say how far it is.
+        progress: bool,
+    },
+    /// Runs edits, water and light over the region files of a folder, and writes them.
+    Run {
+        /// The folder whose region files are read.
+        input: &'a str,
+        /// The folder that they are written to.
+        output: &'a str,
+        /// The block table.
+        table: &'a str,
+        /// The edits.
+        edits: &'a str,
+        ticks: u32,
+        workers: u32,
+        /// Whether to say how far it is.
+        progress: bool,
+    },
 }

@@ -40,3 +40,16 @@ returns-clause-refused c =
     record {
       cause = λ taken. inr (λ command read. c.in_default.ensures.none command read.rows (found ∙ read.named) read.values);
     }
+
+pub returns-in-Some-clause-read : goal.returns-in-Some-clause-read
+unfolding texts
+returns-in-Some-clause-read c =
+    let words = texts c.args.given.now in
+    let app_is = c.in_ok-program.ensures.app in
+    let found = (c.in_ok-matches.ensures.matches (ap is_simple app_is)).1 ∙ ap (λ (a : App). subcommand_of a words) app_is in
+    let read = c.in-Some.ensures.read in
+    record {
+      rows = read.0;
+      named = sym found ∙ read.1;
+      values = read.2;
+    }

@@ -1,0 +1,73 @@
+#!/usr/bin/env bash
+# Runs the sample regions with the built program, and compares what it prints, the blocks that it wrote and the bytes of
+# the files.
+#   scripts/check_run.sh PROGRAM
+set -eu
+top=$(cd "$(dirname "$0")/.." && pwd)
+program=$1
+work=$(mktemp -d)
+trap 'rm -rf "$work"' EXIT
+asked=0 wrong=0
+
+# run INPUT OUTPUT EDITS TICKS WORKERS: what a run prints.
+run() {
+  mkdir -p "$work/$2"
+  "$program" run --in "$1" --out "$work/$2" --table "$top/tables/blocks.toml" --edits "$3" --ticks "$4" --workers "$5"
+}
+
+# expect WANT GOT WHAT
+expect() {
+  asked=$((asked + 1))
+  [ "$1" = "$2" ] || {
+    wrong=$((wrong + 1))
+    printf '%s: %s, and not %s\n' "$3" "$2" "$1"
+  }
+}
+
+# same FOLDER OTHER: both have the two regions with the same bytes, and nothing else.
+same() {
+  expect "$(printf 'r.-1.-1.mca\nr.0.0.mca')" "$(ls "$work/$2")" "files of $2"
+  for file in r.-1.-1.mca r.0.0.mca; do
+    expect yes "$(cmp -s "$work/$1/$file" "$work/$2/$file" && echo yes || echo no)" "$file is the same in $1 and $2"
+  done
+}
+
+# block FOLDER X Y Z: the state at a position of its region (0, 0).
+block() { "$program" block --table "$top/tables/blocks.toml" -- "$work/$1/r.0.0.mca" "$2" "$3" "$4"; }
+
+# A source over the ground, which is at y 71 there: it falls a block in the ticks 6, 11 and 16, and spreads to its sides in
+# tick 11, once there is water below it.
+edits="$top/samples/edits.txt"
+: > "$work/no_edits"
+run "$top/samples" whole "$edits" 20 2 > "$work/printed"
+expect "chunks 5" "$(cut -d ' ' -f 1,2 "$work/printed")" "a run of 20 ticks"
+expect "minecraft:water[level=0]" "$(block whole 8 75 8)" "the source"
+for y in 74 73 72; do
+  expect "minecraft:water[level=8]" "$(block whole 8 "$y" 8)" "the block at y $y under it"
+done
+for side in "7 75 8" "9 75 8" "8 75 7" "8 75 9"; do
+  expect "minecraft:water[level=1]" "$(block whole $side)" "its side $side"
+done
+expect "minecraft:air" "$(block whole 8 76 8)" "the block above it"
+expect "minecraft:glowstone" "$(block whole 4 75 4)" "the light"
+run "$top/samples" early "$edits" 10 1 > /dev/null
+expect "minecraft:water[level=8]" "$(block early 8 74 8)" "the block under the source after 10 ticks"
+expect "minecraft:air" "$(block early 9 75 8)" "a side of the source after 10 ticks"
+
+# The number of workers makes no difference. A run that is stopped and resumed gives the same files, also in place.
+for workers in 1 8; do
+  run "$top/samples" "by_$workers" "$edits" 20 "$workers" > /dev/null
+  same whole "by_$workers"
+done
+run "$work/early" resumed "$work/no_edits" 10 3 > /dev/null
+same whole resumed
+run "$work/early" early "$work/no_edits" 10 3 > /dev/null
+same whole early
+
+# With no tick and no edit nothing is turned, and what was written once is written again.
+expect "chunks 5 turns 0" "$(run "$top/samples" lit "$work/no_edits" 0 1)" "a run of no tick"
+expect "chunks 5 turns 0" "$(run "$work/lit" again "$work/no_edits" 0 1)" "the same over what it wrote"
+same lit again
+
+echo "$asked asked of runs, $wrong wrong"
+[ "$wrong" -eq 0 ]

@@ -1,0 +1,284 @@
+#!/usr/bin/env python3
+"""Runs small worlds, made by hand, with the built program, and compares what it prints and writes with worked examples.
+
+    scripts/check_worlds.py PROGRAM         as crates/av_main/out/av_main
+
+The flat world has stone at y 63 and air elsewhere. The values are worked out by hand from docs/RULE.md, docs/LIGHT.md and
+docs/FORMATS.md. Files are written by make_samples.py and read by the reader of check_rewrite.py, which share nothing.
+"""
+import os
+import subprocess
+import sys
+import tempfile
+
+sys.dont_write_bytecode = True
+import check_rewrite
+import make_samples
+from make_samples import BYTE, BYTES, INT, LIST, LONGS, Tag, compound, compounds
+
+ROWS = """
+[[block]]
+name = "minecraft:stone"
+open = false
+floor = true
+opacity = 15
+emission = 0
+[[block]]
+name = "minecraft:glowstone"
+open = false
+floor = true
+opacity = 15
+emission = 15
+"""
+TABLE = "version = 1" + ROWS
+WATER = "minecraft:water[level=0]"
+SLAB = "minecraft:oak_slab[type=bottom,waterlogged=true]"
+SIDES = [(8, 64, 7), (8, 64, 9), (7, 64, 8), (9, 64, 8)]
+
+# ---------------------------------------------------------------- files
+
+
+def state_tags(text):
+    name, _, rest = text.partition("[")
+    tags = {"Name": Tag(make_samples.TEXT, name)}
+    if rest:
+        pairs = [pair.split("=") for pair in rest[:-1].split(",")]
+        tags["Properties"] = Tag(make_samples.COMPOUND, {key: Tag(make_samples.TEXT, value) for key, value in pairs})
+    return tags
+
+
+def section_tags(y, cells):
+    """A section of some cells, given by their places, with air elsewhere."""
+    palette = list(dict.fromkeys(["minecraft:air", *cells.values()]))
+    bits = max(4, (len(palette) - 1).bit_length())
+    indices = [palette.index(cells.get(place, "minecraft:air")) for place in range(4096)]
+    tags = {"palette": Tag(LIST, (make_samples.COMPOUND, [state_tags(text) for text in palette]))}
+    if len(palette) > 1:
+        tags["data"] = Tag(LONGS, make_samples.pack(indices, bits))
+    return {"Y": Tag(BYTE, y), "block_states": Tag(make_samples.COMPOUND, tags)}
+
+
+def tick_tags(x, y, z, due):
+    tags = {"i": Tag(make_samples.TEXT, "minecraft:water")}
+    return {**tags, **{name: Tag(INT, value) for name, value in zip("xyztp", (x, y, z, due, 0))}}
+
+
+def chunk(x, z, blocks, ticks, more):
+    """A full chunk of the flat world with some other blocks."""
+    cells = {(16 * x + i % 16, 63, 16 * z + i // 16): "minecraft:stone" for i in range(256)}
+    cells |= {at: text for at, text in blocks.items() if (at[0] >> 4, at[2] >> 4) == (x, z)}
+    sections = {}
+    for (bx, by, bz), text in cells.items():
+        sections.setdefault(by >> 4, {})[256 * (by & 15) + 16 * (bz & 15) + (bx & 15)] = text
+    return compound(xPos=Tag(INT, x), zPos=Tag(INT, z), Status=Tag(make_samples.TEXT, "full"),
+                    sections=compounds([section_tags(y, sections[y]) for y in sorted(sections)]),
+                    fluid_ticks=compounds([tick_tags(*tick) for tick in ticks]), **more)
+
+
+def flat(blocks=(), chunks=((0, 0),), ticks=(), **more):
+    """The region (0, 0) of some flat chunks."""
+    return make_samples.region_bytes({at: chunk(*at, dict(blocks), ticks, more) for at in chunks})
+
+
+# ---------------------------------------------------------------- runs
+
+
+class Run:
+    """What the program printed and wrote for the region (0, 0)."""
+
+    def __init__(self, program, data, edits="", ticks=0, workers=2, table=TABLE):
+        with tempfile.TemporaryDirectory() as work:
+            for name in ("in", "out"):
+                os.mkdir(os.path.join(work, name))
+            for name, content in (("in/r.0.0.mca", data), ("table", table.encode()), ("edits", edits.encode())):
+                with open(os.path.join(work, name), "wb") as file:
+                    file.write(content)
+            words = [program, "run", "--in", "in", "--out", "out", "--table", "table", "--edits", "edits",
+                     "--ticks", str(ticks), "--workers", str(workers)]
+            done = subprocess.run(words, cwd=work, capture_output=True, text=True)
+            self.line, self.fault = done.stdout.strip(), done.stderr.strip()
+            self.path = os.path.join(work, "out", "r.0.0.mca")
+            self.data = open(self.path, "rb").read() if os.path.exists(self.path) else None
+            self.chunks = {}
+            if self.data is not None:
+                self.payloads, self.stamps = check_rewrite.region(self.path)
+                for index, payload in enumerate(self.payloads):
+                    if payload is not None:
+                        self.chunks[index % 32, index // 32] = dict(check_rewrite.document(payload)[1])
+
+    def sections(self, at):
+        return {dict(section)[b"Y"][1]: section for section in self.chunks[at][b"sections"][1][1]}
+
+    def wet(self):
+        """The blocks of water, and the text of their level."""
+        found = {}
+        for at in self.chunks:
+            for y, section in self.sections(at).items():
+                for place, state in enumerate(check_rewrite.cells(section)):
+                    tags = dict(state)
+                    if tags[b"Name"][1] == b"minecraft:water":
+                        pos = (16 * at[0] + place % 16, 16 * y + place // 256, 16 * at[1] + place // 16 % 16)
+                        found[pos] = int(dict(tags[b"Properties"][1])[b"level"][1])
+        return found
+
+    def entries(self):
+        """x, y, z, t of the entries, and whether each is of still water."""
+        found = []
+        for at in sorted(self.chunks, key=lambda at: (at[1], at[0])):
+            for entry in self.chunks[at][b"fluid_ticks"][1][1]:
+                tags = dict(entry)
+                found.append((*(tags[name][1] for name in (b"x", b"y", b"z", b"t")), tags[b"i"][1] == b"minecraft:water"))
+        return found
+
+    def light(self, at, y):
+        return dict(self.sections(at)[y])[b"BlockLight"][1]
+
+    def light_at(self, x, y, z):
+        place = 256 * (y & 15) + 16 * (z & 15) + (x & 15)
+        return self.light((x >> 4, z >> 4), y >> 4)[place // 2] >> 4 * (place % 2) & 15
+
+
+def edit(tick, x, y, z, text):
+    return "%d %d %d %d %s\n" % (tick, x, y, z, text)
+
+
+# ---------------------------------------------------------------- examples
+
+
+def spreading(run):
+    source = edit(1, 8, 64, 8, WATER)
+    five, six = run(flat(), source, 5), run(flat(), source, 6)
+    yield "before its turn", ("chunks 1 turns 0", {(8, 64, 8): 0}), (five.line, five.wet())
+    yield "after its turn", ("chunks 1 turns 1", {(8, 64, 8): 0, **{at: 1 for at in SIDES}}), (six.line, six.wet())
+    woken = [(8, 64, 7, 5, False), (8, 64, 8, 5, True), (8, 64, 9, 5, False), (7, 64, 8, 5, False), (9, 64, 8, 5, False)]
+    yield "the entries of a turn", woken, six.entries()
+    yield "eleven ticks", "chunks 1 turns 6", run(flat(), source, 11).line
+    board = {(x, 64, z): abs(x - 8) + abs(z - 8) for x in range(16) for z in range(16) if abs(x - 8) + abs(z - 8) < 8}
+    whole = run(flat(), source, 36)
+    yield "113 blocks by their distance", board, whole.wet()
+    yield "a run that is stopped", whole.data, run(run(flat(), source, 20).data, "", 16).data
+    dried = source + edit(25, 8, 64, 8, "minecraft:air")
+    later = run(run(flat(), source, 20).data, edit(5, 8, 64, 8, "minecraft:air"), 16)
+    yield "a run that is stopped between edits", run(flat(), dried, 36).data, later.data
+    both = run(flat(), source + edit(7, 8, 64, 8, "minecraft:air"), 11)
+    yield "a source that is taken away", ("chunks 1 turns 6", {}, []), (both.line, both.wet(), both.entries())
+    version = "version = 3\nmin_section = -4\nsections = 24\n" + ROWS
+    yield "the game's height by a table", whole.data, run(flat(), source, 36, table=version).data
+
+
+def flowing(run):
+    two = run(flat(), edit(1, 8, 64, 8, WATER) + edit(1, 10, 64, 8, WATER), 6)
+    yield "two sources", ("chunks 1 turns 2", 0), (two.line, two.wet()[9, 64, 8])
+    for hole, side in (((11, 63, 8), (9, 64, 8)), ((8, 63, 5), (8, 64, 7))):
+        wet = run(flat({hole: "minecraft:air"}), edit(1, 8, 64, 8, WATER), 6).wet()
+        yield "to the nearest drop", {(8, 64, 8): 0, side: 1}, wet
+    falls = {ticks: run(flat(), edit(1, 8, 70, 8, WATER), ticks).wet() for ticks in (10, 11, 30, 31, 35, 36)}
+    high = [(x, 70, z) for x, _, z in SIDES]
+    yield "sides of a source in the air", ([None] * 4, [1] * 4), tuple([falls[n].get(at) for at in high] for n in (10, 11))
+    yield "the ground under it", (None, 8), (falls[30].get((8, 64, 8)), falls[31].get((8, 64, 8)))
+    yield "round the ground", ([False] * 4, [True] * 4), tuple([at in falls[n] for at in SIDES] for n in (35, 36))
+    low = run(flat(), edit(1, 8, -64, 8, WATER), 6).wet()
+    yield "on the bottom of the world", {(8, -64, 8): 0, **{(x, -64, z): 1 for x, _, z in SIDES}}, low
+    parts = run(flat(), edit(1, 8, 72, 8, WATER) + edit(1, 8, 40, 8, WATER), 6)
+    yield "two parts of one chunk", [(8, 71, 8, 5, False), (8, 72, 8, 5, True), (8, 39, 8, 5, False), (8, 40, 8, 5, True)], parts.entries()
+
+
+def entries(run):
+    sources = {(4, 64, 4): WATER, (8, 64, 8): WATER}
+    overdue = run(flat(sources, ticks=[(4, 64, 4, 1), (8, 64, 8, -3), (8, 64, 8, 9)]), "", 1)
+    woken = [(x + dx, 64, x + dz, 5, dx == dz == 0) for x in (8, 4) for dx, dz in ((0, -1), (0, 0), (0, 1), (-1, 0), (1, 0))]
+    yield "overdue entries", ("chunks 1 turns 2", woken), (overdue.line, overdue.entries())
+    yield "an overdue entry in no tick", [(8, 64, 8, -3, True)], run(flat(sources, ticks=[(8, 64, 8, -3)])).entries()
+    far = run(flat(ticks=[(8, 64, 8, 99)]), edit(1, 8, 64, 8, WATER), 20)
+    yield "an entry far off hides wakings", ("chunks 1 turns 0", {(8, 64, 8): 0}), (far.line, far.wet())
+    both = ((0, 0), (1, 0))
+    lines = edit(1, 8, 64, 8, WATER) + edit(1, 24, 64, 8, WATER)
+    yield "two chunks", "chunks 2 turns 2", run(flat(chunks=both), lines, 6).line
+    lines += edit(1, 15, 64, 8, WATER)
+    yield "three sources in two chunks", "chunks 2 turns 3", run(flat(chunks=both), lines, 6).line
+    made = [run(flat(chunks=both), lines, 12, workers).data for workers in (1, 2, 3, 5, 8)]
+    yield "any number of workers", [made[0]] * 5, made
+
+
+def soaked(run):
+    version = "version = 2" + ROWS
+    one = run(flat(), edit(1, 8, 64, 8, SLAB), 6, table=version)
+    yield "a soaked block", ("chunks 1 turns 1", {at: 1 for at in SIDES}), (one.line, one.wet())
+    yield "the same by a table that soaks none", ("chunks 1 turns 0", {}), (lambda r: (r.line, r.wet()))(run(flat(), edit(1, 8, 64, 8, SLAB), 6))
+    two = run(flat(), edit(1, 8, 64, 8, SLAB) + edit(1, 10, 64, 8, SLAB), 6, table=version)
+    yield "two soaked blocks", ("chunks 1 turns 2", 0), (two.line, two.wet()[9, 64, 8])
+    drop = run(flat(), edit(1, 8, 64, 8, WATER) + edit(1, 11, 63, 8, SLAB), 6, table=version)
+    yield "a soaked block is a hole", ("chunks 1 turns 2", {(8, 64, 8): 0, (9, 64, 8): 1, (11, 62, 8): 8}), (drop.line, drop.wet())
+
+
+def light(run):
+    both = ((0, 0), (1, 0))
+    lit = run(flat({(15, 64, 8): "minecraft:glowstone"}, both))
+    east, west = lit.light((1, 0), 4), lit.light((0, 0), 4)
+    yield "light over the edge of a chunk", (0xDE, 0x12, 0x00, 0xFE), (east[64], east[70], east[71], west[71])
+    dark = run(flat({(15, 64, 8): "minecraft:glowstone"}, both), edit(1, 15, 64, 8, "minecraft:air"), 1)
+    yield "light goes with its emitter", {0}, {byte for at in both for y in range(-4, 20) for byte in dark.light(at, y)}
+    stone = run(flat({(8, 70, 8): "minecraft:glowstone", (9, 70, 8): "minecraft:stone"}))
+    yield "light round a stone", [15, 14, 0, 11], [stone.light_at(x, 70, 8) for x in (8, 7, 9, 10)]
+
+
+def heights(run):
+    version = "version = 3\nmin_section = 0\nsections = 16\n" + ROWS
+    for y in (256, -1):
+        yield "y %d is outside" % y, "fault 22: EditOutside 1", run(flat(), edit(1, 8, y, 8, "minecraft:stone"), 1, table=version).fault
+    low = run(flat(), edit(1, 8, 0, 8, WATER), 6, table=version)
+    yield "y 0 is the bottom", ("chunks 1 turns 1", {(8, 0, 8): 0, **{(x, 0, z): 1 for x, _, z in SIDES}}), (low.line, low.wet())
+    yield "16 sections are lit", 16, sum(b"BlockLight" in dict(section) for section in low.sections((0, 0)).values())
+    yield "an entry above them", "fault 16: BadTick", run(flat(ticks=[(8, 300, 8, 1)]), table=version).fault
+    yield "and in the game's height", "chunks 1 turns 0", run(flat(ticks=[(8, 300, 8, 1)])).line
+
+
+def refusals(run):
+    stone = edit(1, 8, 64, 8, "minecraft:stone")
+    for lines, fault in (("# x\n1 8 64 8 Stone\n", "fault 20: BadEdit 2"), ("0 8 64 8 minecraft:stone", "fault 21: EditTick 1"),
+                         (edit(1, 8, 320, 8, "minecraft:stone") + "x\n", "fault 22: EditOutside 1"),
+                         ("1  8 64 8 minecraft:stone", "fault 20: BadEdit 1"), ("1 +8 64 8 minecraft:stone", "fault 20: BadEdit 1"),
+                         (stone + "\n#\n" + edit(3, 8, 64, 8, "minecraft:stone"), "fault 21: EditTick 4"),
+                         ("1 8 64 8 minecraft:water[level=16]", "fault 20: BadEdit 1")):
+        yield lines.strip(), (fault, None), (lambda r: (r.fault, r.data))(run(flat(), lines, 2))
+    yield "line ends and zeros", "chunks 1 turns 0", run(flat(), "\r\n001 -0 064 7 minecraft:stone\r\n" + stone.strip(), 1).line
+    data = flat()
+    last = 8192 + 4 + int.from_bytes(data[8192:8196], "big")
+    yield "cut before the data's end", "fault 06: TruncatedChunk", run(data[:last - 1]).fault
+    yield "cut in the padding", run(data).data, run(data[:last]).data
+    pad = 1_044_476 - 1 - len(make_samples.named("", make_samples.Tag(make_samples.COMPOUND, dict(large(0).value))))
+    full = make_samples.region_bytes({(0, 0): large(pad)})
+    yield "a chunk as large as can be", 1_044_476, int.from_bytes(full[8192:8196], "big")
+    yield "is too large when it is written", ("fault 24: ChunkTooLarge 0 0", None), (lambda r: (r.fault, r.data))(run(full))
+    kept = make_samples.region_bytes({(3, 1): make_samples.unfinished_tags(3, 1)})
+    same = run(kept, "", 3)
+    yield "a chunk that is kept", ("chunks 0 turns 0", kept), (same.line, same.data)
+
+
+def large(pad):
+    """A loaded chunk without sections, and so many bytes."""
+    return compound(xPos=Tag(INT, 0), zPos=Tag(INT, 0), Status=Tag(make_samples.TEXT, "full"), sections=compounds([]),
+                    pad=Tag(BYTES, bytes(pad)))
+
+
+def shown(value):
+    return "%d bytes" % len(value) if isinstance(value, bytes) else "%.300r" % (value,)
+
+
+def main():
+    if len(sys.argv) != 2:
+        sys.exit(__doc__)
+    program = os.path.abspath(sys.argv[1])
+    asked = wrong = 0
+    for examples in (spreading, flowing, entries, soaked, light, heights, refusals):
+        for what, want, got in examples(lambda *given, **named: Run(program, *given, **named)):
+            asked += 1
+            if want != got:
+                wrong += 1
+                print("%s, %s: expected %s, found %s" % (examples.__name__, what, shown(want), shown(got)))
+    print("%d worked examples of runs, %d wrong" % (asked, wrong))
+    sys.exit(1 if wrong else 0)
+
+
+if __name__ == "__main__":
+    main()
