@@ -1,5 +1,5 @@
 //! The blocks of a world, or of a part of one.
-ghost use Rattle.std.specs.Prelude.{◌≡◌, ◌≤◌, ◌<◌, ◌+◌, ℕ, IsTrue, OnOk, IfErr, not};
+ghost use Rattle.std.specs.Prelude.{◌≡◌, ◌≤◌, ◌<◌, ◌+◌, ℕ, IsTrue, IsOk, OnOk, IfErr, not};
 ghost use Rattle.av_types.specs.declared.fault.Fault.TheVariants.{OutOfMemory};
 ghost use Rattle.av_cells.specs.Positions.{InReach, ForAround, ForTurned, IsNearOrigin};
 ghost use Rattle.av_cells.specs.World.{World, Lists, Site, with_number, with_entry, listed_if};
@@ -80,7 +80,10 @@ pub trait Cells {
         ensures room { OnOk result
             ((q : Pos) → InReach pos q → IsTrue ((world self.old).loaded q) → 42 ≤ room self.new q) }
         ensures prepared { OnOk result
-            (ForTurned (λ q. IsTrue ((world self.old).loaded q) → (n : ℕ) → n < 10 → can_set self.new q n) pos) };
+            (ForTurned (λ q. IsTrue ((world self.old).loaded q) → (n : ℕ) → n < 10 → can_set self.new q n) pos) }
+        ensures succeeds { ((q : Pos) → InReach pos q → IsTrue ((world self.old).loaded q) → 42 ≤ room self.old q)
+            → ForTurned (λ q. IsTrue ((world self.old).loaded q) → (n : ℕ) → n < 10 → can_set self.old q n) pos
+            → IsOk result };
 
     /// Makes room for the next set of a loaded block with its waking: for that number there, and for seven
     /// entries of it and of each block next to it.
@@ -97,7 +100,9 @@ pub trait Cells {
         ensures keeps_prepared { (q : Pos) (n : ℕ) → can_set self.old q n → can_set self.new q n }
         ensures room { OnOk result
             (ForAround (λ q. IsTrue ((world self.old).loaded q) → 7 ≤ room self.new q) pos) }
-        ensures prepared { OnOk result (can_set self.new pos number) };
+        ensures prepared { OnOk result (can_set self.new pos number) }
+        ensures succeeds { ForAround (λ q. IsTrue ((world self.old).loaded q) → 7 ≤ room self.old q) pos
+            → can_set self.old pos number → IsOk result };
 
     /// A loaded block lies near the origin.
     ghost near: { (c : Self) (p : Pos) → IsTrue ((world c).loaded p) → IsNearOrigin p };

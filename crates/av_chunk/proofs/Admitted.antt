@@ -1,11 +1,11 @@
 -- What was judged before a chunk is taken apart, and the first fault.
-use Rattle.std.proofs.Common.{◌≡◌, ℕ, ◌≤◌, Bool, true, false, true≢false, not, ◌&&◌, ◌||◌, Option, Some, None, Result, Ok, Err, List, [], ◌∷◌, ◌++◌, refl, sym, ap, arith, lit≤, if◌then◌else◌, codes}
+use Rattle.std.proofs.Common.{◌≡◌, ℕ, ◌≤◌, Bool, true, false, true≢false, not, ◌&&◌, ◌||◌, Option, Some, None, Result, Ok, Err, IfErr, List, [], ◌∷◌, ◌++◌, refl, sym, ap, arith, lit≤, if◌then◌else◌, codes}
 use Rattle.std.specs.List.{flat_map, list_any}
 use Rattle.av_types.specs.Faults.{fault_number, least, lesser}
 use Rattle.av_types.specs.declared.place.ChunkPos.{ChunkPos}
 use Rattle.av_types.specs.declared.place.Height.{Height}
 use Rattle.av_types.specs.declared.fault.Fault.{Fault}
-use Rattle.av_types.specs.declared.fault.Fault.TheVariants.{OldLayout, BadChunk, WrongPlace}
+use Rattle.av_types.specs.declared.fault.Fault.TheVariants.{OutOfMemory, OldLayout, BadChunk, WrongPlace}
 use Rattle.av_nbt.specs.Nbt.{Nbt, NamedTag}
 use Rattle.av_nbt.specs.Place.{tag_of}
 use Rattle.av_nbt.specs.Shape.{◌>>=◌, compounds_of, lacks}
@@ -13,20 +13,13 @@ use Rattle.av_state.specs.BlockState.{BlockState}
 use Rattle.av_section.specs.BlockStates.{when}
 use Rattle.av_document.specs.Ticks.{is_bad_tick, int_at}
 use Rattle.av_document.specs.Chunk.{has_level, status_of, is_full, is_bad_chunk, is_elsewhere, is_bad_list, is_other, sections_of, sections, ticks, section_number, is_in_height, section_faults, section_states, block_faults, block_states_of, first_fault}
+use Rattle.av_chunk.specs.Reading.{IsAdmitted}
 use Rattle.av_chunk.specs.Working.{admitted}
 use Rattle.av_chunk.specs.SectionsRead.{are_too_many}
 use Rattle.av_chunk.specs.TicksRead.{parts_judged}
 
 abbrev judge : Bool → Bool → Bool → Bool → Bool → Result Bool Fault
 judge l s f b e = if l then Err OldLayout else if s then Err BadChunk else if not f then Ok false else if b then Err BadChunk else if e then Err WrongPlace else Ok true
-
--- a chunk that is to be loaded, of which nothing was found so far
-pub record IsAdmitted (h : Height) (c : ChunkPos) (root : List NamedTag) : Type 0 where
-  pub level : has_level root ≡ false
-  pub status : lacks (status_of root) ≡ false
-  pub full : is_full root ≡ true
-  pub shape : is_bad_chunk h root ≡ false
-  pub place : is_elsewhere c root ≡ false
 
 judge_true : (l s f b e : Bool) → judge l s f b e ≡ Ok true → (l ≡ false) × (s ≡ false) × (f ≡ true) × (b ≡ false) × (e ≡ false)
 judge_true true s f b e h = cc
@@ -40,6 +33,23 @@ pub admitted_true : (h : Height) (c : ChunkPos) (root : List NamedTag) → admit
 admitted_true h c root e =
     let j = judge_true (has_level root) (lacks (status_of root)) (is_full root) (is_bad_chunk h root) (is_elsewhere c root) e in
     record { level = j.0; status = j.1; full = j.2; shape = j.3; place = j.4 }
+
+-- what is judged before a chunk is taken apart takes no memory
+judge_no_memory : (l s f b e : Bool) → judge l s f b e ≡ Err OutOfMemory → ⊥
+judge_no_memory true s f b e h = cc
+judge_no_memory false true f b e h = cc
+judge_no_memory false false false b e h = cc
+judge_no_memory false false true true e h = cc
+judge_no_memory false false true false true h = cc
+judge_no_memory false false true false false h = cc
+
+pub admitted_no_memory : (h : Height) (c : ChunkPos) (root : List NamedTag) → admitted h c root ≡ Err OutOfMemory → ⊥
+admitted_no_memory h c root e = judge_no_memory (has_level root) (lacks (status_of root)) (is_full root) (is_bad_chunk h root) (is_elsewhere c root) e
+
+-- what holds whatever the fault is
+pub whatever_fault : {A E : Type 0} (r : Result A E) (Q : E → Type 0) (P : Type 0) → P → IfErr r (λ e. Q e → P)
+whatever_fault (Ok x) Q P p = tt
+whatever_fault (Err e) Q P p = λ _. p
 
 -- ---- the first fault
 

@@ -42,7 +42,8 @@ use Rattle.av_chunk.specs.Reading.{IsLoaded}
 use Rattle.av_chunk.specs.Pending.{SlotAdds, is_entry_at, MarksPending}
 use Rattle.av_chunk.specs.TicksRead.{AreTicks}
 use Rattle.av_chunk.specs.SectionsRead.{are_too_many, SlotHas, if_numbered, last_numbered, AreRead}
-use Rattle.av_chunk.proofs.Admitted.{IsAdmitted, first_loaded, good_list}
+use Rattle.av_chunk.specs.Reading.{IsAdmitted}
+use Rattle.av_chunk.proofs.Admitted.{first_loaded, good_list}
 use Rattle.av_chunk.proofs.WaterIn.{AreIn, and_left, and_right, water_in, pending_at}
 
 pub members_in-of : (ms : List NamedTag) → members_in (members_of ms) ≡ ms

@@ -8,14 +8,15 @@ use Rattle.av_types.specs.declared.place.ChunkPos.{ChunkPos}
 use Rattle.av_types.specs.declared.place.Height.{Height}
 use Rattle.av_types.specs.declared.fault.Fault.{Fault}
 use Rattle.av_types.specs.declared.fault.Fault.TheVariants.{OutOfMemory}
-use Rattle.av_nbt.specs.Nbt.{Document}
+use Rattle.av_nbt.specs.Nbt.{Document, NamedTag}
+use Rattle.av_nbt.specs.Shape.{lacks}
 use Rattle.av_state.specs.BlockState.{BlockState}
 use Rattle.av_state.specs.StateList.{with_states}
 use Rattle.av_ticks.specs.Entries.{is_pending}
 use Rattle.av_ticks.specs.Ticks.{entries}
 use Rattle.av_document.specs.Ticks.{lies_in}
 use Rattle.av_document.specs.Law.{HasInts}
-use Rattle.av_document.specs.Chunk.{root_tags, is_full, first_fault, all_states, DenotesChunk}
+use Rattle.av_document.specs.Chunk.{root_tags, has_level, status_of, is_full, is_bad_chunk, is_elsewhere, first_fault, all_states, DenotesChunk}
 use Rattle.av_chunk.specs.declared.chunk.Chunk.{Chunk}
 use Rattle.av_chunk.specs.declared.chunk.Reading.{Reading}
 use Rattle.av_chunk.specs.declared.chunk.Reading.TheVariants.{Full, Kept}
@@ -50,6 +51,14 @@ pub record IsKept (c : ChunkPos) (h : Height) (d : Document) (old new : List Blo
 abbrev pub IsReading : ChunkPos → Height → Document → List BlockState → List BlockState → Reading → Type 0
 IsReading c h d old new (Full chunk rest) = IsLoaded c h d old new chunk rest
 IsReading c h d old new Kept = IsKept c h d old new
+
+-- a chunk that is to be loaded, and at its place: if it has a fault, then one of its sections, its ticks or the table
+pub record IsAdmitted (h : Height) (c : ChunkPos) (root : List NamedTag) : Type 0 where
+  pub level : has_level root ≡ false
+  pub status : lacks (status_of root) ≡ false
+  pub full : is_full root ≡ true
+  pub shape : is_bad_chunk h root ≡ false
+  pub place : is_elsewhere c root ≡ false
 
 -- every fault but memory is the first that holds
 pub record IsRefusal (c : ChunkPos) (h : Height) (d : Document) (old : List BlockState) (e : Fault) : Type 0 where

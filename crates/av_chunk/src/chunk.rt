@@ -1,10 +1,11 @@
 //! A chunk, read from its document.
 ghost use Rattle.std.specs.Prelude.{◌≡◌, IfOk, IfErr, false, option_map};
+ghost use Rattle.av_types.specs.declared.fault.Fault.TheVariants.{OutOfMemory};
 ghost use Rattle.av_nbt.specs.Shape.{compounds_of};
 ghost use Rattle.av_nbt.specs.View.{document, view, views};
 ghost use Rattle.av_state.specs.Table.{states};
 ghost use Rattle.av_section.specs.Reading.{OnlyGrows};
-ghost use Rattle.av_document.specs.Chunk.{is_other};
+ghost use Rattle.av_document.specs.Chunk.{is_other, root_tags};
 ghost use Rattle.av_chunk.specs.SectionsRead.{AreRead};
 ghost use Rattle.av_chunk.specs.TicksRead.{AreTicks, ArePartsRefused};
 ghost use Rattle.av_chunk.specs.Rest.{opened};
@@ -84,7 +85,7 @@ fn read_parts(
 
 impl Chunk {
     ghost use Rattle.av_document.specs.Stored.{IsStored};
-    ghost use Rattle.av_chunk.specs.Reading.{IsReading, IsRefusal};
+    ghost use Rattle.av_chunk.specs.Reading.{IsReading, IsRefusal, IsAdmitted};
 
     /// The chunk of a document at its place. New states are numbered after those of the table, in the order of the file.
     /// The root has a spelling of at most 1,044,475 bytes, as one that was decoded from a region's payload has.
@@ -92,7 +93,8 @@ impl Chunk {
     /// Of the faults that hold, the first by its number is answered: `OldLayout` where there is a `Level`; `BadChunk`
     /// where a tag that every chunk has is missing or of another kind, or a section's number comes twice; `WrongPlace`
     /// where the chunk is another's; `BadPalette`, `BadPacked` and `BadWaterLevel` of a section in the height; `BadTick`
-    /// of a fluid tick; and `TooManyStates`. After a refusal the table may have gained states at its end.
+    /// of a fluid tick; and `TooManyStates`. After a refusal the table may have gained states at its end. Memory is
+    /// wanted only of a chunk that is to be loaded and has none of the first three faults.
     pub fn read(
         alloc: Global,
         root: Root,
@@ -103,6 +105,7 @@ impl Chunk {
         requires { IsStored (document root) }
         ensures ok { IfOk result (IsReading place height (document root) (states table.old) (states table.new)) }
         ensures err { IfErr result (IsRefusal place height (document root) (states table.old)) }
+        ensures memory { IfErr result (λ e. e ≡ OutOfMemory → IsAdmitted height place (root_tags (document root))) }
         ensures table { OnlyGrows (states table.old) (states table.new) }
     {
         let Root { name, mut tags } = root;

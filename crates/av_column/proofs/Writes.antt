@@ -8,27 +8,12 @@ use Rattle.std.proofs.lemmas.List.{get_or-set_other}
 use Rattle.av_types.specs.declared.place.Pos.{Pos}
 use Rattle.av_types.specs.declared.tick.Entry.{Entry}
 use Rattle.av_types.specs.Places.{chunk_of}
+use Rattle.av_types.proofs.SamePlaces.{same_pos_is, same_pos-refl}
 use Rattle.av_cells.specs.Positions.{same_pos, same_chunk}
-use Rattle.av_cells.specs.World.{with_number, with_entry, with_entry_if, listed_if}
+use Rattle.av_cells.specs.World.{with_number, with_entry, with_entry_if, without_entry, listed_if}
 use Rattle.av_column.specs.Columns.{is_there, slot, world_of, lists_of}
 use Rattle.av_column.specs.Limits.{there_of}
 use Rattle.av_column.proofs.Slots.{slot_within, one_slot}
-
-same_pos_is : (p q : Pos) → same_pos p q ≡ true → p ≡ q
-same_pos_is p q h =
-    let a = and_parts (int_eq p.x q.x && int_eq p.y q.y) (int_eq p.z q.z) h in
-    let b = and_parts (int_eq p.x q.x) (int_eq p.y q.y) a.0 in
-    let x = (Decides-int_eq p.x q.x).0 b.0 in
-    let y = (Decides-int_eq p.y q.y).0 b.1 in
-    let z = (Decides-int_eq p.z q.z).0 a.1 in
-    λ i. record { x = x i; y = y i; z = z i }
-
-same_pos_self : (p : Pos) → same_pos p p ≡ true
-same_pos_self p = all_three (int_eq p.x p.x) (int_eq p.y p.y) (int_eq p.z p.z) ((Decides-int_eq p.x p.x).1 refl) ((Decides-int_eq p.y p.y).1 refl) ((Decides-int_eq p.z p.z).1 refl) where
-  all_three : (a b c : Bool) → a ≡ true → b ≡ true → c ≡ true → (a && b && c) ≡ true
-  all_three true true c x y z = z
-  all_three true false c x y z = absurd (true≢false (sym y))
-  all_three false b c x y z = absurd (true≢false (sym x))
 
 -- one place of a list written is one block written
 pub cell_set : (A : Type 0) (none value : A) (bottom : ℤ) (layers : ℕ) (cells : List A) (p : Pos) → length cells ≡ 256 * layers → is_there bottom layers p ≡ true → (q : Pos)
@@ -42,7 +27,7 @@ cell_set A none value bottom layers cells p long there q = by (is_there bottom l
       get_or-set_at cells (slot bottom p) (slot bottom q) value none (ap (slot bottom) (same_pos_is q p f)) within
   by true false e f =
       get_or-set_other cells (slot bottom p) (slot bottom q) value none
-      (λ g. true≢false (sym (subst (λ r. same_pos q r ≡ true) (one_slot bottom layers q p (there_of bottom layers q e) (there_of bottom layers p there) g) (same_pos_self q)) ∙ f))
+      (λ g. true≢false (sym (subst (λ r. same_pos q r ≡ true) (one_slot bottom layers q p (there_of bottom layers q e) (there_of bottom layers p there) g) (same_pos-refl q)) ∙ f))
   by false true e f = absurd (true≢false (sym (subst (λ r. is_there bottom layers r ≡ true) (sym (same_pos_is q p f)) there) ∙ e))
   by false false e f = refl
 
@@ -55,6 +40,24 @@ pub world_waits : (bottom : ℤ) (layers : ℕ) (numbers : List ℕ) (waiting : 
     → world_of bottom layers numbers (slice_set waiting (slot bottom e.pos) true) ≡ with_entry_if true (world_of bottom layers numbers waiting) e
 world_waits bottom layers numbers waiting e long there =
     λ i. record { loaded = λ q. is_there bottom layers q; number = (world_of bottom layers numbers waiting).number; pending = λ q. cell_set Bool false true bottom layers waiting e.pos long there q i }
+
+-- one place that waits no longer is one block that is pending no longer
+pub world_leaves : (bottom : ℤ) (layers : ℕ) (numbers : List ℕ) (waiting : List Bool) (e : Entry) → length waiting ≡ 256 * layers → is_there bottom layers e.pos ≡ true
+    → world_of bottom layers numbers (slice_set waiting (slot bottom e.pos) false) ≡ without_entry (world_of bottom layers numbers waiting) e
+world_leaves bottom layers numbers waiting e long there =
+    λ i. record { loaded = λ q. is_there bottom layers q; number = (world_of bottom layers numbers waiting).number; pending = λ q. cell_set Bool false false bottom layers waiting e.pos long there q i }
+
+-- a block that is not there is not pending
+pub world_stays : (bottom : ℤ) (layers : ℕ) (numbers : List ℕ) (waiting : List Bool) (e : Entry) → is_there bottom layers e.pos ≡ false
+    → world_of bottom layers numbers waiting ≡ without_entry (world_of bottom layers numbers waiting) e
+world_stays bottom layers numbers waiting e out =
+    λ i. record { loaded = λ q. is_there bottom layers q; number = (world_of bottom layers numbers waiting).number; pending = λ q. by q (is_there bottom layers q) (same_pos q e.pos) refl refl i } where
+      by : (q : Pos) (l s : Bool) → is_there bottom layers q ≡ l → same_pos q e.pos ≡ s
+          → cond l (slice_index_or waiting (slot bottom q) false) false ≡ cond s false (cond l (slice_index_or waiting (slot bottom q) false) false)
+      by q true true h g = absurd (true≢false (sym h ∙ ap (is_there bottom layers) (same_pos_is q e.pos g) ∙ out))
+      by q true false h g = refl
+      by q false true h g = refl
+      by q false false h g = refl
 
 filtered : (A : Type 0) (f : A → Bool) (e : A) (es : List A) → filter f (es ++ e ∷ []) ≡ cond (f e) (filter f es ++ e ∷ []) (filter f es)
 filtered A f e [] = by (f e) refl where

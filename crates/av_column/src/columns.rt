@@ -1,10 +1,10 @@
 //! Some layers of the chunk at x 0 and z 0.
-ghost use Rattle.std.specs.Prelude.{◌≡◌, ◌<◌, ◌≤◌, ◌+◌, ◌*◌, ◌-◌, ℕ, ◌+ℤ◌, ◌-ℤ◌, ◌≤ℤ◌, ◌<ℤ◌, pos, negsuc, nat_abs, length, vec_len, [], replicate, drop, slice_get, IsTrue, Some, None, IfOk, IfErr, if◌then◌else◌, true, false, nat_lt, ◌↔◌};
+ghost use Rattle.std.specs.Prelude.{◌≡◌, ◌<◌, ◌≤◌, ◌+◌, ◌*◌, ◌-◌, ℕ, ◌+ℤ◌, ◌-ℤ◌, ◌≤ℤ◌, ◌<ℤ◌, pos, negsuc, nat_abs, length, vec_len, [], replicate, drop, slice_get, IsTrue, Some, None, IfSome, IfNone, IfOk, IfErr, if◌then◌else◌, true, false, nat_lt, ◌↔◌};
 ghost use Rattle.std.specs.List.{list_all};
 ghost use Rattle.arrayvec.specs.ArrayVec.{array_vec_len};
 ghost use Rattle.av_rules.specs.Kinds.{kind_count};
 ghost use Rattle.av_cells.specs.Rule.{HasKinds};
-ghost use Rattle.av_cells.specs.Wakes.{SameStates};
+ghost use Rattle.av_cells.specs.World.{without_entry};
 ghost use Rattle.av_types.specs.declared.fault.Fault.TheVariants.{OutOfMemory};
 ghost use Rattle.av_types.specs.declared.place.Pos.{Pos};
 ghost use Rattle.av_column.specs.Columns.{is_in, is_there, slot, world_of, lists_of};
@@ -128,9 +128,13 @@ impl Column {
     pub fn take_first(&mut self) -> Option<Entry>
         ensures first { result ≡ slice_get self.old.entries.items 0 }
         ensures rest { self.new.entries.items ≡ drop 1 self.old.entries.items }
-        ensures states { SameStates
-            (world_of self.old.bottom self.old.layers self.old.numbers.items self.old.waiting.items)
-            (world_of self.new.bottom self.new.layers self.new.numbers.items self.new.waiting.items) }
+        ensures leaves { IfSome result (λ e.
+            world_of self.new.bottom self.new.layers self.new.numbers.items self.new.waiting.items
+            ≡ without_entry
+            (world_of self.old.bottom self.old.layers self.old.numbers.items self.old.waiting.items) e) }
+        ensures stays { IfNone result (
+            world_of self.new.bottom self.new.layers self.new.numbers.items self.new.waiting.items
+            ≡ world_of self.old.bottom self.old.layers self.old.numbers.items self.old.waiting.items) }
     {
         if self.entries.is_empty() {
             return None;

@@ -46,3 +46,19 @@ fn a_shut_block_is_no_hole_though_it_is_no_floor(rt: HostRuntime) -> Result<(), 
         [None, None, None, None],
     )
 }
+
+#[test]
+fn a_walk_has_four_steps_at_most(rt: HostRuntime) -> Result<(), Fail> {
+    expect(
+        &rt,
+        rt.alloc(),
+        &[((8, 64, 8), SOURCE), ((13, 63, 8), AIR)],
+        [None, None, None, Some(4)],
+    )?;
+    expect(
+        &rt,
+        rt.alloc(),
+        &[((8, 64, 8), SOURCE), ((13, 63, 9), AIR)],
+        [None, None, None, None],
+    )
+}

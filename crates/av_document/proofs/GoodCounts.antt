@@ -16,6 +16,7 @@ use Rattle.av_types.specs.declared.place.Pos.{Pos}
 use Rattle.av_types.specs.declared.place.ChunkPos.{ChunkPos}
 use Rattle.av_types.specs.declared.place.Height.{Height}
 use Rattle.av_types.specs.declared.tick.Entry.{Entry}
+use Rattle.av_types.proofs.SamePlaces.{same_pos-refl}
 use Rattle.av_nbt.specs.Nbt.{Nbt, compound, list, Items, no_items, item, Members, no_members, member, NamedTag}
 use Rattle.av_nbt.specs.Place.{tag_of}
 use Rattle.av_nbt.specs.Shape.{members_in, items_in, ◌>>=◌, compound_of, compounds_of, each}
@@ -82,12 +83,6 @@ block_number-same c h p q in_p in_q e =
     sym (block_at-of c h p in_p) ∙ ap (λ y. block_at c y (place_of p)) section ∙ ap (λ i. block_at c (divided q.y 16) i) parts.1 ∙ block_at-of c h q in_q
 
 -- ---- entries
-
-same_pos-refl : (p : Pos) → same_pos p p ≡ true
-same_pos-refl p =
-    ap (λ b. b && int_eq p.y p.y && int_eq p.z p.z) (int_eq-refl p.x)
-    ∙ ap (λ b. b && int_eq p.z p.z) (int_eq-refl p.y)
-    ∙ int_eq-refl p.z
 
 AreInside : ChunkPos → Height → List Entry → Type 0
 AreInside c h es = AllByRecursion (λ e. lies_in c h e.pos ≡ true) es

@@ -21,3 +21,4 @@ pub mod Ints
 pub mod Stored
 pub mod Lawful
 pub mod Rewritten
+pub mod Inside

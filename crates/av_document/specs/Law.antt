@@ -88,3 +88,10 @@ abbrev pub ReadThenWritten : Type 0
 ReadThenWritten = (c : ChunkPos) (h : Height) (bytes : List ℕ) (cells : Pos → BlockState) (water : List Entry) (sources : Pos → Bool) (rest : Rest) (light : ℤ → List ℕ)
     → SpellsChunk c h bytes cells water rest → length bytes ≤ 1044475 → ((y : ℤ) → is_section_of h y ≡ true → length (light y) ≡ 2048)
     → SpellsChunk c h (written_document (chunk_layout c h cells water sources rest light 0)) cells water rest
+
+-- What is written of a chunk goes by its own blocks, by whether the blocks of its entries hold sources, and by the light of the
+-- height's sections: what these functions say elsewhere makes no difference.
+abbrev pub LooksInside : Type 0
+LooksInside = (c : ChunkPos) (h : Height) (cells now : Pos → BlockState) (water : List Entry) (sources then : Pos → Bool) (rest : Rest) (light later : ℤ → List ℕ) (n : ℕ)
+    → ((p : Pos) → lies_in c h p ≡ true → cells p ≡ now p) → AllByRecursion (λ e. sources e.pos ≡ then e.pos) water → ((y : ℤ) → is_section_of h y ≡ true → light y ≡ later y)
+    → chunk_layout c h cells water sources rest light n ≡ chunk_layout c h now water then rest later n

@@ -2,7 +2,7 @@
 //! (<https://minecraft.wiki/w/Chunk_format>): definitions, and the law that ties them.
 #![tactic(auto)]
 
-ghost use Rattle.av_document.specs.Law.{WrittenDenotes, WrittenIsWellFormed, WrittenComesBack, ReadThenWritten, DenotesOne};
+ghost use Rattle.av_document.specs.Law.{WrittenDenotes, WrittenIsWellFormed, WrittenComesBack, ReadThenWritten, DenotesOne, LooksInside};
 
 /// A law of the definitions: what is written of a chunk denotes the same cells and rest, and the
 /// same water entries, sooner by the ticks that were run. The rest was read from a well-formed document, and the cells
@@ -35,4 +35,10 @@ pub fn read_then_written()
 /// A law of the definitions: a document denotes one chunk at most. There is nothing to do.
 pub fn denotes_one()
     ensures { DenotesOne }
+{}
+
+/// A law of the definitions: what is written of a chunk goes by its own blocks, its entries and the light of the height's
+/// sections alone. There is nothing to do.
+pub fn layout_looks_inside()
+    ensures { LooksInside }
 {}

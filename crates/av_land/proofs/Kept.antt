@@ -13,13 +13,13 @@ use Rattle.av_types.specs.Places.{chunk_of, is_block_of}
 use Rattle.av_types.specs.declared.place.Pos.{Pos}
 use Rattle.av_types.specs.declared.place.ChunkPos.{ChunkPos}
 use Rattle.av_types.specs.declared.tick.Entry.{Entry}
+use Rattle.av_types.proofs.SamePlaces.{same_pos-refl, same_chunk-refl, same_chunk_is, same_pos_is}
 use Rattle.av_ticks.specs.Entries.{is_pending, are_apart, is_due}
 use Rattle.av_ticks.proofs.Kept.{are_apart-filter}
 use Rattle.av_cells.specs.declared.kind.Kind.{Kind}
 use Rattle.av_cells.specs.Positions.{same_pos, same_chunk}
 use Rattle.av_cells.specs.World.{Lists, with_entry_if, listed_if, listed_all}
 use Rattle.av_cells.specs.Turn.{Change, change, entry_of, set_awake, turn}
-use Rattle.av_water.proofs.Inside.{same_pos_is}
 use Rattle.av_land.specs.Land.{Land, has_chunk, is_loaded, cells_of}
 use Rattle.av_land.specs.Tick.{Set, after, turned, set_in, edited, due_entries, without_due, turned_all, ticked, run_after}
 use Rattle.av_land.specs.Good.{IsEntryOf, Good, IsTimely, HasInts, IsSetOf, RunKeeps}
@@ -58,21 +58,8 @@ set_good count Q w at lists p m less l g = record {
 
 -- ---- an entry
 
-same_pos_refl : (p : Pos) → same_pos p p ≡ true
-same_pos_refl p = and_from _ _ (and_from _ _ ((Decides-int_eq p.x p.x).1 refl) ((Decides-int_eq p.y p.y).1 refl)) ((Decides-int_eq p.z p.z).1 refl)
-
-same_chunk_refl : (c : ChunkPos) → same_chunk c c ≡ true
-same_chunk_refl c = and_from _ _ ((Decides-int_eq c.x c.x).1 refl) ((Decides-int_eq c.z c.z).1 refl)
-
-pub same_chunk_is : (a b : ChunkPos) → same_chunk a b ≡ true → a ≡ b
-same_chunk_is a b h =
-    let parts = and_parts (int_eq a.x b.x) (int_eq a.z b.z) h in
-    let x = (Decides-int_eq a.x b.x).0 parts.0 in
-    let z = (Decides-int_eq a.z b.z).0 parts.1 in
-    λ i. record { x = x i; z = z i }
-
 other_way : (p q : Pos) (b : Bool) → same_pos q p ≡ b → same_pos p q ≡ false → b ≡ false
-other_way p q true e h = absurd (true≢false (sym (same_pos_refl p) ∙ ap (λ x. same_pos p x) (sym (same_pos_is q p e)) ∙ h))
+other_way p q true e h = absurd (true≢false (sym (same_pos-refl p) ∙ ap (λ x. same_pos p x) (sym (same_pos_is q p e)) ∙ h))
 other_way p q false e h = refl
 
 pushed_here : (p : Pos) (es : List Entry) (e : Entry) → same_pos p e.pos ≡ true → is_pending p (es ++ e ∷ []) ≡ true
@@ -141,7 +128,7 @@ wake_pending : (lists : Lists) (e : Entry) (q : Pos) (l x : Bool) (b : Bool) →
     → cond b true x ≡ (l && is_pending q (listed_if true lists e (chunk_of q)))
 wake_pending lists e q l x true s here h =
     let is = same_pos_is q e.pos s in
-    let c : same_chunk (chunk_of q) (chunk_of e.pos) ≡ true = subst (λ p. same_chunk (chunk_of q) (chunk_of p) ≡ true) is (same_chunk_refl (chunk_of q)) in
+    let c : same_chunk (chunk_of q) (chunk_of e.pos) ≡ true = subst (λ p. same_chunk (chunk_of q) (chunk_of p) ≡ true) is (same_chunk-refl (chunk_of q)) in
     let p : is_pending q (cond (same_chunk (chunk_of q) (chunk_of e.pos)) (lists (chunk_of q) ++ e ∷ []) (lists (chunk_of q))) ≡ true =
     ap (λ b. is_pending q (cond b (lists (chunk_of q) ++ e ∷ []) (lists (chunk_of q)))) c ∙ pushed_here q (lists (chunk_of q)) e s in
     sym (and_from l _ (here refl) p)

@@ -11,3 +11,4 @@ mod Sorting
 pub mod Views
 pub mod Names
 pub mod Slots
+pub mod Each

@@ -311,6 +311,13 @@ fn values_by_kind(rt: HostRuntime) -> Result<(), Fail> {
         Some(1)
     );
     assert_eq!(rt; tag(b"d")?.kind(), Kind::Long);
+    // each number has its highest byte first
+    assert_eq!(rt; tag(b"b")?, &Tag::Short(0x0102));
+    assert_eq!(rt; tag(b"d")?, &Tag::Long(0x0102030405060708));
+    assert_eq!(rt; tag(b"e")?, &Tag::Float(0x01020304));
+    assert_eq!(rt; tag(b"f")?, &Tag::Double(0x0102030405060708));
+    let ints = Vec::from_slice(alloc, &[-2])?;
+    assert_eq!(rt; tag(b"k")?, &Tag::IntArray(ints));
     assert_eq!(rt; copy_tags(alloc, &root.tags)?, root.tags);
     spelling_is_unique();
     written_is_spelling();

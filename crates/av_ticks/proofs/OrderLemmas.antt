@@ -1,11 +1,11 @@
 -- A stable sort gives the list in order, and no other.
-use Rattle.std.proofs.Common.{◌≡◌, ℕ, ◌<◌, ◌≤◌, Bool, true, false, cond, not, ◌&&◌, List, [], ◌∷◌, length, get_or, filter, refl, sym, ap, ◌∙◌, true≢false, arith, suc}
+use Rattle.std.proofs.Common.{◌≡◌, ℕ, ◌<◌, ◌≤◌, Bool, true, false, cond, not, ◌&&◌, List, [], ◌∷◌, length, get_or, filter, refl, sym, ap, subst, ◌∙◌, true≢false, arith, zero, suc}
 use Rattle.std.specs.declared.cmp.Ordering.{Ordering}
 use Rattle.std.specs.Ordering.{is_lt}
 use Rattle.std.specs.Cmp.{IsStrictWeakOrder}
-use Rattle.std.specs.List.Sorted.{IsSortedBy, IsStableBy, ties}
-use Rattle.std.proofs.lemmas.List.Sorted.{sorted_far}
-use Rattle.av_ticks.specs.Order.{inserted, ordered}
+use Rattle.std.specs.List.Sorted.{IsPermutation, IsSortedBy, IsStableBy, ties}
+use Rattle.std.proofs.lemmas.List.Sorted.{sorted_far, IsPermutation-refl, IsPermutation-trans, IsPermutation-cons, IsPermutation-insert}
+use Rattle.av_ticks.specs.Order.{inserted, ordered, IsStableSort}
 
 module _ {X : Type 0} (cmp : X → X → Ordering) (laws : IsStrictWeakOrder (λ x y. is_lt (cmp x y))) where
   abbrev below : X → X → Bool
@@ -119,3 +119,25 @@ module _ {X : Type 0} (cmp : X → X → Ordering) (laws : IsStrictWeakOrder (λ
   pub sorted_is_ordered : (xs ys : List X) → IsSortedBy (λ x y. is_lt (cmp x y)) ys → IsStableBy (λ x y. is_lt (cmp x y)) xs ys → ys ≡ ordered cmp xs
   sorted_is_ordered xs ys sorted stable =
       same_rising ys (ordered cmp xs) (rises ys (sorted_far below laws ys sorted)) (Rises-ordered xs) (λ z. stable z ∙ sym (filter-ordered z xs))
+
+  rises_each : (xs : List X) → Rises xs → (k : ℕ) (d : X) → suc k < length xs → below (get_or xs (suc k) d) (get_or xs k d) ≡ false
+  rises_each [] r k d h = absurd (omega arith)
+  rises_each (x ∷ []) r k d h = absurd (omega arith)
+  rises_each (x ∷ y ∷ ys) r zero d h = r.0.0
+  rises_each (x ∷ y ∷ ys) r (suc k) d h = rises_each (y ∷ ys) r.1 k d (omega arith)
+
+  inserted_elements : (x : X) (ys : List X) → IsPermutation (x ∷ ys) (inserted cmp x ys)
+  inserted_elements x [] = IsPermutation-refl (x ∷ [])
+  inserted_elements x (y ∷ ys) = by (below y x) (inserted_elements x ys) where
+    by : (b : Bool) → IsPermutation (x ∷ ys) (inserted cmp x ys) → IsPermutation (x ∷ y ∷ ys) (cond b (y ∷ inserted cmp x ys) (x ∷ y ∷ ys))
+    by true more = IsPermutation-trans (x ∷ y ∷ ys) (y ∷ x ∷ ys) (y ∷ inserted cmp x ys) (IsPermutation-insert (y ∷ ys) 1 x) (IsPermutation-cons y (x ∷ ys) (inserted cmp x ys) more)
+    by false more = IsPermutation-refl (x ∷ y ∷ ys)
+
+  ordered_elements : (xs : List X) → IsPermutation xs (ordered cmp xs)
+  ordered_elements [] = IsPermutation-refl []
+  ordered_elements (x ∷ xs) =
+      IsPermutation-trans (x ∷ xs) (x ∷ ordered cmp xs) (inserted cmp x (ordered cmp xs)) (IsPermutation-cons x xs (ordered cmp xs) (ordered_elements xs)) (inserted_elements x (ordered cmp xs))
+
+  -- the list in order is a stable sort
+  pub stable_sort : (xs : List X) → IsStableSort cmp xs (ordered cmp xs)
+  stable_sort xs = record { elements = ordered_elements xs; sorted = λ k d low high. subst (λ n. below (get_or (ordered cmp xs) n d) (get_or (ordered cmp xs) k d) ≡ false) (omega arith) (rises_each (ordered cmp xs) (Rises-ordered xs) k d (omega (arith, high))); stable = λ z. filter-ordered z xs }

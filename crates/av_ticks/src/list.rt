@@ -139,12 +139,16 @@ impl TickList {
     }
 
     /// The entries that are due in tick `now` or before it, by their time, then by their priority, the lower first,
-    /// then by their place in the list. They stay in it. Refuses with OutOfMemory alone.
+    /// then by their place in the list. They stay in it. Refuses with OutOfMemory alone, and of an empty list never.
     pub fn take_due(&self, now: u32) -> Result<Vec<Entry>, Fault>
         ensures ok { IfOk result (λ due. due.items ≡ ordered due_order (filter (is_due now) (entries self.now))) }
         ensures err { IfErr result (λ e. e ≡ OutOfMemory) }
+        ensures empty { entries self.now ≡ [] → IsOk result }
     {
         let alloc = *self.by_position.allocator();
+        if self.is_empty() {
+            return Ok(Vec::new(alloc));
+        }
         let mut due = find_due(alloc, self.as_slice(), now)?;
         due.sort_by_key(|entry| (entry.due, entry.priority))?;
         Ok(due)

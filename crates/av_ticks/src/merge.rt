@@ -1,5 +1,5 @@
 //! The entries that several workers made, brought together.
-ghost use Rattle.std.specs.Prelude.{◌≡◌, IfOk, IfErr, OnOk, ◌++◌, if◌then◌else◌, is_ok};
+ghost use Rattle.std.specs.Prelude.{◌≡◌, [], IfOk, IfErr, IsOk, OnOk, ◌++◌, if◌then◌else◌, is_ok};
 ghost use Rattle.std.specs.List.{flat_map};
 ghost use Rattle.av_types.specs.declared.fault.Fault.TheVariants.{OutOfMemory};
 ghost use Rattle.av_ticks.specs.Entries.{made_order};
@@ -10,7 +10,8 @@ use std::alloc::{AllocError, Global};
 
 /// The lists one after the other.
 fn concatenated(alloc: Global, parts: &[Vec<Made>]) -> Result<Vec<Made>, AllocError>
-    ensures { IfOk result (λ all. all.items ≡ flat_map (λ part. part.items) parts.now) }
+    ensures ok { IfOk result (λ all. all.items ≡ flat_map (λ part. part.items) parts.now) }
+    ensures nothing { flat_map (λ part. part.items) parts.now ≡ [] → IsOk result }
 {
     let mut all = Vec::new(alloc);
     for part in parts {
@@ -20,10 +21,11 @@ fn concatenated(alloc: Global, parts: &[Vec<Made>]) -> Result<Vec<Made>, AllocEr
 }
 
 /// All entries of the lists, each as often as it is there, by the place of their maker and then by their number.
-/// Refuses with OutOfMemory alone.
+/// Refuses with OutOfMemory alone, and where there is nothing never.
 pub fn merge_made(alloc: Global, parts: &[Vec<Made>]) -> Result<Vec<Made>, Fault>
     ensures ok { IfOk result (λ all. all.items ≡ ordered made_order (flat_map (λ part. part.items) parts.now)) }
     ensures err { IfErr result (λ e. e ≡ OutOfMemory) }
+    ensures nothing { flat_map (λ part. part.items) parts.now ≡ [] → IsOk result }
 {
     let mut all = concatenated(alloc, parts)?;
     all.sort_by_key(|made| (made.maker, made.number))?;

@@ -20,22 +20,23 @@ fn made(maker: u64, number: u8) -> Made {
     }
 }
 
-/// Entries A to D, of which C, D and B are due in tick 5, in this order.
+/// Entries A to E, of which B, E, C and D are due in tick 5, in this order: an overdue one first, whatever its priority.
 #[test]
 fn entries_leave_by_time_priority_and_place(rt: HostRuntime) -> Result<(), Fail> {
     let a = entry(1, 9, 0);
-    let b = entry(2, 5, 1);
+    let b = entry(2, -3, 7);
     let c = entry(3, 5, 0);
     let d = entry(4, 5, 0);
+    let e = entry(5, 5, -1);
     let mut list = TickList::new(rt.alloc());
     assert!(rt; list.is_empty());
-    list.reserve(4)?;
-    for entry in [a, b, c, d] {
+    list.reserve(5)?;
+    for entry in [a, b, c, d, e] {
         assert!(rt; list.add(entry)?);
     }
-    assert_eq!(rt; list.as_slice(), [a, b, c, d].as_slice());
-    assert_eq!(rt; list.take_due(5)?.as_slice(), [c, d, b].as_slice());
-    assert_eq!(rt; list.len(), 4);
+    assert_eq!(rt; list.as_slice(), [a, b, c, d, e].as_slice());
+    assert_eq!(rt; list.take_due(5)?.as_slice(), [b, e, c, d].as_slice());
+    assert_eq!(rt; list.len(), 5);
     assert!(rt; !list.add(entry(1, 5, 0))?);
     list.drop_due(5);
     assert_eq!(rt; list.as_slice(), [a].as_slice());

@@ -9,6 +9,7 @@ use Rattle.av_types.specs.declared.tick.Entry.{Entry}
 use Rattle.av_types.specs.declared.water.Direction.{Direction}
 use Rattle.av_types.specs.declared.water.Direction.TheVariants.{North, South, West, East}
 use Rattle.av_types.specs.Water.{is_wet, is_source}
+use Rattle.av_types.proofs.SamePlaces.{same_pos_is}
 use Rattle.av_cells.specs.declared.kind.Kind.{Kind}
 use Rattle.av_cells.specs.Positions.{step, below, around, same_pos, ForAround, InReach}
 use Rattle.av_cells.specs.World.{World, with_number, with_entry_if}
@@ -18,15 +19,6 @@ use Rattle.av_water.specs.Frame.{Kept, InLoadedReach, IsMadeBy}
 use Rattle.av_cells.proofs.Loaded.{wet_is_loaded}
 use Rattle.av_water.proofs.Plans.{enterable_is_loaded, side_is_loaded}
 use Rattle.av_water.proofs.Readiness.{around_itself, around_below, around_side}
-
-pub same_pos_is : (p q : Pos) → same_pos p q ≡ true → p ≡ q
-same_pos_is p q h =
-    let a = and_parts (int_eq p.x q.x && int_eq p.y q.y) (int_eq p.z q.z) h in
-    let b = and_parts (int_eq p.x q.x) (int_eq p.y q.y) a.0 in
-    let x = (Decides-int_eq p.x q.x).0 b.0 in
-    let y = (Decides-int_eq p.y q.y).0 b.1 in
-    let z = (Decides-int_eq p.z q.z).0 a.1 in
-    λ i. record { x = x i; y = y i; z = z i }
 
 abbrev AllMade : (Entry → Type 0) → List Entry → Type 0
 AllMade P [] = Unit {0}

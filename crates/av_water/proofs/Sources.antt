@@ -8,12 +8,12 @@ use Rattle.av_types.specs.declared.water.Direction.TheVariants.{North, South, We
 use Rattle.av_types.specs.declared.water.Wet.{Wet}
 use Rattle.av_types.specs.declared.water.Wet.TheVariants.{Dry, Source, Flow, Falling}
 use Rattle.av_types.specs.Water.{is_wet, is_source}
+use Rattle.av_types.proofs.SamePlaces.{same_pos_is}
 use Rattle.av_cells.specs.declared.kind.Kind.{Kind}
 use Rattle.av_cells.specs.Positions.{step, below, around, same_pos}
 use Rattle.av_cells.specs.World.{World, with_number}
 use Rattle.av_cells.specs.Rule.{kind_at, unloaded, wet_at, opens_at, can_enter, has_hole, sources_beside, incoming_at}
 use Rattle.av_cells.specs.Turn.{Change, change, woken, woken_all, set_awake, rank_at, rank_of, drop_of, is_chosen, least_rank, planned, number_of_wet, set_planned, spread, onward, renewed, same_wet, turn}
-use Rattle.av_water.proofs.Inside.{same_pos_is}
 
 pub record Stays (k : ℕ → Kind) (w : World) (c : Change) : Type 0 where
   pub loaded : c.world.loaded ≡ w.loaded

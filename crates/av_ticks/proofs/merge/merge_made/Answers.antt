@@ -13,4 +13,4 @@ returns-clause-ok c =
     let key : Made → ℕ × ℕ = λ m. (m.maker, m.number) in
     let keys = always_returns_same _ (λ a r. r ≡ key a.0.now) _ (λ a r f' call. (search rules, search rules)) in
     sorted_is_ordered made_order made_laws _ _ (c.in_ok-sort_by_key.ensures.sorted key keys) (c.in_ok-sort_by_key.ensures.stable key keys)
-    ∙ ap (ordered made_order) c.in_ok-all.ensures
+    ∙ ap (ordered made_order) c.in_ok-all.ensures.ok

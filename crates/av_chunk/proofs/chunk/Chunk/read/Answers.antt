@@ -2,20 +2,21 @@ use Rattle.std.proofs.Common.{[], ◌≡◌, Ok, Err, true, false, refl, sym, �
 use Rattle.av_nbt.specs.Place.{tag_of, blank, emptied}
 use Rattle.av_nbt.specs.View.{view, views, named_views, document}
 use Rattle.av_state.specs.Table.{states}
-use Rattle.av_document.specs.Chunk.{sections, ticks}
+use Rattle.av_document.specs.Chunk.{sections, ticks, root_tags}
 use Rattle.av_document.proofs.Tags.{tag_of-place_other}
 use Rattle.av_chunk.specs.Working.{admitted}
 use Rattle.av_ticks.specs.Ticks.{entries}
 use Rattle.av_chunk.specs.declared.chunk.Chunk.{Chunk}
 use Rattle.av_chunk.specs.Rest.{opened}
 use Rattle.av_chunk.specs.Views.{cells_of}
-use Rattle.av_chunk.specs.Reading.{IsRefusal}
+use Rattle.av_types.specs.declared.fault.Fault.TheVariants.{OutOfMemory}
+use Rattle.av_chunk.specs.Reading.{IsRefusal, IsAdmitted}
 use Rattle.av_chunk.specs.TicksRead.{AreTicks}
 use Rattle.av_chunk.specs.SectionsRead.{AreRead}
 use Rattle.av_chunk.proofs.Rows.{items_good}
 use Rattle.av_chunk.proofs.WaterIn.{in_height, water_in}
 use Rattle.av_chunk.proofs.Assembly.{Parts, denotes, loaded, members_in-of}
-use Rattle.av_chunk.proofs.Admitted.{admitted_true, admitted_false, admitted_fault, good_sections, good_ticks, good_list, first_loaded}
+use Rattle.av_chunk.proofs.Admitted.{admitted_true, admitted_false, admitted_fault, admitted_no_memory, whatever_fault, good_sections, good_ticks, good_list, first_loaded}
 use Rattle.av_chunk.proofs.chunk.Chunk.read.Goals as goal
 
 pub returns-in_err-admitted-clause-err : goal.returns-in_err-admitted-clause-err
@@ -25,6 +26,15 @@ returns-in_err-admitted-clause-err c =
     let is : admitted c.args.height c.args.place root ≡ Err e = rw c.deref.ensures.value at (sym c.admitted.ensures) ∙ c.in_err-admitted.was in
     let fact : IsRefusal c.args.place c.args.height (document c.args.root) (states c.args.table.now) e =
     record { first = λ ne. rw (members_in-of root) (admitted_fault c.args.height c.args.place root (states c.args.table.now) e is) } in
+    search (rules, fact)
+
+pub returns-in_err-admitted-clause-memory : goal.returns-in_err-admitted-clause-memory
+returns-in_err-admitted-clause-memory c =
+    let root = named_views c.args.root.tags.items in
+    let e = c.in_err-admitted.field-0.0 in
+    let is : admitted c.args.height c.args.place root ≡ Err e = rw c.deref.ensures.value at (sym c.admitted.ensures) ∙ c.in_err-admitted.was in
+    let fact : e ≡ OutOfMemory → IsAdmitted c.args.height c.args.place (root_tags (document c.args.root)) =
+    λ memory. absurd (admitted_no_memory c.args.height c.args.place root (is ∙ ap Err memory)) in
     search (rules, fact)
 
 pub returns-then-not-branch-clause-ok : goal.returns-then-not-branch-clause-ok
@@ -71,6 +81,27 @@ returns-in_err-read-clause-err c =
     let fact : IsRefusal c.args.place c.args.height (document c.args.root) (states c.args.table.now) e =
     record { first = λ ne. rw (members_in-of root) (first_loaded c.args.height c.args.place root (states c.args.table.now) a ∙ refused.first ne) } in
     search (rules, fact)
+
+pub returns-in_err-sections-clause-memory : goal.returns-in_err-sections-clause-memory
+returns-in_err-sections-clause-memory c =
+    let root = named_views c.args.root.tags.items in
+    let is : admitted c.args.height c.args.place root ≡ Ok true = rw c.deref.ensures.value at (sym c.admitted.ensures) ∙ (c.in_ok-admitted.was ∙ ap Ok c.if-not-branch.false) in
+    let fact : IsAdmitted c.args.height c.args.place (root_tags (document c.args.root)) = rw (members_in-of root) (admitted_true c.args.height c.args.place root is) in
+    whatever_fault c.from_residual-in_err-sections.result (λ e. e ≡ OutOfMemory) _ fact
+
+pub returns-in_err-ticks-clause-memory : goal.returns-in_err-ticks-clause-memory
+returns-in_err-ticks-clause-memory c =
+    let root = named_views c.args.root.tags.items in
+    let is : admitted c.args.height c.args.place root ≡ Ok true = rw c.deref.ensures.value at (sym c.admitted.ensures) ∙ (c.in_ok-admitted.was ∙ ap Ok c.if-not-branch.false) in
+    let fact : IsAdmitted c.args.height c.args.place (root_tags (document c.args.root)) = rw (members_in-of root) (admitted_true c.args.height c.args.place root is) in
+    whatever_fault c.from_residual-in_err-ticks.result (λ e. e ≡ OutOfMemory) _ fact
+
+pub returns-in_err-read-clause-memory : goal.returns-in_err-read-clause-memory
+returns-in_err-read-clause-memory c =
+    let root = named_views c.args.root.tags.items in
+    let is : admitted c.args.height c.args.place root ≡ Ok true = rw c.deref.ensures.value at (sym c.admitted.ensures) ∙ (c.in_ok-admitted.was ∙ ap Ok c.if-not-branch.false) in
+    let fact : IsAdmitted c.args.height c.args.place (root_tags (document c.args.root)) = rw (members_in-of root) (admitted_true c.args.height c.args.place root is) in
+    whatever_fault c.from_residual-in_err-read.result (λ e. e ≡ OutOfMemory) _ fact
 
 pub mark_pending-requires-clause-inside : goal.mark_pending-requires-clause-inside
 mark_pending-requires-clause-inside c =
