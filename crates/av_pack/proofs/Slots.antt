@@ -9,6 +9,9 @@ use Rattle.av_pack.specs.Fields.{DividesPlaces}
 pub some_in_long : (b : ℕ) → 4 ≤ b → b ≤ 16 → 0 < 64 / b
 some_in_long b low high = le-div 1 64 b (omega arith) (omega arith)
 
+pub few_in_long : (b : ℕ) → 4 ≤ b → b ≤ 16 → 64 / b ≤ 16
+few_in_long b low high = (let few : 64 / b < 17 = div_below 64 b 17 (omega arith) (omega arith) in omega (arith, few))
+
 pub div_ceil-covers : (n m : ℕ) → 0 < m → n ≤ div_ceil n m * m
 div_ceil-covers n m some = grind (arith, div-add-mod' n m, mod_below n m some)
 

@@ -1,7 +1,7 @@
 //! The 4,096 block indices of a section, packed into longs
 //! (<https://minecraft.wiki/w/Chunk_format#Block_format>): entries stand in each long from the low
 //! bits up, and none spans two longs. An entry has 4 to 16 bits.
-ghost use Rattle.std.specs.Prelude.{◌≡◌, ◌≢◌, ◌<◌, ◌≤◌, ◌+◌, ◌*◌, ◌/◌, ◌%◌, ◌-◌, ◌^◌, ◌↔◌, ◌⊎◌, ◌++◌, ℕ, Err, IfOk, IfErr, OnOk, length, All};
+ghost use Rattle.std.specs.Prelude.{◌≡◌, ◌≢◌, ◌<◌, ◌≤◌, ◌+◌, ◌*◌, ◌/◌, ◌%◌, ◌-◌, ◌^◌, ◌↔◌, ◌⊎◌, ◌++◌, ℕ, Err, IfOk, IfErr, OnOk, length, take, All};
 ghost use Rattle.std.specs.Int.{cast_signed, w64};
 ghost use Rattle.av_types.specs.declared.fault.Fault.TheVariants.{OutOfMemory, BadPacked};
 ghost use Rattle.av_pack.specs.Packing.{bits_for, longs_for, packed_at, low_first, packed, unpacked, IsPacked, SetsEntry};
@@ -171,16 +171,38 @@ pub fn set_at(longs: &mut [i64], bits: u32, place: Place, value: u16)
     longs[slot.long] = with_field(long, slot.shift, bits, value).cast_signed();
 }
 
+/// How many entries a long holds, of 4 to 16 bits each.
+#[tactic(auto, using(crate::proofs::Slots::few_in_long))]
+fn entries_in_long(bits: u32) -> usize
+    requires low { 4 ≤ bits }
+    requires high { bits ≤ 16 }
+    ensures value { result ≡ 64 / bits }
+    ensures few { result ≤ 16 }
+{
+    (64 / bits) as usize
+}
+
+/// All entries of a long, in front of places that are left.
+fn entries_of(long: u64, bits: u32) -> [u16; 16]
+    requires low { 4 ≤ bits }
+    requires high { bits ≤ 16 }
+    ensures { take (64 / bits) result ≡ entries_of bits long (64 / bits) }
+{
+    let mut entries = [0; 16];
+    for i in 0..entries_in_long(bits) {
+        entries[i] = field(long, bits * i as u32, bits);
+    }
+    entries
+}
+
 /// Appends all entries of a long.
 fn push_entries(values: &mut Vec<u16>, long: u64, bits: u32) -> Result<(), AllocError>
     requires low { 4 ≤ bits }
     requires high { bits ≤ 16 }
     ensures { OnOk result (values.new.items ≡ values.old.items ++ entries_of bits long (64 / bits)) }
 {
-    for i in 0..64 / bits {
-        values.push(field(long, bits * i, bits))?;
-    }
-    Ok(())
+    let entries = entries_of(long, bits);
+    values.extend_from_slice(&entries[..entries_in_long(bits)])
 }
 
 /// The 4,096 entries of the longs, or `BadPacked` where the longs are not as many as `longs_for`

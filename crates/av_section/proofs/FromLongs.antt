@@ -8,6 +8,7 @@ use Rattle.av_pack.proofs.Laws.{bits_for-low, bits_for-high, bits_for-enough, le
 use Rattle.av_section.specs.BlockStates.{packed_indices, indices_if, are_below}
 use Rattle.av_section.specs.Distinct.{AreDistinct, ArePlaces}
 use Rattle.av_section.specs.Packed.{IsPackedSection}
+use Rattle.av_section.proofs.PackedLemmas.{none_is_not_many}
 
 if_some : (b : Bool) (xs ys : List ℕ) → indices_if b xs ≡ Some ys → (b ≡ true) × (xs ≡ ys)
 if_some true xs ys h = (refl, cc)
@@ -51,7 +52,8 @@ packed_as_is numbers palette indices longs bits a same few needed f =
       low = subst (λ w. 4 ≤ w) (sym needed) (bits_for-low (length numbers));
       high = subst (λ w. w ≤ 16) (sym needed) (bits_for-high (length numbers));
       enough = subst (λ w. length palette ≤ 2 ^ w) (sym is) (bits_for-enough (length palette) short);
-      count = f.many ∙ ap longs_for (sym needed);
+      count = λ some. f.many ∙ ap longs_for (sym needed);
+      one = λ none. absurd (none_is_not_many longs bits (subst (λ w. 4 ≤ w) (sym needed) (bits_for-low (length numbers))) (subst (λ w. w ≤ 16) (sym needed) (bits_for-high (length numbers))) (f.many ∙ ap longs_for (sym needed)) none);
       below = λ i low. (
           let within : i < length indices = omega (arith, f.long) in
           let index = f.below i 0 within in
@@ -81,7 +83,8 @@ packed_places numbers palette places indices longs bits a few needed p long belo
       low = subst (λ w. 4 ≤ w) (sym needed) (bits_for-low (length palette));
       high = subst (λ w. w ≤ 16) (sym needed) (bits_for-high (length palette));
       enough = subst (λ w. length palette ≤ 2 ^ w) (sym needed) (bits_for-enough (length palette) short);
-      count = q.count;
+      count = λ some. q.count;
+      one = λ none. absurd (none_is_not_many longs bits (subst (λ w. 4 ≤ w) (sym needed) (bits_for-low (length palette))) (subst (λ w. w ≤ 16) (sym needed) (bits_for-high (length palette))) q.count none);
       below = λ i low. (
           let within : i < length (map (λ i. get_or places i 0) indices) = omega (arith, length-map indices (λ i. get_or places i 0), long) in
           subst (λ v. v < length palette) (sym (q.entries i low)) (placed_below palette numbers places indices p below i 0 within));

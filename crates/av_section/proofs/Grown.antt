@@ -7,6 +7,7 @@ use Rattle.av_pack.specs.Packing.{bits_for, longs_for, packed_at}
 use Rattle.av_pack.proofs.Laws.{bits_for-low, bits_for-high, bits_for-enough}
 use Rattle.av_section.specs.Packed.{IsPackedSection, IsRepacked, number_in}
 use Rattle.av_section.proofs.Distinct.{few_below, Distinct-push}
+use Rattle.av_section.proofs.PackedLemmas.{none_is_not_many}
 
 -- a palette's length is below that of all numbers, where one is missing
 pub room_for : (palette : List ℕ) (n : ℕ) → AllPairs (λ x y. x ≢ y) palette → (Contains palette n → ⊥) → All (λ x. x < 65536) palette → n < 65536 → length palette < 65536
@@ -30,7 +31,8 @@ packed_pushed palette old new bits wider n fits p fresh room needed same =
       low = subst (λ w. 4 ≤ w) (sym needed) (bits_for-low (length palette + 1));
       high = subst (λ w. w ≤ 16) (sym needed) (bits_for-high (length palette + 1));
       enough = subst (λ w. length (palette ++ n ∷ []) ≤ 2 ^ w) (sym is) (bits_for-enough (length (palette ++ n ∷ [])) few);
-      count = same.count;
+      count = λ some. same.count;
+      one = λ none. absurd (none_is_not_many new wider (subst (λ w. 4 ≤ w) (sym needed) (bits_for-low (length palette + 1))) (subst (λ w. w ≤ 16) (sym needed) (bits_for-high (length palette + 1))) same.count none);
       below = λ i h. (let b = p.below i h in let e = same.entries i h in omega (arith, long, b, e));
     }
 
@@ -53,15 +55,15 @@ pub record IsGrown (done : Bool) (palette new : List ℕ) (longs : List ℤ) (bi
   pub there : done ≡ true → Contains new n
 
 grown_or_not : (done : Bool) (palette : List ℕ) (longs : List ℤ) (bits n : ℕ) → n < 65536 → IsPackedSection palette longs bits → (Contains palette n → ⊥) → length palette < 65536
-    → bits_for (length palette + 1) ≡ bits → IsGrown done palette (if done then palette ++ n ∷ [] else palette) longs bits n
-grown_or_not false palette longs bits n fits p fresh room needed = record { packed = p; numbers = λ i. refl; prepared = λ m h. h; there = λ e. absurd (true≢false (sym e)) }
-grown_or_not true palette longs bits n fits p fresh room needed = record {
-  packed = packed_pushed palette longs longs bits bits n fits p fresh room (sym needed) (unchanged bits longs p.count);
-  numbers = number_pushed palette (n ∷ []) longs longs bits bits p (unchanged bits longs p.count);
+    → length longs ≡ longs_for bits → bits_for (length palette + 1) ≡ bits → IsGrown done palette (if done then palette ++ n ∷ [] else palette) longs bits n
+grown_or_not false palette longs bits n fits p fresh room many needed = record { packed = p; numbers = λ i. refl; prepared = λ m h. h; there = λ e. absurd (true≢false (sym e)) }
+grown_or_not true palette longs bits n fits p fresh room many needed = record {
+  packed = packed_pushed palette longs longs bits bits n fits p fresh room (sym needed) (unchanged bits longs many);
+  numbers = number_pushed palette (n ∷ []) longs longs bits bits p (unchanged bits longs many);
   prepared = λ m h. Contains-append_left palette (n ∷ []) m h;
   there = λ e. Contains-push palette n;
 }
 
 pub grown : (done : Bool) (palette new : List ℕ) (longs : List ℤ) (bits n : ℕ) → n < 65536 → IsPackedSection palette longs bits → (Contains palette n → ⊥) → length palette < 65536
-    → bits_for (length palette + 1) ≡ bits → new ≡ (if done then palette ++ n ∷ [] else palette) → IsGrown done palette new longs bits n
-grown done palette new longs bits n fits p fresh room needed e = subst (λ xs. IsGrown done palette xs longs bits n) (sym e) (grown_or_not done palette longs bits n fits p fresh room needed)
+    → length longs ≡ longs_for bits → bits_for (length palette + 1) ≡ bits → new ≡ (if done then palette ++ n ∷ [] else palette) → IsGrown done palette new longs bits n
+grown done palette new longs bits n fits p fresh room many needed e = subst (λ xs. IsGrown done palette xs longs bits n) (sym e) (grown_or_not done palette longs bits n fits p fresh room many needed)

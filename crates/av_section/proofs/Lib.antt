@@ -1,5 +1,4 @@
 pub mod Distinct
-pub mod Each
 pub mod Grown
 pub mod FromLongs
 pub mod Keeps

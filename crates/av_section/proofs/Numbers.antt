@@ -6,13 +6,13 @@ use Rattle.std.proofs.lemmas.List.{get_or_append_left, append_assoc, append-nil}
 use Rattle.std.proofs.Math.Seq.{get_or-append_seam}
 use Rattle.av_types.specs.declared.fault.Fault.{Fault}
 use Rattle.av_types.specs.declared.fault.Fault.TheVariants.{OutOfMemory, BadWaterLevel, TooManyStates}
+use Rattle.av_nbt.proofs.Each.{each_more, each_none, each_parts}
 use Rattle.av_nbt.specs.Shape.{each}
 use Rattle.av_state.specs.BlockState.{BlockState, air, meant}
 use Rattle.av_state.specs.StateList.{with_state, with_states, same_state, Numbers, IsOneTooMany}
 use Rattle.av_state.proofs.Numbering.{with_state-keeps, number_in-none}
 use Rattle.av_section.specs.Numbered.{AreNumbered, AreTooMany, AreNotNumbered}
 use Rattle.av_section.specs.Reading.{OnlyGrows}
-use Rattle.av_section.proofs.Each.{each_more, each_none, each_parts}
 
 -- ---- forms
 

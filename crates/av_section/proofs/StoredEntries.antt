@@ -13,8 +13,8 @@ use Rattle.av_nbt.specs.Spelling.{Spells, SpellsMembers}
 use Rattle.av_state.specs.BlockState.{BlockState, Property, in_order, is_short, is_short_property, keys_rise, is_storable, storable}
 use Rattle.av_section.specs.Palette.{name_key, properties_key, property_in, properties_in, is_of_entry, described_state}
 use Rattle.av_section.specs.Law.{StoredEntriesAreStates}
-use Rattle.av_section.proofs.Each.{each_parts}
 use Rattle.av_section.proofs.InOrder.{has_other_key, AreApart, all_in_order, rise_in_order}
+use Rattle.av_nbt.proofs.Each.{each_parts}
 
 -- ---- texts
 

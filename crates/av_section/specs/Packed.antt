@@ -1,8 +1,9 @@
 -- A palette of numbers, and the indices of 4,096 places into it, packed into longs.
-use Rattle.std.specs.Prelude.{◌≡◌, ◌≢◌, ℕ, ◌<◌, ◌≤◌, ◌^◌, List, ℤ, length, All, AllPairs, slice_index}
+use Rattle.std.specs.Prelude.{◌≡◌, ◌≢◌, ℕ, ◌<◌, ◌≤◌, ◌^◌, List, [], ℤ, length, All, AllPairs, slice_index}
 use Rattle.av_pack.specs.Packing.{bits_for, longs_for, packed_at}
 
 -- No number is in the palette twice, the indices have the bits that its length asks for, and each is below its length.
+-- Where one number is at every place there need be no longs.
 pub record IsPackedSection (palette : List ℕ) (longs : List ℤ) (bits : ℕ) : Type 0 where
   pub distinct : AllPairs (λ x y. x ≢ y) palette
   pub small : All (λ number. number < 65536) palette
@@ -11,7 +12,8 @@ pub record IsPackedSection (palette : List ℕ) (longs : List ℤ) (bits : ℕ) 
   pub low : 4 ≤ bits
   pub high : bits ≤ 16
   pub enough : length palette ≤ 2 ^ bits
-  pub count : length longs ≡ longs_for bits
+  pub count : longs ≢ [] → length longs ≡ longs_for bits
+  pub one : longs ≡ [] → length palette ≡ 1
   pub below : (i : ℕ) → i < 4096 → packed_at bits longs i < length palette
 
 -- the number at a place

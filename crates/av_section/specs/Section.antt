@@ -46,8 +46,8 @@ pub record IsFilled (s : Section) (number : ℕ) : Type 0 where
   pub pending : (i : ℕ) → is_pending s i ≡ false
   pub prepared : CanSet s number
 
--- The palette, longs and bits that a section consists of: the bits and longs that the palette's length asks for, each index
--- below that length, and the number at a place is the palette's at the index of the place.
+-- The palette, longs and bits that a section consists of: the bits and longs that the palette's length asks for, or no longs
+-- where it has one number, each index below that length, and the number at a place is the palette's at the index of the place.
 pub record AreParts (s : Section) (palette : List ℕ) (longs : List ℤ) (bits : ℕ) : Type 0 where
   pub packed : IsPackedSection palette longs bits
   pub numbers : (i : ℕ) → i < 4096 → number_at s i ≡ number_in palette longs bits i

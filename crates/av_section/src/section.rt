@@ -1,5 +1,5 @@
 //! A section in memory: numbers of block states by place.
-ghost use Rattle.std.specs.Prelude.{◌≡◌, ◌<◌, ◌≤◌, ◌^◌, ◌+◌, ◌↔◌, ◌++◌, [], ◌∷◌, ℕ, IsTrue, IfOk, IfErr, is_ok, if◌then◌else◌, length, slice_index, Contains};
+ghost use Rattle.std.specs.Prelude.{◌≡◌, ◌≢◌, ◌<◌, ◌≤◌, ◌^◌, ◌+◌, ◌↔◌, ◌++◌, [], ◌∷◌, ℕ, IsTrue, IfOk, IfErr, is_ok, if◌then◌else◌, length, slice_index, Contains};
 ghost use Rattle.av_types.specs.declared.fault.Fault.TheVariants.{OutOfMemory};
 ghost use Rattle.av_pack.specs.Packing.{bits_for, longs_for, packed_at};
 ghost use Rattle.av_section.specs.Packed.{IsPackedSection, IsRepacked};
@@ -12,7 +12,7 @@ use crate::palette::palette_states;
 use crate::places::PlaceSet;
 use crate::writing::{indices_tag, palette_tag};
 use av_nbt::Tag;
-use av_pack::{bits_for, get_at, pack, set_at, unpack};
+use av_pack::{bits_for, get_at, longs_for, pack, set_at, unpack};
 use av_state::{State, StateTable};
 use av_types::{Fault, Place};
 use std::alloc::Global;
@@ -20,7 +20,7 @@ use std::alloc::Global;
 /// A section: the number of a block state at each of its 4,096 places, and the set of the places that are pending.
 ///
 /// The numbers stand in a palette, which may hold some that no place has. The index of each place into it is packed
-/// into longs, of 4 to 16 bits by the palette's length.
+/// into longs, of 4 to 16 bits by the palette's length. A section of one number needs no longs.
 #[derive(Drop)]
 pub struct Section {
     palette: Vec<u16>,
@@ -77,8 +77,8 @@ impl Section {
     /// The section of a palette tag and a data tag. The palette's states are numbered after those of the table.
     ///
     /// Refuses a palette of another shape with `BadPalette`, indices that do not fit it with `BadPacked`, water whose
-    /// level is not 0 to 15 with `BadWaterLevel`, each before any state is numbered, and then more than 65,535 states
-    /// with `TooManyStates`. After a refusal the table may have gained states at its end.
+    /// level is not 0 to 15 with `BadWaterLevel`, the first of these that holds, and else more than 65,535 states with
+    /// `TooManyStates`. After a refusal the table may have gained states at its end.
     pub fn read(
         alloc: Global,
         palette: Option<&Tag>,
@@ -190,6 +190,9 @@ impl Section {
     pub fn get(&self, place: Place) -> u16
         ensures { result ≡ number_at self.now place.index }
     {
+        if self.longs.is_empty() {
+            return self.palette[0];
+        }
         self.palette[usize::from(get_at(self.longs.as_slice(), self.bits, place))]
     }
 
@@ -231,7 +234,7 @@ impl Section {
         palette.push(number)?;
         Ok(Section {
             palette,
-            longs: vec![in alloc; 0; 256]?,
+            longs: Vec::new(alloc),
             bits: 4,
             pending: PlaceSet::new(),
         })
@@ -242,6 +245,9 @@ impl Section {
         requires { CanSet self.old number }
         ensures { SetsNumber self.old self.new place.index number }
     {
+        if self.longs.is_empty() {
+            return;
+        }
         let index = index_of(self.palette.as_slice(), number);
         set_at(self.longs.as_mut_slice(), self.bits, place, index as u16);
     }
@@ -272,6 +278,7 @@ impl Section {
         if has_number(self.palette.as_slice(), number) {
             return Ok(());
         }
+        self.add_longs()?;
         let bits = bits_for(self.palette.len() + 1);
         if bits == self.bits {
             return self.append(number);
@@ -279,11 +286,28 @@ impl Section {
         self.widen(number, bits)
     }
 
+    /// Makes the longs of a section of one number.
+    fn add_longs(&mut self) -> Result<(), Fault>
+        ensures same { KeepsPlaces self.old self.new }
+        ensures palette { self.new.palette ≡ self.old.palette }
+        ensures bits { self.new.bits ≡ self.old.bits }
+        ensures count { OnOk result (length self.new.longs.items ≡ longs_for self.new.bits) }
+        ensures err { IfErr result (λ e. e ≡ OutOfMemory) }
+    {
+        if !self.longs.is_empty() {
+            return Ok(());
+        }
+        let alloc = *self.longs.allocator();
+        self.longs = vec![in alloc; 0; longs_for(self.bits)]?;
+        Ok(())
+    }
+
     /// Appends a new number to the palette, where the indices stay as wide as they are.
     fn append(&mut self, number: u16) -> Result<(), Fault>
         requires new { CanSet self.old number → ⊥ }
         requires room { length self.old.palette.items < 65536 }
         requires bits { bits_for (length self.old.palette.items + 1) ≡ self.old.bits }
+        requires count { length self.old.longs.items ≡ longs_for self.old.bits }
         ensures same { KeepsPlaces self.old self.new }
         ensures ok { OnOk result (CanSet self.new number) }
         ensures err { IfErr result (λ e. e ≡ OutOfMemory) }
@@ -300,6 +324,7 @@ impl Section {
         requires low { 4 ≤ bits }
         requires high { bits ≤ 16 }
         requires enough { length self.old.palette.items + 1 ≤ 2 ^ bits }
+        requires count { length self.old.longs.items ≡ longs_for self.old.bits }
         ensures same { KeepsPlaces self.old self.new }
         ensures ok { OnOk result (CanSet self.new number) }
         ensures err { IfErr result (λ e. e ≡ OutOfMemory) }
@@ -339,9 +364,10 @@ impl Section {
         Ok((palette, None))
     }
 
-    /// What is written of any palette.
+    /// What is written of a palette of several entries.
     fn write_any(&self, alloc: Global, table: &StateTable) -> Result<(Tag, Option<Tag>), Fault>
-        requires { HasNumbersBelow self.now (length (states table.now)) }
+        requires below { HasNumbersBelow self.now (length (states table.now)) }
+        requires several { length self.now.palette.items ≢ 1 }
         ensures palette { IfOk result (λ tags. view tags.0 ≡ palette_tag (section_states (states table.now) self.now)) }
         ensures longs { IfOk result (λ tags. option_map view tags.1 ≡ data_tag (section_states (states table.now) self.now)) }
         ensures err { IfErr result (λ e. e ≡ OutOfMemory) }

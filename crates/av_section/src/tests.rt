@@ -151,9 +151,11 @@ fn places_have_the_numbers_of_their_states(rt: HostRuntime) -> Result<(), Fail> 
 fn a_prepared_section_reads_as_before(rt: HostRuntime) -> Result<(), Fail> {
     let mut section = Section::filled(rt.alloc(), 3)?;
     let place = Place::new(700);
+    assert_eq!(rt; section.parts().1.len(), 0);
     section.set(place, 3);
     section.add_pending(place);
     section.prepare([0, 1, 2, 3, 4, 5, 6, 7, 8, 9, 10, 11, 12, 13, 14, 15].as_slice())?;
+    assert_eq!(rt; section.parts().1.len(), 256);
     assert_eq!(rt; section.parts().2, 4);
     section.prepare([16, 2].as_slice())?;
     let (numbers, longs, bits) = section.parts();

@@ -1,13 +1,13 @@
 -- One more entry is numbered, or refused.
 use Rattle.std.proofs.Common.{◌≡◌, ◌∙◌, sym, ap, map, Err, length, take, arith}
 use Rattle.std.proofs.lemmas.List.{length-map, length-take-le}
-use Rattle.av_section.proofs.Each.{length-each}
 use Rattle.std.proofs.lemmas.Result.{err_from_is_err_and}
 use Rattle.av_state.specs.BlockState.{meant}
 use Rattle.av_state.specs.States.{state_of}
 use Rattle.av_state.specs.Table.{states}
 use Rattle.av_section.proofs.Numbers.{numbered_more, too_many, no_form, no_forms, grows_by, not_numbered}
 use Rattle.av_section.proofs.numbering.number_states.Goals as goal
+use Rattle.av_nbt.proofs.Each.{length-each}
 
 pub returns-then-not-have_forms-clause-err : goal.returns-then-not-have_forms-clause-err
 returns-then-not-have_forms-clause-err c = no_forms (map state_of c.args.entries.now) c.have_forms.result c.have_forms.ensures c.if-not-have_forms.true

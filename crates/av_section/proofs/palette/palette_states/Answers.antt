@@ -4,8 +4,8 @@ use Rattle.std.proofs.lemmas.Bool.{eqb-false}
 use Rattle.av_nbt.specs.View.{view}
 use Rattle.av_state.specs.States.{state_of}
 use Rattle.av_section.specs.Palette.{state_in}
-use Rattle.av_section.proofs.Each.{each_many}
 use Rattle.av_section.proofs.palette.palette_states.Goals as goal
+use Rattle.av_nbt.proofs.Each.{each_many}
 
 pub returns-clause-some : goal.returns-clause-some
 returns-clause-some c =

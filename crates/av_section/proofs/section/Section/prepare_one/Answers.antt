@@ -7,4 +7,4 @@ pub bits_for-bits-requires : goal.bits_for-bits-requires
 bits_for-bits-requires c =
     let s = c.args.self.now in
     let room = room_for s.palette.items c.args.number s.packed.distinct (λ there. true≢false (sym (c.has_number.ensures.1 (rw c.as_slice.ensures.value there)) ∙ c.if-has_number.false)) s.packed.small c.ranges.number.fits in
-    omega (arith, room, c.as_slice.ensures.len, ap length c.as_slice.ensures.value)
+    omega (arith, room, c.as_slice.ensures.len, ap length c.as_slice.ensures.value, ap (λ p. length p.items) c.in_ok-add_longs.ensures.palette)

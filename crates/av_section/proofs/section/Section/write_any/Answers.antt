@@ -28,14 +28,14 @@ palette_tag-requires c =
     let s = c.args.self.now in
     let values = c.as_slice-3.ensures.value ∙ c.in_ok-indices.ensures.ok ∙ ap (unpacked s.bits) c.as_slice.ensures.value in
     let written = rw (values, c.as_slice-2.ensures.value) at c.in_ok-order.ensures in
-    rw c.as_slice-4.ensures.value ((writes_section (states c.args.table.now) s c.in_ok-order.order.numbers.items c.in_ok-order.order.indices.items c.args.table.now.numbered c.requires written).below)
+    rw c.as_slice-4.ensures.value ((writes_section (states c.args.table.now) s c.in_ok-order.order.numbers.items c.in_ok-order.order.indices.items c.args.table.now.numbered c.requires.below written).below)
 
 pub indices_tag-requires-clause-long : goal.indices_tag-requires-clause-long
 indices_tag-requires-clause-long c =
     let s = c.args.self.now in
     let values = c.as_slice-3.ensures.value ∙ c.in_ok-indices.ensures.ok ∙ ap (unpacked s.bits) c.as_slice.ensures.value in
     let written = rw (values, c.as_slice-2.ensures.value) at c.in_ok-order.ensures in
-    let all = writes_section (states c.args.table.now) s c.in_ok-order.order.numbers.items c.in_ok-order.order.indices.items c.args.table.now.numbered c.requires written in
+    let all = writes_section (states c.args.table.now) s c.in_ok-order.order.numbers.items c.in_ok-order.order.indices.items c.args.table.now.numbered c.requires.below written in
     ap length c.as_slice-5.ensures.value ∙ all.long
 
 pub indices_tag-requires-clause-few : goal.indices_tag-requires-clause-few
@@ -43,7 +43,7 @@ indices_tag-requires-clause-few c =
     let s = c.args.self.now in
     let values = c.as_slice-3.ensures.value ∙ c.in_ok-indices.ensures.ok ∙ ap (unpacked s.bits) c.as_slice.ensures.value in
     let written = rw (values, c.as_slice-2.ensures.value) at c.in_ok-order.ensures in
-    let all = writes_section (states c.args.table.now) s c.in_ok-order.order.numbers.items c.in_ok-order.order.indices.items c.args.table.now.numbered c.requires written in
+    let all = writes_section (states c.args.table.now) s c.in_ok-order.order.numbers.items c.in_ok-order.order.indices.items c.args.table.now.numbered c.requires.below written in
     omega (arith, c.len.ensures, all.short)
 
 pub indices_tag-requires-clause-below : goal.indices_tag-requires-clause-below
@@ -51,7 +51,7 @@ indices_tag-requires-clause-below c =
     let s = c.args.self.now in
     let values = c.as_slice-3.ensures.value ∙ c.in_ok-indices.ensures.ok ∙ ap (unpacked s.bits) c.as_slice.ensures.value in
     let written = rw (values, c.as_slice-2.ensures.value) at c.in_ok-order.ensures in
-    let all = writes_section (states c.args.table.now) s c.in_ok-order.order.numbers.items c.in_ok-order.order.indices.items c.args.table.now.numbered c.requires written in
+    let all = writes_section (states c.args.table.now) s c.in_ok-order.order.numbers.items c.in_ok-order.order.indices.items c.args.table.now.numbered c.requires.below written in
     let count : c.len.result ≡ length c.in_ok-order.order.numbers.items = omega (arith, c.len.ensures) in
     rw (count, c.as_slice-5.ensures.value) all.found_below
 
@@ -60,7 +60,7 @@ returns-clause-palette c =
     let s = c.args.self.now in
     let values = c.as_slice-3.ensures.value ∙ c.in_ok-indices.ensures.ok ∙ ap (unpacked s.bits) c.as_slice.ensures.value in
     let written = rw (values, c.as_slice-2.ensures.value) at c.in_ok-order.ensures in
-    let all = writes_section (states c.args.table.now) s c.in_ok-order.order.numbers.items c.in_ok-order.order.indices.items c.args.table.now.numbered c.requires written in
+    let all = writes_section (states c.args.table.now) s c.in_ok-order.order.numbers.items c.in_ok-order.order.indices.items c.args.table.now.numbered c.requires.below written in
     let numbers = ap (λ ns. states_tag (map (λ n. slice_index_or (states c.args.table.now) n air) ns)) c.as_slice-4.ensures.value in
     c.in_ok-palette.ensures.ok ∙ numbers ∙ sym all.palette
 
@@ -69,6 +69,6 @@ returns-clause-longs c =
     let s = c.args.self.now in
     let values = c.as_slice-3.ensures.value ∙ c.in_ok-indices.ensures.ok ∙ ap (unpacked s.bits) c.as_slice.ensures.value in
     let written = rw (values, c.as_slice-2.ensures.value) at c.in_ok-order.ensures in
-    let all = writes_section (states c.args.table.now) s c.in_ok-order.order.numbers.items c.in_ok-order.order.indices.items c.args.table.now.numbered c.requires written in
+    let all = writes_section (states c.args.table.now) s c.in_ok-order.order.numbers.items c.in_ok-order.order.indices.items c.args.table.now.numbered c.requires.below written in
     let count : c.len.result ≡ length c.in_ok-order.order.numbers.items = omega (arith, c.len.ensures) in
     c.in_ok-longs.ensures.ok ∙ ap (λ n. indices_tag n c.as_slice-5.result.now) count ∙ ap (indices_tag (length c.in_ok-order.order.numbers.items)) c.as_slice-5.ensures.value ∙ sym all.indices
