@@ -1,5 +1,5 @@
 -- Steps that keep a world.
-use Rattle.std.proofs.Common.{◌<◌, ℕ, IsTrue, List, length, refl, sym, subst, ◌∙◌, arith, OnOk, Ok, Err, Result, Some, ◌≡◌}
+use Rattle.std.proofs.Common.{◌<◌, ℕ, IsTrue, IsOk, is_ok, true≢false, List, length, refl, sym, ap, subst, ◌∙◌, arith, OnOk, Ok, Err, Result, Some, ◌≡◌}
 use Rattle.std.proofs.lemmas.List.Elements.{All-weaker}
 use Rattle.av_types.specs.Places.{section_of, chunk_of}
 use Rattle.av_types.specs.declared.place.Pos.{Pos}
@@ -46,6 +46,10 @@ numbers_last v w ns p k h loaded =
 pub in_ok : {A E : Type 0} (r : Result A E) (P : Type 0) → P → OnOk r P
 in_ok (Ok x) P h = h
 in_ok (Err e) P h = tt
+
+-- what succeeds did not refuse
+pub not_refused : {A E : Type 0} (r : Result A E) (e : E) (P : Type 0) → r ≡ Err e → IsOk r → P
+not_refused r e P was ok = absurd (true≢false (sym ok ∙ ap is_ok was))
 
 -- where a block is loaded, its chunk is there
 pub chunk_there : (v w : World) (q : Pos) → IsKept v w → IsTrue ((blocks v).loaded q) → slot w.positions.items (chunk_of q) < length w.positions.items

@@ -196,6 +196,14 @@ fn clear_due(sections: &mut Vec<Option<Section>>, entries: &[Entry], height: Hei
     }
 }
 
+/// Whether one of these entries is due.
+fn has_due(entries: &[Entry], now: u32) -> bool
+    ensures { result ≡ list_any (is_due now) entries.now }
+{
+    let now = i64::from(now);
+    entries.iter().any(|entry| entry.due <= now)
+}
+
 /// Takes the entries that are due out of a chunk's list, and makes their places not pending.
 pub(crate) fn leave_in(chunk: &mut Chunk, height: Height, now: u32)
     requires count { length chunk.old.sections.items ≡ height.sections }
@@ -204,6 +212,9 @@ pub(crate) fn leave_in(chunk: &mut Chunk, height: Height, now: u32)
     ensures entries { entries chunk.new.ticks ≡ filter (λ e. not (is_due now e)) (entries chunk.old.ticks) }
     ensures room { room chunk.old.ticks ≤ room chunk.new.ticks }
 {
+    if !has_due(chunk.ticks.as_slice(), now) {
+        return;
+    }
     clear_due(&mut chunk.sections, chunk.ticks.as_slice(), height, now);
     chunk.ticks.drop_due(now);
 }

@@ -1,5 +1,5 @@
 //! Entries that are due.
-ghost use Rattle.std.specs.Prelude.{◌≡◌, ◌≤◌, ◌++◌, true, false, not, filter, OnOk, OnErr, IfOk, IfErr, if◌then◌else◌};
+ghost use Rattle.std.specs.Prelude.{◌≡◌, ◌≤◌, ◌++◌, ◌||◌, ◌⊎◌, nat_eq, true, false, not, filter, OnOk, OnErr, IfOk, IfErr, if◌then◌else◌};
 ghost use Rattle.std.specs.List.{flat_map};
 ghost use Rattle.av_types.specs.declared.fault.Fault.TheVariants.{OutOfMemory, Broken};
 ghost use Rattle.av_types.specs.declared.place.SectionPos.{SectionPos};
@@ -8,7 +8,7 @@ ghost use Rattle.av_ticks.specs.Order.{ordered};
 ghost use Rattle.av_ticks.specs.Ticks.{entries};
 ghost use Rattle.av_land.specs.Tick.{due_entries, without_due};
 ghost use Rattle.av_world.specs.Changes.{SameNumbers};
-ghost use Rattle.av_world.specs.Due.{at_least, tick_of};
+ghost use Rattle.av_world.specs.Due.{at_least, is_reached, tick_of};
 ghost use Rattle.av_world.specs.Lands.{land_of, IsWhole};
 ghost use Rattle.av_world.specs.Views.{sections, blocks, lists, site, is_broken, chunks_of};
 
@@ -41,6 +41,7 @@ fn tick_of(entry: &Entry) -> u64
 fn sooner(one: u64, other: u64) -> u64
     ensures one { result ≤ one }
     ensures other { result ≤ other }
+    ensures either { (result ≡ one) ⊎ (result ≡ other) }
 {
     if one < other { one } else { other }
 }
@@ -49,6 +50,7 @@ fn sooner(one: u64, other: u64) -> u64
 fn soonest_in(entries: &[Entry], most: u64) -> u64
     ensures low { result ≤ most }
     ensures none { at_least result entries.now ≡ true }
+    ensures reached { (nat_eq result most || is_reached result entries.now) ≡ true }
 {
     let mut soonest = most;
     for entry in entries {
@@ -58,9 +60,11 @@ fn soonest_in(entries: &[Entry], most: u64) -> u64
 }
 
 impl World {
-    /// A tick before which no entry of any list is due.
+    /// The first tick in which an entry of some list is due, 0 for one that is overdue, and `u64::MAX` where there is none.
     pub fn soonest(&self) -> u64
-        ensures { at_least result (flat_map (λ chunk. entries chunk.ticks) (chunks_of self.now)) ≡ true }
+        ensures none { at_least result (flat_map (λ chunk. entries chunk.ticks) (chunks_of self.now)) ≡ true }
+        ensures reached { (nat_eq result 18446744073709551615
+            || is_reached result (flat_map (λ chunk. entries chunk.ticks) (chunks_of self.now))) ≡ true }
     {
         let mut soonest = u64::MAX;
         for chunk in &self.chunks {

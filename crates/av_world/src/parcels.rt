@@ -148,6 +148,7 @@ impl Parcel {
         ensures kept { IsKept self.old self.new }
         ensures prepared { OnOk result (All (CanSetAll self.new numbers.now) at.now) }
         ensures fault { IfErr result (λ e. e ≡ OutOfMemory) }
+        ensures succeeds { All (CanSetAll self.old numbers.now) at.now → IsOk result }
     {
         for pos in at {
             self.prepare_section(pos.section(), numbers)?;
@@ -162,6 +163,7 @@ impl Parcel {
         ensures room { OnOk result (42 ≤ room self.new) }
         ensures prepared { OnOk result (All (CanSetAll self.new (0 ∷ 1 ∷ 2 ∷ 3 ∷ 4 ∷ 5 ∷ 6 ∷ 7 ∷ 8 ∷ 9 ∷ [])) (turned pos)) }
         ensures fault { IfErr result (λ e. e ≡ OutOfMemory) }
+        ensures succeeds { 42 ≤ room self.old → All (CanSetAll self.old (0 ∷ 1 ∷ 2 ∷ 3 ∷ 4 ∷ 5 ∷ 6 ∷ 7 ∷ 8 ∷ 9 ∷ [])) (turned pos) → IsOk result }
     {
         self.look_near(&corners(pos));
         self.reserve_aside(42)?;
@@ -174,6 +176,7 @@ impl Parcel {
         ensures room { OnOk result (7 ≤ room self.new) }
         ensures prepared { OnOk result (CanSetAll self.new (number ∷ []) pos) }
         ensures fault { IfErr result (λ e. e ≡ OutOfMemory) }
+        ensures succeeds { 7 ≤ room self.old → CanSetAll self.old (number ∷ []) pos → IsOk result }
     {
         self.reserve_aside(7)?;
         self.prepare_section(pos.section(), &[number])

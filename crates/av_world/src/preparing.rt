@@ -33,6 +33,7 @@ impl World {
         ensures kept { IsKept self.old self.new }
         ensures room { OnOk result (HasRoomAt self.new count at) }
         ensures fault { IfErr result (λ e. e ≡ OutOfMemory) }
+        ensures succeeds { HasRoomAt self.old count at → IsOk result }
     {
         if self.section(at.section()).is_none() {
             return Ok(());
@@ -45,6 +46,7 @@ impl World {
         ensures kept { IsKept self.old self.new }
         ensures room { OnOk result (All (HasRoomAt self.new count) at.now) }
         ensures fault { IfErr result (λ e. e ≡ OutOfMemory) }
+        ensures succeeds { All (HasRoomAt self.old count) at.now → IsOk result }
     {
         for at in at {
             self.reserve_at(*at, count)?;
@@ -75,6 +77,7 @@ impl World {
         ensures kept { IsKept self.old self.new }
         ensures prepared { OnOk result (All (CanSetAll self.new numbers.now) at.now) }
         ensures fault { IfErr result (λ e. e ≡ OutOfMemory) }
+        ensures succeeds { All (CanSetAll self.old numbers.now) at.now → IsOk result }
     {
         for pos in at {
             self.prepare_section(pos.section(), numbers)?;
@@ -89,6 +92,8 @@ impl World {
         ensures room { OnOk result (All (HasRoomAt self.new 42) (corners pos)) }
         ensures prepared { OnOk result (All (CanSetAll self.new (0 ∷ 1 ∷ 2 ∷ 3 ∷ 4 ∷ 5 ∷ 6 ∷ 7 ∷ 8 ∷ 9 ∷ [])) (turned pos)) }
         ensures fault { IfErr result (λ e. e ≡ OutOfMemory) }
+        ensures succeeds { All (HasRoomAt self.old 42) (corners pos)
+            → All (CanSetAll self.old (0 ∷ 1 ∷ 2 ∷ 3 ∷ 4 ∷ 5 ∷ 6 ∷ 7 ∷ 8 ∷ 9 ∷ [])) (turned pos) → IsOk result }
     {
         let corners = corners(pos);
         self.look_near(&corners);
@@ -103,6 +108,7 @@ impl World {
         ensures room { OnOk result (All (HasRoomAt self.new 7) (around pos)) }
         ensures prepared { OnOk result (CanSetAll self.new (number ∷ []) pos) }
         ensures fault { IfErr result (λ e. e ≡ OutOfMemory) }
+        ensures succeeds { All (HasRoomAt self.old 7) (around pos) → CanSetAll self.old (number ∷ []) pos → IsOk result }
     {
         self.reserve_all(&around(pos), 7)?;
         self.prepare_section(pos.section(), &[number])

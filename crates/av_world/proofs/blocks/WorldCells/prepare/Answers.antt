@@ -1,11 +1,11 @@
-use Rattle.std.proofs.Common.{◌≤◌, IsTrue, All, [], ◌∷◌}
+use Rattle.std.proofs.Common.{ℕ, List, ◌≤◌, IsTrue, All, [], ◌∷◌}
 use Rattle.av_types.specs.Places.{section_of, chunk_of_section}
 use Rattle.av_cells.specs.Grid.{is_here}
 use Rattle.av_world.specs.Near.{cells_near}
 use Rattle.av_world.specs.Views.{grid, room, CanSetAt}
 use Rattle.av_world.specs.Turned.{corners, turned, HasRoomAt, CanSetAll}
 use Rattle.av_world.proofs.Steps.{site_kept, on_ok, loaded_later}
-use Rattle.av_world.proofs.Corners.{in_reach, for_turned, map_turned, ten}
+use Rattle.av_world.proofs.Corners.{in_reach, corners_all, turned_all, for_turned, map_turned, ten, ten_all}
 use Rattle.av_world.proofs.blocks.WorldCells.prepare.Goals as goal
 
 pub prepare_turn-requires : goal.prepare_turn-requires
@@ -27,3 +27,10 @@ returns-clause-prepared c =
 
 pub returns-clause-site : goal.returns-clause-site
 returns-clause-site c = site_kept c.args.self.now c.prepare_turn.new.self c.prepare_turn.ensures.kept
+
+pub returns-clause-succeeds : goal.returns-clause-succeeds
+returns-clause-succeeds c =
+    let w = c.args.self.now in let ns : List ℕ = (0 ∷ 1 ∷ 2 ∷ 3 ∷ 4 ∷ 5 ∷ 6 ∷ 7 ∷ 8 ∷ 9 ∷ []) in
+    λ room numbers. c.prepare_turn.ensures.succeeds
+    (corners_all (HasRoomAt w 42) c.args.pos room)
+    (turned_all (CanSetAll w ns) c.args.pos (map_turned _ (CanSetAll w ns) (λ q h t. ten_all (CanSetAt w (section_of q)) (h t)) c.args.pos numbers))

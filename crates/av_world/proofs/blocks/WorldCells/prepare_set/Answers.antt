@@ -1,9 +1,11 @@
 use Rattle.std.proofs.Common.{All, [], ◌∷◌, arith}
 use Rattle.av_cells.specs.Positions.{around}
+use Rattle.av_types.specs.Places.{section_of}
 use Rattle.av_world.specs.Near.{cells_near}
+use Rattle.av_world.specs.Views.{CanSetAt}
 use Rattle.av_world.specs.Turned.{HasRoomAt, CanSetAll}
 use Rattle.av_world.proofs.Steps.{site_kept, on_ok, loaded_later}
-use Rattle.av_world.proofs.Corners.{for_around, map_around}
+use Rattle.av_world.proofs.Corners.{around_all, one_all, for_around, map_around}
 use Rattle.av_world.proofs.blocks.WorldCells.prepare_set.Goals as goal
 
 pub prepare_one-requires : goal.prepare_one-requires
@@ -23,3 +25,10 @@ returns-clause-prepared c =
 
 pub returns-clause-site : goal.returns-clause-site
 returns-clause-site c = site_kept c.args.self.now c.prepare_one.new.self c.prepare_one.ensures.kept
+
+pub returns-clause-succeeds : goal.returns-clause-succeeds
+returns-clause-succeeds c =
+    let w = c.args.self.now in
+    λ room number. c.prepare_one.ensures.succeeds
+    (around_all (HasRoomAt w 7) c.args.pos room)
+    (λ t. one_all (CanSetAt w (section_of c.args.pos)) c.args.number number)

@@ -1,4 +1,4 @@
-use Rattle.std.proofs.Common.{All, subst, List, [], ◌∷◌, IsTrue}
+use Rattle.std.proofs.Common.{ℕ, sym, All, subst, List, [], ◌∷◌, IsTrue}
 use Rattle.std.proofs.lemmas.List.Elements.{All-weaker}
 use Rattle.av_types.specs.declared.place.Pos.{Pos}
 use Rattle.av_types.specs.declared.place.SectionPos.{SectionPos}
@@ -6,7 +6,7 @@ use Rattle.av_cells.specs.Grid.{is_here}
 use Rattle.av_cells.specs.Positions.{around}
 use Rattle.av_world.specs.Views.{grid, CanSetAt}
 use Rattle.av_world.specs.Turned.{HasRoomAt}
-use Rattle.av_world.proofs.Steps.{room_lasts, in_ok, on_ok}
+use Rattle.av_world.proofs.Steps.{not_refused, numbers_last, room_lasts, in_ok, on_ok}
 use Rattle.av_world.proofs.worlds.World.prepare_one.Goals as goal
 
 pub returns-clause-room : goal.returns-clause-room
@@ -21,3 +21,16 @@ returns-clause-prepared c =
     let new = c.prepare_section.new.self in
     on_ok c.prepare_section.result (IsTrue (is_here (grid new c.section.result)) → All (CanSetAt new c.section.result) (c.args.number ∷ [])) _ c.prepare_section.ensures.prepared
     (λ h. subst (λ (s : SectionPos). IsTrue (is_here (grid new s)) → All (CanSetAt new s) (c.args.number ∷ [])) c.section.ensures h)
+
+pub returns-in_err-reserve_all-clause-succeeds : goal.returns-in_err-reserve_all-clause-succeeds
+returns-in_err-reserve_all-clause-succeeds c =
+    let w = c.args.self.now in
+    λ room numbers. not_refused c.reserve_all.result _ _ c.in_err-reserve_all.was
+    (c.reserve_all.ensures.succeeds (subst (λ (xs : List Pos). All (HasRoomAt w 7) xs) (sym c.around.ensures) room))
+
+pub returns-clause-succeeds : goal.returns-clause-succeeds
+returns-clause-succeeds c =
+    let w = c.args.self.now in let old = c.reserve_all.new.self in let ns : List ℕ = c.args.number ∷ [] in
+    λ room numbers. c.prepare_section.ensures.succeeds
+    (subst (λ (s : SectionPos). IsTrue (is_here (grid old s)) → All (CanSetAt old s) ns) (sym c.section.ensures)
+    (numbers_last w old ns c.args.pos c.reserve_all.ensures.kept numbers))

@@ -1,8 +1,8 @@
-use Rattle.std.proofs.Common.{All, subst, List, [], ◌∷◌}
+use Rattle.std.proofs.Common.{ℕ, sym, All, subst, List, [], ◌∷◌}
 use Rattle.std.proofs.lemmas.List.Elements.{All-weaker}
 use Rattle.av_types.specs.declared.place.Pos.{Pos}
-use Rattle.av_world.specs.Turned.{corners, HasRoomAt, CanSetAll}
-use Rattle.av_world.proofs.Steps.{room_lasts, in_ok, on_ok}
+use Rattle.av_world.specs.Turned.{corners, turned, HasRoomAt, CanSetAll}
+use Rattle.av_world.proofs.Steps.{not_refused, IsKept-trans, numbers_last, room_lasts, in_ok, on_ok}
 use Rattle.av_world.proofs.worlds.World.prepare_turn.Goals as goal
 
 pub returns-clause-room : goal.returns-clause-room
@@ -17,3 +17,19 @@ returns-clause-prepared c =
     let new = c.prepare_all.new.self in
     on_ok c.prepare_all.result _ _ c.prepare_all.ensures.prepared
     (λ h. subst (λ (xs : List Pos). All (CanSetAll new (0 ∷ 1 ∷ 2 ∷ 3 ∷ 4 ∷ 5 ∷ 6 ∷ 7 ∷ 8 ∷ 9 ∷ [])) xs) c.turned.ensures h)
+
+pub returns-in_err-reserve_all-clause-succeeds : goal.returns-in_err-reserve_all-clause-succeeds
+returns-in_err-reserve_all-clause-succeeds c =
+    let w = c.args.self.now in let mid = c.look_near.new.self in
+    λ room numbers. not_refused c.reserve_all.result _ _ c.in_err-reserve_all.was
+    (c.reserve_all.ensures.succeeds
+    (subst (λ (xs : List Pos). All (HasRoomAt mid 42) xs) (sym c.corners-corners.ensures)
+    (All-weaker (HasRoomAt w 42) (HasRoomAt mid 42) (λ p h. room_lasts w mid 42 p c.look_near.ensures h) (corners c.args.pos) room)))
+
+pub returns-clause-succeeds : goal.returns-clause-succeeds
+returns-clause-succeeds c =
+    let w = c.args.self.now in let mid = c.look_near.new.self in let old = c.reserve_all.new.self in let ns : List ℕ = (0 ∷ 1 ∷ 2 ∷ 3 ∷ 4 ∷ 5 ∷ 6 ∷ 7 ∷ 8 ∷ 9 ∷ []) in
+    let kept = IsKept-trans w mid old c.look_near.ensures c.reserve_all.ensures.kept in
+    λ room numbers. c.prepare_all.ensures.succeeds
+    (subst (λ (xs : List Pos). All (CanSetAll old ns) xs) (sym c.turned.ensures)
+    (All-weaker (CanSetAll w ns) (CanSetAll old ns) (λ p h. numbers_last w old ns p kept h) (turned c.args.pos) numbers))
