@@ -11,7 +11,6 @@ use Rattle.av_ticks.specs.Entries.{is_pending}
 use Rattle.av_cells.specs.declared.kind.Kind.{Kind}
 use Rattle.av_cells.specs.Positions.{same_pos}
 use Rattle.av_cells.specs.World.{World, Lists, listed_if, listed_all}
-use Rattle.av_water.proofs.Inside.{same_pos_is}
 use Rattle.av_play.specs.declared.event.Placed.{Placed}
 use Rattle.av_play.specs.Play.{world_after, made_after, entries_of}
 use Rattle.av_play.specs.Waiting.{is_among, AreNew}
@@ -20,6 +19,7 @@ use Rattle.av_play.proofs.Waiting.{turns_wait, turns_fresh}
 use Rattle.av_world.specs.OutOf.{IsPartOf}
 use Rattle.av_world.proofs.Tied.{tied_added}
 use Rattle.av_types.specs.declared.fault.Fault.{Fault}
+use Rattle.av_types.proofs.SamePlaces.{same_pos_is}
 use Rattle.av_world.specs.ParcelViews.{blocks, lists}
 use Rattle.av_crew.specs.declared.jobs.Job.{Job}
 use Rattle.av_crew.specs.declared.jobs.Done.{Done}

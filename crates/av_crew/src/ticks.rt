@@ -10,50 +10,17 @@ ghost use Rattle.av_edits.specs.Numbered.{number_sets};
 ghost use Rattle.av_serial.specs.Ready.{IsReady, IsSamePlace, CanApply};
 ghost use Rattle.av_crew.specs.Counts.{is_count_of_workers};
 
+use crate::counts::Workers;
 use crate::gates::Gate;
 use crate::ticking::turn_parts;
 use av_cluster::plan;
 use av_edits::Edit;
 use av_rules::Kinds;
-use av_serial::apply;
+use av_serial::apply_all;
 use av_types::Fault;
 use av_world::World;
 use std::sync::Wait;
 use std::thread::Threads;
-
-const MOST_WORKERS: u32 = 8;
-
-/// Applies an edit, if it is of this tick.
-fn apply_now(world: &mut World, kinds: &Kinds, now: u32, edit: &Edit) -> Result<(), Fault>
-    requires ready { IsReady (kind_count kinds.now) world.old }
-    requires sound { is_broken world.old ≡ false }
-    requires edit { CanApply (kind_count kinds.now) world.old edit.now }
-    ensures done { OnOk result (land_of world.new ≡ (if nat_eq edit.now.tick now then set_in (kinds_of kinds.now) now edit.now.pos edit.now.number (land_of world.old) else land_of world.old)) }
-    ensures ready { IsReady (kind_count kinds.now) world.new }
-    ensures place { IsSamePlace world.old world.new }
-    ensures fault { IfErr result (λ e. e ≡ OutOfMemory) }
-{
-    if edit.tick == now {
-        apply(world, kinds, now, edit)?;
-    }
-    Ok(())
-}
-
-/// Applies the edits of a tick, in order.
-fn apply_all(world: &mut World, kinds: &Kinds, now: u32, edits: &[Edit]) -> Result<(), Fault>
-    requires ready { IsReady (kind_count kinds.now) world.old }
-    requires sound { is_broken world.old ≡ false }
-    requires edits { All (CanApply (kind_count kinds.now) world.old) edits.now }
-    ensures done { OnOk result (land_of world.new ≡ edited (kinds_of kinds.now) now (number_sets edits.now) (land_of world.old)) }
-    ensures ready { IsReady (kind_count kinds.now) world.new }
-    ensures place { IsSamePlace world.old world.new }
-    ensures fault { IfErr result (λ e. e ≡ OutOfMemory) }
-{
-    for edit in edits {
-        apply_now(world, kinds, now, edit)?;
-    }
-    Ok(())
-}
 
 /// Takes what is due, and turns it in parts.
 fn turn_due<R: Threads + Wait + Sync, G: Gate + Sync>(
@@ -106,16 +73,15 @@ fn work_tick<R: Threads + Wait + Sync, G: Gate + Sync>(
 }
 
 /// Works a tick off, and gives the world up where memory is refused.
-fn tick_or_give_up<R: Threads + Wait + Sync, G: Gate + Sync>(
+pub(crate) fn tick_or_give_up<R: Threads + Wait + Sync, G: Gate + Sync>(
     rt: &R,
     world: &mut World,
     kinds: &Kinds,
     now: u32,
     edits: &[Edit],
-    workers: usize,
+    workers: Workers,
     gate: &G,
 ) -> Result<u64, Fault>
-    requires workers { (0 < workers) × (workers ≤ 8) }
     requires ready { IsReady (kind_count kinds.now) world.old }
     requires sound { is_broken world.old ≡ false }
     requires edits { All (CanApply (kind_count kinds.now) world.old) edits.now }
@@ -126,20 +92,13 @@ fn tick_or_give_up<R: Threads + Wait + Sync, G: Gate + Sync>(
     ensures broken { OnErr result (is_broken world.new ≡ true) }
     ensures fault { IfErr result (λ e. e ≡ OutOfMemory) }
 {
-    match work_tick(rt, world, kinds, now, edits, workers, gate) {
+    match work_tick(rt, world, kinds, now, edits, workers.count, gate) {
         Ok(count) => Ok(count),
         Err(fault) => {
             world.give_up();
             Err(fault)
         }
     }
-}
-
-/// Whether a tick can have so many workers.
-fn are_few(workers: u32) -> bool
-    ensures { result ≡ is_count_of_workers workers }
-{
-    1 <= workers && workers <= MOST_WORKERS
 }
 
 /// Tick `now` on 1 to 8 workers, of which the calling thread is one: its edits, in order, and then the entries that are
@@ -170,11 +129,9 @@ pub fn tick<R: Threads + Wait + Sync, G: Gate + Sync>(
     ensures broken { IfErr result (λ e. e ≡ OutOfMemory → is_broken world.new ≡ true) }
     ensures unchanged { IfErr result (λ e. e ≢ OutOfMemory → world.new ≡ world.old) }
 {
-    if !are_few(workers) {
-        return Err(Fault::BadCount);
-    }
+    let workers = Workers::new(workers)?;
     if world.broken() {
         return Err(Fault::Broken);
     }
-    tick_or_give_up(rt, world, kinds, now, edits, workers as usize, gate)
+    tick_or_give_up(rt, world, kinds, now, edits, workers, gate)
 }

@@ -6,6 +6,6 @@ mod schedule;
 mod steps;
 mod ticks;
 
-pub use runs::run_ticks;
+pub use runs::{run_ticks, run_ticks_with};
 pub use steps::apply;
-pub use ticks::tick;
+pub use ticks::{apply_all, tick};

@@ -47,8 +47,11 @@ fn apply_now(world: &mut World, kinds: &Kinds, now: u32, edit: &Edit) -> Result<
     Ok(())
 }
 
-/// Applies the edits of a tick, in order.
-fn apply_all(world: &mut World, kinds: &Kinds, now: u32, edits: &[Edit]) -> Result<(), Fault>
+/// Applies the edits of tick `now` to a world that is not broken, in order. Those of other ticks change nothing.
+///
+/// # Errors
+/// `OutOfMemory`, and then only some first edits are applied.
+pub fn apply_all(world: &mut World, kinds: &Kinds, now: u32, edits: &[Edit]) -> Result<(), Fault>
     requires ready { IsReady (kind_count kinds.now) world.old }
     requires sound { is_broken world.old ≡ false }
     requires edits { All (CanApply (kind_count kinds.now) world.old) edits.now }

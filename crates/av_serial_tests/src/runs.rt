@@ -72,8 +72,8 @@ fn fits(world: &World, kinds: &Kinds, edit: &Edit) -> bool
     world.loaded(edit.pos) && usize::from(edit.number) < kinds.count()
 }
 
-/// Whether each edit is so.
-fn all_fit(world: &World, kinds: &Kinds, edits: &[Edit]) -> bool
+/// Whether each edit is of a loaded block, to a state that has a kind.
+pub fn all_fit(world: &World, kinds: &Kinds, edits: &[Edit]) -> bool
     ensures { result ≡ true → All (CanApply (kind_count kinds.now) world.now) edits.now }
 {
     for edit in edits {
@@ -100,8 +100,8 @@ pub fn edits_and_kinds(
     Ok((edits, kinds))
 }
 
-/// A world after ticks 1 to `ticks`.
-fn run_edits(
+/// A world after ticks 1 to `ticks`, with these edits.
+pub fn run_edits(
     alloc: Global,
     mut world: World,
     kinds: &Kinds,

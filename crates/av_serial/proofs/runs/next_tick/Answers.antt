@@ -11,24 +11,24 @@ use Rattle.av_serial.proofs.RunSteps.{on_ok, if_ok}
 use Rattle.av_serial.proofs.runs.next_tick.Goals as goal
 
 pub tick_from-requires-clause-edits : goal.tick_from-requires-clause-edits
-tick_from-requires-clause-edits c = All-take (CanApply (kind_count c.args.kinds.now) c.args.world.now) _ _ (All-drop (CanApply (kind_count c.args.kinds.now) c.args.world.now) _ c.args.edits.now c.requires.edits)
+tick_from-requires-clause-edits g c = All-take (CanApply (kind_count c.args.kinds.now) c.args.world.now) _ _ (All-drop (CanApply (kind_count c.args.kinds.now) c.args.world.now) _ c.args.edits.now c.requires.edits)
 
 pub returns-clause-done : goal.returns-clause-done
-returns-clause-done c =
+returns-clause-done g c =
     let s = c.requires.schedule in let e = c.end_of-to.ensures in
     let own = own_edits c.args.done (c.args.done + 1) c.args.schedule.now.from c.end_of-to.result c.args.edits.now refl e.from s.passed c.requires.sorted e.next in
     let same = other_edits (kinds_of c.args.kinds.now) (c.args.done + 1) (number_sets (take (c.end_of-to.result - c.args.schedule.now.from) (drop c.args.schedule.now.from c.args.edits.now))) (number_sets c.args.edits.now) (land_of c.args.world.now) own in
     on_ok c.tick_from.result (λ h. h ∙ same.world) c.tick_from.ensures.done
 
 pub returns-clause-count : goal.returns-clause-count
-returns-clause-count c =
+returns-clause-count g c =
     let s = c.requires.schedule in let e = c.end_of-to.ensures in
     let own = own_edits c.args.done (c.args.done + 1) c.args.schedule.now.from c.end_of-to.result c.args.edits.now refl e.from s.passed c.requires.sorted e.next in
     let same = other_edits (kinds_of c.args.kinds.now) (c.args.done + 1) (number_sets (take (c.end_of-to.result - c.args.schedule.now.from) (drop c.args.schedule.now.from c.args.edits.now))) (number_sets c.args.edits.now) (land_of c.args.world.now) own in
     if_ok c.tick_from.result (λ x h. h ∙ same.count) c.tick_from.ensures.count
 
 pub returns-clause-schedule : goal.returns-clause-schedule
-returns-clause-schedule c =
+returns-clause-schedule g c =
     let s = c.requires.schedule in let e = c.end_of-to.ensures in
     let passed = passed_on c.args.done (c.args.done + 1) c.args.schedule.now.from c.end_of-to.result c.args.edits.now refl s.passed e.passed in
     on_ok c.tick_from.result (λ h. record { within = e.within; passed = passed; later = h }) c.tick_from.ensures.next

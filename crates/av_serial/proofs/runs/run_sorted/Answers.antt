@@ -8,13 +8,13 @@ use Rattle.av_serial.proofs.RunSteps.{run_next, count_next, can_apply_all}
 use Rattle.av_serial.proofs.runs.run_sorted.Goals as goal
 
 pub next_tick-requires-clause-sound : goal.next_tick-requires-clause-sound
-next_tick-requires-clause-sound c = sound_on c.args.world.now c.loop-done.world c.loop-done.invariant.place c.requires.sound
+next_tick-requires-clause-sound g c = sound_on c.args.world.now c.loop-done.world c.loop-done.invariant.place c.requires.sound
 
 pub next_tick-requires-clause-edits : goal.next_tick-requires-clause-edits
-next_tick-requires-clause-edits c = can_apply_all (kind_count c.args.kinds.now) c.args.world.now c.loop-done.world c.args.edits.now c.loop-done.invariant.place c.requires.edits
+next_tick-requires-clause-edits g c = can_apply_all (kind_count c.args.kinds.now) c.args.world.now c.loop-done.world c.args.edits.now c.loop-done.invariant.place c.requires.edits
 
 pub loop-done-init : goal.loop-done-init
-loop-done-init c = record {
+loop-done-init g c = record {
   run_is = refl;
   count_is = refl;
   few = omega arith;
@@ -24,7 +24,7 @@ loop-done-init c = record {
 }
 
 pub loop-done-preserved : goal.loop-done-preserved
-loop-done-preserved c =
+loop-done-preserved g c =
     let i = c.loop-done.invariant in let e = c.in_ok-count.ensures in
     let k = kinds_of c.args.kinds.now in let es = number_sets c.args.edits.now in
     let old = c.args.world.now in let mid = c.loop-done.world in let new = c.next_tick.new.world in

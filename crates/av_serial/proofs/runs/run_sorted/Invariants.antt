@@ -9,7 +9,7 @@ use Rattle.av_serial.specs.Schedule.{IsAfterTicks}
 use Rattle.av_serial.proofs.runs.run_sorted.Given as goal
 
 abbrev pub invariant-loop-done : goal.invariant-loop-done
-invariant-loop-done l = record {
+invariant-loop-done g l = record {
   run_is : land_of l.world ≡ run (kinds_of l.kinds) (number_sets l.edits) l.done (land_of l.initial.world);
   count_is : l.total ≡ run_count (kinds_of l.kinds) (number_sets l.edits) l.done (land_of l.initial.world);
   few : l.total ≤ l.done * 18446744073709551615;

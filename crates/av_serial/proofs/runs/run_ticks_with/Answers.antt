@@ -11,31 +11,31 @@ use Rattle.av_edits.specs.Numbered.{number_sets}
 use Rattle.av_serial.specs.Ready.{CanApply}
 use Rattle.av_serial.specs.Schedule.{tick_of}
 use Rattle.av_serial.proofs.RunSteps.{on_ok, if_ok, on_err, on_err_always}
-use Rattle.av_serial.proofs.runs.run_ticks.Goals as goal
+use Rattle.av_serial.proofs.runs.run_ticks_with.Goals as goal
 
 pub run_sorted-requires-clause-edits : goal.run_sorted-requires-clause-edits
-run_sorted-requires-clause-edits c =
+run_sorted-requires-clause-edits g c =
     let P = CanApply (kind_count c.args.kinds.now) c.args.world.now in
     subst (λ (es : List Edit). All P es) (sym c.as_slice.ensures.value)
     (All-permutation P c.args.edits.now c.in_ok-sorted.sorted.items c.in_ok-sorted.ensures.permutation (c.requires.edits (sym c.broken.ensures ∙ c.if-broken.false)))
 
 pub run_sorted-requires-clause-sorted : goal.run_sorted-requires-clause-sorted
-run_sorted-requires-clause-sorted c = subst (λ (es : List Edit). IsNonDecreasingBy tick_of es) (sym c.as_slice.ensures.value) c.in_ok-sorted.ensures.sorted
+run_sorted-requires-clause-sorted g c = subst (λ (es : List Edit). IsNonDecreasingBy tick_of es) (sym c.as_slice.ensures.value) c.in_ok-sorted.ensures.sorted
 
 pub returns-clause-done : goal.returns-clause-done
-returns-clause-done c =
+returns-clause-done g c =
     let k = kinds_of c.args.kinds.now in let w = land_of c.args.world.now in
     let same = run_by_ticks k (number_sets c.in_ok-sorted.sorted.items) (number_sets c.args.edits.now) c.args.n w c.in_ok-sorted.ensures.same in
     on_ok c.run_sorted.result (λ h. h ∙ (ap (λ (es : List Edit). run k (number_sets es) c.args.n w) c.as_slice.ensures.value ∙ same.world)) c.run_sorted.ensures.done
 
 pub returns-clause-count : goal.returns-clause-count
-returns-clause-count c =
+returns-clause-count g c =
     let k = kinds_of c.args.kinds.now in let w = land_of c.args.world.now in
     let same = run_by_ticks k (number_sets c.in_ok-sorted.sorted.items) (number_sets c.args.edits.now) c.args.n w c.in_ok-sorted.ensures.same in
     if_ok c.run_sorted.result (λ x h. h ∙ (ap (λ (es : List Edit). run_count k (number_sets es) c.args.n w) c.as_slice.ensures.value ∙ same.count)) c.run_sorted.ensures.count
 
 pub returns-clause-stands : goal.returns-clause-stands
-returns-clause-stands c = on_err c.run_sorted.result (λ h. inr h) c.run_sorted.ensures.broken
+returns-clause-stands g c = on_err c.run_sorted.result (λ h. inr h) c.run_sorted.ensures.broken
 
 pub returns-in_err-sorted-clause-stands : goal.returns-in_err-sorted-clause-stands
-returns-in_err-sorted-clause-stands c = on_err_always _ (inl refl)
+returns-in_err-sorted-clause-stands g c = on_err_always _ (inl refl)

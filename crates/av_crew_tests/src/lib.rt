@@ -1,0 +1,11 @@
+//! Ticks on several workers, for the tests of the crew, which cross crates.
+#![tactic(auto)]
+
+pub mod crews;
+#[cfg(test)]
+mod drawn_tests;
+#[cfg(test)]
+mod gate_tests;
+pub mod gates;
+#[cfg(test)]
+mod tests;

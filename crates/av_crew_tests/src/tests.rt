@@ -1,0 +1,159 @@
+//! Ticks on several workers by hand, on chunks with stone at y 63 and air elsewhere.
+use crate::crews::{broken_refusals, contents, crew_ran, crew_run, crew_tick, flat_crew_ran};
+use av_crew::NoGate;
+use av_serial_tests::runs::{edits_and_kinds, flat_ran, world_of};
+use av_types::{ChunkPos, Entry, Fault, Pos};
+use av_world::World;
+use av_world_tests::reads::{entries_in, number_at};
+use std::alloc::Global;
+use std::process::Abort;
+use std::test::Fail;
+
+/// Four chunks in a row.
+const ROW: [ChunkPos; 4] = [
+    ChunkPos { x: 0, z: 0 },
+    ChunkPos { x: 1, z: 0 },
+    ChunkPos { x: 2, z: 0 },
+    ChunkPos { x: 3, z: 0 },
+];
+
+/// A source in the middle of each of them.
+const FOUR: &str = "1 8 64 8 minecraft:water[level=0]
+1 24 64 8 minecraft:water[level=0]
+1 40 64 8 minecraft:water[level=0]
+1 56 64 8 minecraft:water[level=0]";
+
+const W: &str = "1 8 64 8 minecraft:water[level=0]";
+
+/// An entry of the same block.
+const WAITING: Entry = Entry {
+    pos: Pos { x: 8, y: 64, z: 8 },
+    due: 1,
+    priority: 0,
+};
+
+/// The source at `middle` of a chunk spread to its four sides, and these five blocks wait.
+fn expect_spread(
+    rt: &impl Abort,
+    alloc: Global,
+    world: &World,
+    chunk: ChunkPos,
+    middle: i32,
+) -> Result<(), Fault> {
+    let (west, east) = (middle.wrapping_sub(1), middle.wrapping_add(1));
+    let spread = [
+        (middle, 7, 2),
+        (middle, 8, 1),
+        (middle, 9, 2),
+        (west, 8, 2),
+        (east, 8, 2),
+    ];
+    let list = entries_in(alloc, world, chunk)?;
+    assert_eq!(rt; list.len(), 5);
+    for (entry, (x, z, number)) in list.iter().zip(&spread) {
+        let pos = Pos {
+            x: *x,
+            y: 64,
+            z: *z,
+        };
+        let want = Entry {
+            pos,
+            due: 11,
+            priority: 0,
+        };
+        assert_eq!(rt; *entry, want);
+        assert_eq!(rt; number_at(world, pos), Some(*number));
+    }
+    Ok(())
+}
+
+/// Four parts, by any number of workers.
+#[test]
+fn four_sources_spread(rt: HostRuntime) -> Result<(), Fail> {
+    let alloc = rt.alloc();
+    let serial = contents(alloc, &flat_ran(alloc, &ROW, FOUR, 6)?.world)?;
+    for workers in [1, 2, 3, 8] {
+        let after = flat_crew_ran(&rt, alloc, &ROW, FOUR, 6, workers, &NoGate)?;
+        assert_eq!(rt; after.count, 4);
+        for (chunk, middle) in ROW.iter().zip(&[8, 24, 40, 56]) {
+            expect_spread(&rt, alloc, &after.world, *chunk, *middle)?;
+        }
+        let (numbers, entries) = contents(alloc, &after.world)?;
+        assert_eq!(rt; numbers.as_slice(), serial.0.as_slice());
+        assert_eq!(rt; entries.as_slice(), serial.1.as_slice());
+    }
+    Ok(())
+}
+
+/// A source at (8, 64, 8) in tick 1 was not set, and the one entry that waits is still there.
+fn expect_untouched(rt: &impl Abort, alloc: Global, world: &World) -> Result<(), Fault> {
+    assert_eq!(rt; number_at(world, WAITING.pos), Some(0));
+    let list = entries_in(alloc, world, ROW[0])?;
+    assert_eq!(rt; list.as_slice(), [WAITING].as_slice());
+    Ok(())
+}
+
+/// With other numbers of workers than 1 to 8 nothing is done.
+#[test]
+fn other_numbers_of_workers_are_refused(rt: HostRuntime) -> Result<(), Fail> {
+    let alloc = rt.alloc();
+    let flat = world_of(alloc, &ROW, &[], &[])?;
+    let (edits, kinds) = edits_and_kinds(alloc, 1, &flat, W, 1)?;
+    let edits = edits.as_slice();
+    for workers in [0, 9, 4294967295] {
+        let mut world = world_of(alloc, &ROW, &[], &[WAITING])?;
+        let fault = crew_tick(&rt, &mut world, &kinds, edits, workers, &NoGate).err();
+        assert!(rt; fault == Some(Fault::BadCount));
+        expect_untouched(&rt, alloc, &world)?;
+        let mut world = world_of(alloc, &ROW, &[], &[WAITING])?;
+        let fault = crew_run(&rt, alloc, &mut world, &kinds, edits, 6, workers, &NoGate).err();
+        assert!(rt; fault == Some(Fault::BadCount));
+        expect_untouched(&rt, alloc, &world)?;
+    }
+    Ok(())
+}
+
+/// A broken world refuses ticks and stays as it is. A wrong number of workers is judged before.
+#[test]
+fn a_broken_world_refuses(rt: HostRuntime) -> Result<(), Fail> {
+    let alloc = rt.alloc();
+    let mut world = world_of(alloc, &ROW, &[], &[WAITING])?;
+    let (edits, kinds) = edits_and_kinds(alloc, 1, &world, W, 1)?;
+    world.give_up();
+    let edits = edits.as_slice();
+    for workers in [1, 4, 8] {
+        let (ticked, ran) = broken_refusals(
+            &rt, alloc, &mut world, &kinds, edits, workers, &NoGate,
+        )?;
+        assert!(rt; ticked == Some(Fault::Broken));
+        assert!(rt; ran == Some(Fault::Broken));
+    }
+    for workers in [0, 9] {
+        let (ticked, ran) = broken_refusals(
+            &rt, alloc, &mut world, &kinds, edits, workers, &NoGate,
+        )?;
+        assert!(rt; ticked == Some(Fault::BadCount));
+        assert!(rt; ran == Some(Fault::BadCount));
+    }
+    expect_untouched(&rt, alloc, &world)?;
+    Ok(())
+}
+
+/// Ticks without parts start no thread, and a million of them are soon over.
+#[test]
+fn idle_ticks_are_soon_over(rt: HostRuntime) -> Result<(), Fail> {
+    let alloc = rt.alloc();
+    let after = flat_crew_ran(&rt, alloc, &ROW, "", 1000000, 8, &NoGate)?;
+    assert_eq!(rt; after.count, 0);
+    let entry = Entry {
+        pos: Pos { x: 8, y: 64, z: 8 },
+        due: 1000000,
+        priority: 0,
+    };
+    let world = world_of(alloc, &ROW, &[], &[entry])?;
+    let (edits, kinds) = edits_and_kinds(alloc, 1, &world, "", 0)?;
+    let edits = edits.as_slice();
+    let after = crew_ran(&rt, alloc, world, &kinds, edits, 1000000, 8, &NoGate)?;
+    assert_eq!(rt; after.count, 1);
+    Ok(())
+}
