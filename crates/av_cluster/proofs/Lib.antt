@@ -4,5 +4,6 @@ mod Joinings
 mod Owned
 mod Shares
 mod Sides
+mod CornerLists
 mod Onces
 mod Orders

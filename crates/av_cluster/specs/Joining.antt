@@ -1,5 +1,5 @@
 -- Entries that are joined while their territories are looked at, one section after the other.
-use Rattle.std.specs.Prelude.{◌≡◌, ℕ, ℤ, ◌<◌, ◌&&◌, Bool, if◌then◌else◌, List, length, ◌⊎◌, Option, None, Some, slice_get}
+use Rattle.std.specs.Prelude.{◌≡◌, ℕ, ℤ, ◌<◌, ◌&&◌, Bool, true, false, if◌then◌else◌, List, length, ◌⊎◌, Option, None, Some, slice_get}
 use Rattle.std.specs.Ordering.{int_eq}
 use Rattle.std.specs.Map.{lookup}
 use Rattle.av_types.specs.declared.place.SectionPos.{SectionPos}
@@ -41,6 +41,11 @@ pub record IsTouched (old new : List ℕ) (was is : Owners) (s : SectionPos) (pl
   pub falling : IsFalling new
   pub count : length new ≡ length old
   pub case : ((owner : ℕ) × (was s ≡ Some owner) × AreJoined old new owner place × ((t : SectionPos) → is t ≡ was t)) ⊎ ((was s ≡ None) × (new ≡ old) × ((t : SectionPos) → is t ≡ (if same_key (key_of s) (key_of t) then Some place else was t)))
+
+-- one more section was looked at, if it is there
+abbrev pub IsTouchedIf : Bool → (old new : List ℕ) (was is : Owners) (s : SectionPos) (place : ℕ) → Type 0
+IsTouchedIf true old new was is s place = IsTouched old new was is s place
+IsTouchedIf false old new was is s place = (new ≡ old) × (is ≡ was)
 
 -- what holds of the groups and the owners, where some sections of some places were looked at
 pub record IsNoted (w : World) (entries : List Entry) (ps : List ℕ) (owners : Owners) (IsDone : ℕ → SectionPos → Type 0) : Type 0 where

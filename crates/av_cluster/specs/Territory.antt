@@ -40,3 +40,22 @@ at_side g p south = at_column g p false south ++ at_column g p true south
 
 abbrev pub territory_list : Grid → Pos → List SectionPos
 territory_list g p = at_side g p false ++ at_side g p true
+
+-- ---- The corners of a reach, of those in one section the first one. No public clause cites what follows.
+
+abbrev pub corner_if : Pos → (east south high : Bool) → List Pos
+corner_if p east south high = if is_new high (p.y -ℤ pos 2) (p.y +ℤ pos 1) then corner p east high south ∷ [] else []
+
+abbrev pub column_if : Pos → (east south : Bool) → List Pos
+column_if p east south = if is_new east (p.x -ℤ pos 5) (p.x +ℤ pos 5) then corner_if p east south false ++ corner_if p east south true else []
+
+abbrev pub side_if : Pos → (south : Bool) → List Pos
+side_if p south = if is_new south (p.z -ℤ pos 5) (p.z +ℤ pos 5) then column_if p false south ++ column_if p true south else []
+
+abbrev pub corner_list : Pos → List Pos
+corner_list p = side_if p false ++ side_if p true
+
+-- the sections of these blocks that are there
+abbrev pub sections_there : Grid → List Pos → List SectionPos
+sections_there g [] = []
+sections_there g (c ∷ cs) = one_if (is_here (g (section_of c))) (section_of c) ++ sections_there g cs

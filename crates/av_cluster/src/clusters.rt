@@ -1,5 +1,5 @@
 //! The parts of a tick.
-ghost use Rattle.std.specs.Prelude.{◌≡◌, ◌↔◌, ◌<◌, ◌≤◌, ◌+◌, ◌++◌, ◌∷◌, [], None, Some, ℕ, IsTrue, OnOk, IfOk, IfErr, length, All, map, slice_get, slice_set, slice_index, slice_index_or, vec_len};
+ghost use Rattle.std.specs.Prelude.{◌≡◌, ◌↔◌, ◌<◌, ◌≤◌, ◌+◌, ◌++◌, ◌∷◌, [], None, Some, true, ℕ, IsTrue, OnOk, IfOk, IfErr, length, All, map, slice_get, slice_set, slice_index, slice_index_or, vec_len};
 ghost use Rattle.indexmap.specs.IndexMap.{keys};
 ghost use Rattle.av_types.specs.declared.fault.Fault.TheVariants.{OutOfMemory};
 ghost use Rattle.av_types.specs.declared.tick.Entry.{Entry};
@@ -10,13 +10,15 @@ ghost use Rattle.av_cluster.specs.Forest.{first, IsFalling, AreSame};
 ghost use Rattle.av_cluster.specs.Gathering.{IsGathered, AreAlone};
 ghost use Rattle.av_cluster.specs.Clusters.{parts_of, sections_of, IsGiven, AreBare, AreShared, AreOnce, ArePlanned};
 ghost use Rattle.av_types.specs.declared.place.SectionPos.{SectionPos};
-ghost use Rattle.av_cluster.specs.Joining.{key_of, owner_in, IsTouched, IsNoted, IsBefore, Touches};
+ghost use Rattle.av_types.specs.Places.{section_of};
+ghost use Rattle.av_cluster.specs.Joining.{key_of, owner_in, IsTouchedIf, IsNoted, IsBefore, Touches};
 
 use crate::cluster_part::Cluster;
 use crate::forest::{find, join};
-use crate::territories::territory;
+use crate::territories::corners;
+use av_cells::Cells;
 use av_play::Placed;
-use av_types::{Entry, Fault, SectionPos};
+use av_types::{Entry, Fault, Pos, SectionPos};
 use av_world::World;
 use indexmap::IndexMap;
 use std::alloc::Global;
@@ -34,22 +36,29 @@ fn key(section: SectionPos) -> (i32, i32, i32)
     (section.x, section.y, section.z)
 }
 
-/// Notes that the entry at a place touches a section.
+/// Notes that the entry at a place touches the section of a block of its reach, where that is loaded. A section with an
+/// owner is loaded, and only one without is asked for.
 fn touch(
+    world: &World,
     owners: &mut Owners,
     parents: &mut [usize],
-    section: SectionPos,
+    block: Pos,
     place: usize,
 ) -> Result<(), Fault>
     requires falling { IsFalling parents.old }
     requires place { place < length parents.old }
-    requires owner { (k : ℕ) → owner_in owners.old.entries section ≡ Some k → k < length parents.old }
-    ensures ok { OnOk result (IsTouched parents.old parents.new (owner_in owners.old.entries) (owner_in owners.new.entries) section place) }
+    requires owner { (k : ℕ) → owner_in owners.old.entries (section_of block) ≡ Some k → k < length parents.old }
+    requires loaded { (k : ℕ) → owner_in owners.old.entries (section_of block) ≡ Some k → (blocks world.now).loaded block ≡ true }
+    ensures ok { OnOk result (IsTouchedIf ((blocks world.now).loaded block) parents.old parents.new (owner_in owners.old.entries) (owner_in owners.new.entries) (section_of block) place) }
     ensures fault { IfErr result (λ e. e ≡ OutOfMemory) }
 {
+    let section = block.section();
     if let Some(owner) = owners.get(&key(section)) {
         let owner = *owner;
         join(parents, owner, place);
+        return Ok(());
+    }
+    if !world.loaded(block) {
         return Ok(());
     }
     owners.insert(key(section), place)?;
@@ -70,9 +79,9 @@ fn touch_all(
     ensures ok { OnOk result (IsNoted (blocks world.now) entries.now parents.new (owner_in owners.new.entries) (IsBefore (blocks world.now) entries.now (place + 1))) }
     ensures fault { IfErr result (λ e. e ≡ OutOfMemory) }
 {
-    let sections = territory(world, entries[place].pos);
-    for section in sections.as_slice() {
-        touch(owners, parents, *section, place)?;
+    let corners = corners(entries[place].pos);
+    for corner in corners.as_slice() {
+        touch(world, owners, parents, *corner, place)?;
     }
     Ok(())
 }
@@ -208,7 +217,7 @@ fn owner_of(owners: &Owners, section: SectionPos) -> Option<usize>
 }
 
 /// The section of a key.
-fn section_of(key: (i32, i32, i32)) -> SectionPos
+fn of_key(key: (i32, i32, i32)) -> SectionPos
     ensures { key_of result ≡ key }
 {
     let (x, y, z) = key;
@@ -246,7 +255,7 @@ fn share(owners: &Owners, numbers: &[usize], clusters: &mut Vec<Cluster>) -> Res
 {
     let keys = owners.keys().as_slice();
     for key in keys {
-        give(owners, numbers, section_of(*key), clusters)?;
+        give(owners, numbers, of_key(*key), clusters)?;
     }
     Ok(())
 }

@@ -8,7 +8,9 @@ ghost use Rattle.av_cells.specs.Positions.{IsNearOrigin};
 ghost use Rattle.av_world.specs.Views.{blocks, grid};
 ghost use Rattle.av_play.specs.Parts.{InTerritory};
 ghost use Rattle.av_play.specs.Corners.{corner};
-ghost use Rattle.av_cluster.specs.Territory.{is_new, is_first_there, at_corner, at_column, at_side, IsRising};
+ghost use Rattle.av_types.specs.Places.{section_of};
+ghost use Rattle.av_cells.specs.Grid.{is_here};
+ghost use Rattle.av_cluster.specs.Territory.{is_new, one_if, corner_if, column_if, side_if, corner_list, IsRising};
 
 use arrayvec::ArrayVec;
 use av_cells::Cells;
@@ -82,61 +84,66 @@ fn is_new_z(at: Pos, south: bool) -> bool
     is_new(south, along_z(at, false), along_z(at, true))
 }
 
-/// Whether all three hold.
-fn all_three(a: bool, b: bool, c: bool) -> bool
-    ensures { result ≡ a && b && c }
-{
-    a && (b && c)
-}
-
-/// Whether no corner before this one lies in the same section.
-fn is_first_there(at: Pos, east: bool, high: bool, south: bool) -> bool
-    requires { IsNearOrigin at }
-    ensures { result ≡ is_first_there at east high south }
-{
-    all_three(is_new_x(at, east), is_new_y(at, high), is_new_z(at, south))
-}
-
-/// Appends the section of a corner, if it is loaded, and no corner before lies in it.
-fn add_corner(
-    world: &World,
-    at: Pos,
-    east: bool,
-    south: bool,
-    high: bool,
-    found: &mut ArrayVec<SectionPos, 8>,
-)
+/// Appends a corner, unless one before lies in the same section.
+fn add_corner(at: Pos, east: bool, south: bool, high: bool, corners: &mut ArrayVec<Pos, 8>)
     requires near { IsNearOrigin at }
-    requires room { array_vec_len found.old < 8 }
-    ensures items { found.new.items ≡ found.old.items ++ at_corner (grid world.now) at east south high }
-    ensures len { array_vec_len found.new ≤ array_vec_len found.old + 1 }
+    requires room { array_vec_len corners.old < 8 }
+    ensures items { corners.new.items ≡ corners.old.items ++ corner_if at east south high }
+    ensures len { array_vec_len corners.new ≤ array_vec_len corners.old + 1 }
 {
-    let corner = corner_of(at, east, high, south);
-    if is_first_there(at, east, high, south) && world.loaded(corner) {
-        found.push(corner.section());
+    if is_new_y(at, high) {
+        corners.push(corner_of(at, east, high, south));
     }
 }
 
-/// Appends the sections of two corners above each other.
-fn add_column(world: &World, at: Pos, east: bool, south: bool, found: &mut ArrayVec<SectionPos, 8>)
+/// Appends two corners above each other, unless others before lie in the same sections.
+fn add_column(at: Pos, east: bool, south: bool, corners: &mut ArrayVec<Pos, 8>)
     requires near { IsNearOrigin at }
-    requires room { array_vec_len found.old ≤ 6 }
-    ensures items { found.new.items ≡ found.old.items ++ at_column (grid world.now) at east south }
-    ensures len { array_vec_len found.new ≤ array_vec_len found.old + 2 }
+    requires room { array_vec_len corners.old ≤ 6 }
+    ensures items { corners.new.items ≡ corners.old.items ++ column_if at east south }
+    ensures len { array_vec_len corners.new ≤ array_vec_len corners.old + 2 }
 {
-    add_corner(world, at, east, south, false, found);
-    add_corner(world, at, east, south, true, found);
+    if !is_new_x(at, east) {
+        return;
+    }
+    add_corner(at, east, south, false, corners);
+    add_corner(at, east, south, true, corners);
 }
 
-/// Appends the sections of the four corners of a side.
-fn add_side(world: &World, at: Pos, south: bool, found: &mut ArrayVec<SectionPos, 8>)
+/// Appends the four corners of a side, unless others before lie in the same sections.
+fn add_side(at: Pos, south: bool, corners: &mut ArrayVec<Pos, 8>)
     requires near { IsNearOrigin at }
-    requires room { array_vec_len found.old ≤ 4 }
-    ensures items { found.new.items ≡ found.old.items ++ at_side (grid world.now) at south }
-    ensures len { array_vec_len found.new ≤ array_vec_len found.old + 4 }
+    requires room { array_vec_len corners.old ≤ 4 }
+    ensures items { corners.new.items ≡ corners.old.items ++ side_if at south }
+    ensures len { array_vec_len corners.new ≤ array_vec_len corners.old + 4 }
 {
-    add_column(world, at, false, south, found);
-    add_column(world, at, true, south, found);
+    if !is_new_z(at, south) {
+        return;
+    }
+    add_column(at, false, south, corners);
+    add_column(at, true, south, corners);
+}
+
+/// The corners of a block's reach, one in each section, by z, then by x, then by y.
+pub(crate) fn corners(at: Pos) -> ArrayVec<Pos, 8>
+    requires { IsNearOrigin at }
+    ensures { result.items ≡ corner_list at }
+{
+    let mut corners = ArrayVec::new();
+    add_side(at, false, &mut corners);
+    add_side(at, true, &mut corners);
+    corners
+}
+
+/// Appends the section of a block, where that is loaded.
+fn add_loaded(world: &World, block: Pos, found: &mut ArrayVec<SectionPos, 8>)
+    requires { array_vec_len found.old < 8 }
+    ensures items { found.new.items ≡ found.old.items ++ one_if (is_here (grid world.now (section_of block))) (section_of block) }
+    ensures len { array_vec_len found.new ≤ array_vec_len found.old + 1 }
+{
+    if world.loaded(block) {
+        found.push(block.section());
+    }
 }
 
 /// The territory of a loaded block: the loaded sections that a turn of it may read or change, by z, then by x, then
@@ -146,8 +153,10 @@ pub fn territory(world: &World, at: Pos) -> ArrayVec<SectionPos, 8>
     ensures exact { (s : SectionPos) → Contains result.items s ↔ InTerritory (blocks world.now) at s }
     ensures order { IsRising result.items }
 {
+    let corners = corners(at);
     let mut found = ArrayVec::new();
-    add_side(world, at, false, &mut found);
-    add_side(world, at, true, &mut found);
+    for corner in corners.as_slice() {
+        add_loaded(world, *corner, &mut found);
+    }
     found
 }

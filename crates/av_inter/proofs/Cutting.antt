@@ -6,7 +6,7 @@ use Rattle.av_types.specs.declared.place.SectionPos.{SectionPos}
 use Rattle.av_cells.specs.Positions.{same_section}
 use Rattle.av_cells.specs.Grid.{Grid, is_here, among, only, without, over}
 use Rattle.av_world.specs.OutOf.{IsPartOf}
-use Rattle.av_world.specs.Views.{grid, lists, IsSamePlaces}
+use Rattle.av_world.specs.Views.{grid, lists, site, IsSamePlaces}
 use Rattle.av_world.specs.ParcelViews.{kept_grid, aside, blocks as parcel_blocks, lists as parcel_lists}
 use Rattle.av_world.specs.declared.worlds.World.{World}
 use Rattle.av_world.specs.declared.parcels.Parcel.{Parcel}
@@ -30,6 +30,10 @@ among_at (s ∷ ss) (suc k) d h = either (same_section (slice_index_or ss k d) s
   either : (b c : Bool) → c ≡ true → cond b true c ≡ true
   either true c e = refl
   either false c e = e
+
+-- the same height and chunks
+pub same_places : (v w : World) → IsSamePlaces v w → site w ≡ site v
+same_places v w s = λ i. record { height = Some (s.height i); chunks = (s.positions i).items; broken = s.broken i }
 
 pub part_in_same : (v w : World) (p : Parcel) → IsSamePlaces v w → IsPartOf v.height v.positions.items (lists v) (parcel_blocks p) (parcel_lists p) → IsPartOf w.height w.positions.items (lists w) (parcel_blocks p) (parcel_lists p)
 part_in_same v w p s i =

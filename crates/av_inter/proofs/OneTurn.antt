@@ -10,6 +10,7 @@ use Rattle.av_types.specs.declared.place.SectionPos.{SectionPos}
 use Rattle.av_types.specs.declared.place.Height.{Height}
 use Rattle.av_types.specs.declared.tick.Entry.{Entry}
 use Rattle.av_types.specs.declared.tick.Made.{Made}
+use Rattle.av_types.proofs.SamePlaces.{same_pos_is}
 use Rattle.av_ticks.specs.Entries.{is_pending}
 use Rattle.av_cells.specs.declared.kind.Kind.{Kind}
 use Rattle.av_cells.specs.Positions.{InReach, same_pos}
@@ -17,7 +18,7 @@ use Rattle.av_cells.specs.World.{World, Lists, listed_if, listed_all}
 use Rattle.av_cells.specs.Grid.{among}
 use Rattle.av_cells.specs.Turn.{Change, turn}
 use Rattle.av_water.specs.Frame.{Agree, Same, Kept, InLoadedReach}
-use Rattle.av_water.proofs.Inside.{turn_kept, turn_made, same_pos_is}
+use Rattle.av_water.proofs.Inside.{turn_kept, turn_made}
 use Rattle.av_world.specs.OutOf.{IsPartOf}
 use Rattle.av_world.proofs.Tied.{tied_added}
 use Rattle.av_world.proofs.Grids.{same_pos_true}

@@ -7,7 +7,7 @@ use Rattle.av_play.specs.declared.event.Stage.TheVariants.{Waits, Held}
 use Rattle.av_play.specs.declared.event.Event.{Event}
 use Rattle.av_play.specs.declared.event.Event.TheVariants.{Take, Turn, Back}
 use Rattle.av_play.specs.Parts.{part_at}
-use Rattle.av_play.specs.Play.{State, AllBack}
+use Rattle.av_play.specs.Play.{State, AllBack, HoldsEntry}
 use Rattle.av_inter.specs.declared.refused.Refused.{Refused}
 use Rattle.av_inter.specs.declared.refused.Refused.TheVariants.{NotWaiting, NotHolder, NoEntry, NotDone, NoMemory}
 
@@ -16,12 +16,12 @@ abbrev pub done_by : ℕ → Option Stage → Option ℕ
 done_by worker (Some (Held holder done)) = if nat_eq holder worker then Some done else None
 done_by worker _ = None
 
--- Memory may be refused to a turn alone. Every other refusal says why the event is not lawful.
+-- Memory may be refused to a lawful turn alone. Every other refusal says why the event is not lawful.
 abbrev pub IsRefusal : List (List Placed) → State → Event → Refused → Type 0
 IsRefusal parts s (Take worker n) NotWaiting = ¬ (slice_get s.stages n ≡ Some Waits)
 IsRefusal parts s (Turn worker n) NotHolder = (done : ℕ) → ¬ (slice_get s.stages n ≡ Some (Held worker done))
 IsRefusal parts s (Turn worker n) NoEntry = (done : ℕ) × (slice_get s.stages n ≡ Some (Held worker done)) × (slice_get (part_at parts n) done ≡ None)
-IsRefusal parts s (Turn worker n) NoMemory = Unit {0}
+IsRefusal parts s (Turn worker n) NoMemory = HoldsEntry parts s worker n
 IsRefusal parts s (Back worker n) NotHolder = (done : ℕ) → ¬ (slice_get s.stages n ≡ Some (Held worker done))
 IsRefusal parts s (Back worker n) NotDone = (done : ℕ) × (slice_get s.stages n ≡ Some (Held worker done)) × (¬ (done ≡ length (part_at parts n)))
 IsRefusal parts s event refused = ⊥

@@ -4,7 +4,8 @@ use Rattle.av_cells.specs.Kinds.{kinds_of}
 use Rattle.av_cells.specs.declared.kind.Kind.{Kind}
 use Rattle.av_play.specs.declared.event.Placed.{Placed}
 use Rattle.av_play.specs.Play.{State}
-use Rattle.av_world.specs.Views.{blocks, lists}
+use Rattle.av_cells.specs.World.{Site}
+use Rattle.av_world.specs.Views.{blocks, lists, site}
 use Rattle.av_cluster.specs.Clusters.{parts_of}
 use Rattle.av_inter.specs.Out.{outs}
 use Rattle.av_inter.specs.Whole.{whole}
@@ -25,8 +26,13 @@ kinds_in c = kinds_of c.kinds.now
 abbrev pub now_in : Core → ℕ
 now_in c = c.now
 
--- the same parts, kinds and tick
+-- the height, the chunks, and whether it is broken, of the world that the core was made from
+abbrev pub site_in : Core → Site
+site_in c = site c.world
+
+-- the same parts, kinds, tick and chunks
 pub record IsSameTick (old new : Core) : Type 0 where
   pub parts : parts_in new ≡ parts_in old
   pub kinds : kinds_in new ≡ kinds_in old
   pub now : now_in new ≡ now_in old
+  pub same_site : site_in new ≡ site_in old

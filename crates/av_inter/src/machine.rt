@@ -107,7 +107,7 @@ impl<'a> Core<'a> {
     ///
     /// # Errors
     /// `NotWaiting`, `NotHolder`, `NoEntry` or `NotDone` where the event is not lawful, as each of them says, and
-    /// `NoMemory` where memory is refused to a turn. Nothing changes then.
+    /// `NoMemory` where memory is refused to a lawful turn. Nothing changes then.
     pub fn step(&mut self, event: Event) -> Result<(), Refused>
         ensures ok { OnOk result (state_of self.new ≡ after (kinds_in self.old) (now_in self.old) (parts_in self.old) (state_of self.old) event) }
         ensures lawful { OnOk result (IsLawful (parts_in self.old) (state_of self.old) event) }

@@ -37,7 +37,7 @@ impl<'a> Core<'a> {
     ghost use Rattle.av_play.specs.Play.{start, outcome, AllBack};
     ghost use Rattle.av_inter.specs.Refusals.{IsUnfinished};
     ghost use Rattle.av_inter.specs.Starting.{outcome_of};
-    ghost use Rattle.av_inter.specs.Views.{state_of, parts_in, kinds_in, now_in, IsSameTick};
+    ghost use Rattle.av_inter.specs.Views.{state_of, parts_in, kinds_in, now_in, site_in, IsSameTick};
 
     /// The start of tick `now`: nothing is put aside, and every part waits. The world is one whose due entries have
     /// left their lists, and the parts are the plan of those entries.
@@ -58,6 +58,7 @@ impl<'a> Core<'a> {
         ensures parts { IfOk result (λ core. parts_in core ≡ parts_of clusters.items) }
         ensures kinds { IfOk result (λ core. kinds_in core ≡ kinds_of kinds.now) }
         ensures now { IfOk result (λ core. now_in core ≡ now) }
+        ensures site { IfOk result (λ core. site_in core ≡ site world) }
         ensures fault { IfErr result (λ e. e.0 ≡ OutOfMemory) }
         ensures back { IfErr result (λ e. SameWorld world e.1) }
     {
@@ -92,6 +93,7 @@ impl<'a> Core<'a> {
     /// `NotDone` where a part is not back, and `NoMemory`. Then the core comes back as it was.
     pub fn finish(self) -> Result<World, (Refused, Core<'a>)>
         ensures ok { IfOk result (λ world. outcome_of world ≡ outcome (state_of self.entry)) }
+        ensures site { IfOk result (λ world. site world ≡ site_in self.entry) }
         ensures done { OnOk result (AllBack (state_of self.entry)) }
         ensures refused { IfErr result (λ e. IsUnfinished (state_of self.entry) e.0) }
         ensures unchanged { IfErr result (λ e. state_of e.1 ≡ state_of self.entry) }

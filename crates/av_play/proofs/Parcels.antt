@@ -120,7 +120,7 @@ module _ (k : ℕ → Kind) (now : ℕ) (g : Grid) (parts : List (List Placed)) 
   loaded_same : (q : Pos) → is_here (h (section_of q)) ≡ is_here (g (section_of q))
   loaded_same q = stable_test _ _ (λ differ. differ (ap is_here (m.others (section_of q) (λ n c. differ (ap is_here (m.mended n (section_of q) c) ∙ here n q c)))))
 
-  pub mended_alone : IsAsAlone k now (cells_of g) parts part_of (part_at parts) (cells_of h) made
+  pub mended_alone : IsAsAlone section_of k now (cells_of g) parts part_of (part_at parts) (cells_of h) made
   mended_alone =
       record {
         loaded = λ i q. loaded_same q i;
@@ -140,4 +140,4 @@ module _ (k : ℕ → Kind) (now : ℕ) (g : Grid) (parts : List (List Placed)) 
 pub mended_whole : (g : Grid) (entries : List Entry) (parts : List (List Placed)) (plan : IsPlan (cells_of g) entries parts) (k : ℕ → Kind) (now : ℕ) (picks : ℕ → SectionPos → Bool) (parcels : ℕ → Grid) (h : Grid) (made : List Made)
     → AreMended k now g parts plan.part_of picks parcels h made → (lists : Lists) → gathered (cells_of h) lists made ≡ in_order k now entries (cells_of g) lists
 mended_whole g entries parts plan k now picks parcels h made m =
-    gathers_whole (cells_of g) entries parts plan k now (cells_of h) made (mended_alone k now g parts plan.part_of picks parcels h made m)
+    gathers_whole section_of (cells_of g) entries parts plan k now (cells_of h) made (mended_alone k now g parts plan.part_of picks parcels h made m)

@@ -60,10 +60,10 @@ module _ (g : Grid) (entries : List Entry) (parts : List (List Placed)) (plan : 
   turns : (n : ℕ) → SameTurns k now (IsSeen (picks n) g) (cells_of (only (picks n) g)) w (part_at parts n)
   turns n = part_turns k now g (part_at parts n) (picks n) (λ s. (m.exact n s).1)
 
-  serial : IsAsAlone k now w parts plan.part_of (part_at parts) (world_after k now all w) (made_after k now all w)
-  serial = alone_after w entries parts plan k now
+  serial : IsAsAlone section_of k now w parts plan.part_of (part_at parts) (world_after k now all w) (made_after k now all w)
+  serial = alone_after section_of w entries parts plan k now
 
-  v_alone : IsAsAlone k now w parts plan.part_of (part_at parts) v made
+  v_alone : IsAsAlone section_of k now w parts plan.part_of (part_at parts) v made
   v_alone =
       record {
         loaded = λ i q. m.same_loaded q i;
@@ -81,14 +81,14 @@ module _ (g : Grid) (entries : List Entry) (parts : List (List Placed)) (plan : 
       }
 
   list : ordered made_order made ≡ made_after k now all w
-  list = merged w entries parts plan k now v made v_alone
+  list = merged section_of w entries parts plan k now v made v_alone
 
   pub settled_new : AreNew h (entries_of (ordered made_order made))
   settled_new = new_where h w _ m.same_pending (subst (λ ms. AreNew w (entries_of ms)) (sym list) (turns_fresh k now all w))
 
   pub settled_whole : (lists : Lists) → appended h lists (entries_of (ordered made_order made)) ≡ in_order k now entries w lists
   settled_whole lists =
-      let same : v ≡ world_after k now all w = whole_world w entries parts plan k now v made v_alone in
+      let same : v ≡ world_after k now all w = whole_world section_of w entries parts plan k now v made v_alone in
       (λ i. record {
         world = record {
           loaded = (same i).loaded;

@@ -1,67 +1,28 @@
--- The entries of a tick in parts: two entries are in one part if a chain of entries links them, each sharing a section with the next.
-use Rattle.std.specs.Prelude.{◌≡◌, ℕ, zero, suc, ◌<◌, nat_eq, IsTrue, ◌↔◌, List, [], ◌∷◌}
-use Rattle.std.specs.List.{Contains, filter}
+-- The entries of a tick in parts, where the sections are those of chunks, 16 blocks along each axis.
+use Rattle.std.specs.Prelude.{List}
 use Rattle.av_types.specs.declared.place.Pos.{Pos}
 use Rattle.av_types.specs.declared.place.SectionPos.{SectionPos}
 use Rattle.av_types.specs.declared.tick.Entry.{Entry}
 use Rattle.av_types.specs.Places.{section_of}
-use Rattle.av_cells.specs.Positions.{InReach}
 use Rattle.av_play.specs.declared.event.Placed.{Placed}
 use Rattle.av_cells.specs.World.{World}
+use Rattle.av_play.specs.Partition as divided
+pub use Rattle.av_play.specs.Partition.{numbered, part_at, BeginsBefore, HasEntry, count_of}
 
--- entries with their places, counted from n
-abbrev pub numbered : ℕ → List Entry → List Placed
-numbered n [] = []
-numbered n (e ∷ es) = record { place = n; entry = e } ∷ numbered (suc n) es
+abbrev pub InTerritory : World → Pos → SectionPos → Type 0
+InTerritory = divided.InTerritory section_of
 
--- the section has a loaded block in the reach of p
-pub record InTerritory (w : World) (p : Pos) (s : SectionPos) : Type 0 where
-  pub block : Pos
-  pub in_reach : InReach p block
-  pub loaded : IsTrue (w.loaded block)
-  pub lies : section_of block ≡ s
+abbrev pub ShareSection : World → Pos → Pos → Type 0
+ShareSection = divided.ShareSection section_of
 
--- a section lies in both territories
-pub record ShareSection (w : World) (p q : Pos) : Type 0 where
-  pub section : SectionPos
-  pub first : InTerritory w p section
-  pub second : InTerritory w q section
-
--- a chain of entries of the tick from a to b, each sharing a section with the next
 abbrev pub IsChain : World → List Placed → Placed → List Placed → Placed → Type 0
-IsChain w all a [] b = ShareSection w a.entry.pos b.entry.pos
-IsChain w all a (c ∷ cs) b = Contains all c × ShareSection w a.entry.pos c.entry.pos × IsChain w all c cs b
+IsChain = divided.IsChain section_of
 
-pub record AreLinked (w : World) (all : List Placed) (a b : Placed) : Type 0 where
-  pub between : List Placed
-  pub links : IsChain w all a between b
+abbrev pub AreLinked : World → List Placed → Placed → Placed → Type 0
+AreLinked = divided.AreLinked section_of
 
--- the n-th part; one that is not there has no entry
-abbrev pub part_at : List (List Placed) → ℕ → List Placed
-part_at [] n = []
-part_at (p ∷ ps) zero = p
-part_at (p ∷ ps) (suc n) = part_at ps n
+abbrev pub IsPlan : World → List Entry → List (List Placed) → Type 0
+IsPlan = divided.IsPlan section_of
 
--- both have an entry, and the first entry of the one stands before that of the other
-abbrev pub BeginsBefore : List Placed → List Placed → Type 0
-BeginsBefore (x ∷ xs) (y ∷ ys) = x.place < y.place
-BeginsBefore xs ys = ⊥
-
-abbrev pub HasEntry : List Placed → Type 0
-HasEntry [] = ⊥
-HasEntry (x ∷ xs) = Unit {0}
-
-abbrev pub count_of : List (List Placed) → ℕ
-count_of [] = zero
-count_of (p ∷ ps) = suc (count_of ps)
-
--- the plan of a tick's entries
-pub record IsPlan (w : World) (entries : List Entry) (parts : List (List Placed)) : Type 0 where
-  -- the number of the part of each entry, by its place in the tick
-  pub part_of : ℕ → ℕ
-  -- a part is its entries, in the tick's order, and each entry is in one
-  pub each : (n : ℕ) → part_at parts n ≡ filter (λ x. nat_eq (part_of x.place) n) (numbered 0 entries)
-  pub together : (a b : Placed) → Contains (numbered 0 entries) a → Contains (numbered 0 entries) b → (part_of a.place ≡ part_of b.place) ↔ AreLinked w (numbered 0 entries) a b
-  -- no part is empty, and they stand in the order of their first entries
-  pub nonempty : (n : ℕ) → n < count_of parts → HasEntry (part_at parts n)
-  pub in_order : (m n : ℕ) → m < n → n < count_of parts → BeginsBefore (part_at parts m) (part_at parts n)
+abbrev pub IsOfPart : World → List Placed → SectionPos → Type 0
+IsOfPart = divided.IsOfPart section_of

@@ -8,26 +8,29 @@ ghost use Rattle.av_types.specs.declared.tick.Made.{Made};
 ghost use Rattle.av_cells.specs.declared.kind.Kind.{Kind};
 ghost use Rattle.av_cells.specs.World.{World, Lists};
 ghost use Rattle.av_cells.specs.Grid.{Grid, cells_of, is_here, only, over};
-ghost use Rattle.av_water.specs.Frame.{Commute};
+ghost use Rattle.av_land.specs.Land.{Land, cells_of as land_cells};
+ghost use Rattle.av_land.specs.Tick.{Set, ticked};
 ghost use Rattle.av_play.specs.declared.event.Placed.{Placed};
 ghost use Rattle.av_play.specs.declared.event.Event.{Event};
-ghost use Rattle.av_play.specs.Parts.{InTerritory, ShareSection, IsPlan, numbered, part_at};
+ghost use Rattle.av_play.specs.Partition as divided;
+ghost use Rattle.av_play.specs.Parts.{InTerritory, IsPlan, numbered, part_at};
+ghost use Rattle.av_play.specs.Ticks.{opened, due_in, outcome_of};
 ghost use Rattle.av_play.specs.Play.{start, AreLawful, play, AllBack, CanEnd, outcome, gathered, in_order, turn_of, world_after, made_after, entries_of};
 ghost use Rattle.av_play.specs.Corners.{HasCorner};
 ghost use Rattle.av_play.specs.Joined.{joined, empty, AreCarved, IsTurned};
 ghost use Rattle.av_play.specs.Labels.{AreLabelled};
 ghost use Rattle.av_play.specs.Groups.{AreFirst, rank, grouped};
-ghost use Rattle.av_play.specs.Laws.{IsOfPart, IsAsAlone, IsAfter};
+ghost use Rattle.av_play.specs.Laws.{IsOfPart, EntriesCommute, IsAsAlone, IsAfter};
 ghost use Rattle.av_play.specs.Parcels.{AreMended, AreSettled, IsPutBack};
 ghost use Rattle.av_play.specs.Waiting.{is_among, AreNew, appended};
 ghost use Rattle.av_cells.specs.Turn.{turn};
 ghost use Rattle.av_ticks.specs.Entries.{made_order};
 ghost use Rattle.av_ticks.specs.Order.{ordered};
 
-/// Turns of two blocks whose territories share no section commute: in either order they leave the same blocks, and
-/// each makes the same entries.
-pub fn unshared_turns_commute()
-    ensures { (k : ℕ → Kind) (now : ℕ) (p q : Pos) (w : World) → ¬ ShareSection w p q → Commute k now p q w }
+/// Entries whose territories share no section commute: turned in either order they leave the same blocks, and each puts
+/// the same aside, under its own place. The sections are any division of the blocks.
+pub fn unshared_entries_commute<S>()
+    ensures { (division : Pos → S) (k : ℕ → Kind) (now : ℕ) (x y : Placed) (w : World) → ¬ divided.ShareSection division w x.entry.pos y.entry.pos → EntriesCommute k now x y w }
 {}
 
 /// A section is in the territory of a block exactly if it is there and one of the eight corners of the reach lies in it.
@@ -36,26 +39,27 @@ pub fn territory_has_a_corner()
 {}
 
 /// No section lies in the territories of two parts.
-pub fn parts_share_no_section()
-    ensures { (w : World) (entries : List Entry) (parts : List (List Placed)) → IsPlan w entries parts
-        → (m n : ℕ) (s : SectionPos) → ¬ (m ≡ n) → IsOfPart w (part_at parts m) s → IsOfPart w (part_at parts n) s → ⊥ }
+pub fn parts_share_no_section<S>()
+    ensures { (division : Pos → S) (w : World) (entries : List Entry) (parts : List (List Placed)) → divided.IsPlan division w entries parts
+        → (m n : ℕ) (s : S) → ¬ (m ≡ n) → divided.IsOfPart division w (part_at parts m) s → divided.IsOfPart division w (part_at parts n) s → ⊥ }
 {}
 
-/// After every list of lawful events each part's sections are as its own turned entries alone would leave them, all
-/// other blocks and the chunks' lists are as at the start, and what was put aside is what those entries alone make.
-pub fn parts_are_as_alone()
-    ensures { (w : World) (entries : List Entry) (parts : List (List Placed)) (plan : IsPlan w entries parts)
+/// After every list of lawful events no section lies in the territories of two held parts. Each part's sections are as
+/// its own turned entries alone would leave them, all other blocks and the chunks' lists are as at the start, and what
+/// was put aside is what those entries alone make. The sections are any division of the blocks.
+pub fn parts_are_as_alone<S>()
+    ensures { (division : Pos → S) (w : World) (entries : List Entry) (parts : List (List Placed)) (plan : divided.IsPlan division w entries parts)
         → (k : ℕ → Kind) (now : ℕ) (lists : Lists) (events : List Event)
         → AreLawful k now parts (start w lists parts) events
-        → IsAfter k now w lists parts plan.part_of (play k now parts (start w lists parts) events) }
+        → IsAfter division k now w lists parts plan.part_of (play k now parts (start w lists parts) events) }
 {}
 
 /// Where each part's sections are as all its entries alone leave them, the world is the one that the entries leave
 /// one after the other, and what was put aside is, by maker and number, what they make.
-pub fn parts_alone_give_the_whole()
-    ensures { (w : World) (entries : List Entry) (parts : List (List Placed)) (plan : IsPlan w entries parts)
+pub fn parts_alone_give_the_whole<S>()
+    ensures { (division : Pos → S) (w : World) (entries : List Entry) (parts : List (List Placed)) (plan : divided.IsPlan division w entries parts)
         → (k : ℕ → Kind) (now : ℕ) (v : World) (made : List Made)
-        → IsAsAlone k now w parts plan.part_of (part_at parts) v made
+        → IsAsAlone division k now w parts plan.part_of (part_at parts) v made
         → (lists : Lists) → gathered v lists made ≡ in_order k now entries w lists }
 {}
 
@@ -64,13 +68,23 @@ pub fn every_tick_can_be_played()
     ensures { (k : ℕ → Kind) (now : ℕ) (parts : List (List Placed)) (w : World) (lists : Lists) → CanEnd k now parts (start w lists parts) }
 {}
 
-/// Every list of lawful events that brings all parts back gives the tick of one thread.
-pub fn every_play_gives_the_tick()
-    ensures { (w : World) (entries : List Entry) (parts : List (List Placed)) → IsPlan w entries parts
+/// Every list of lawful events that brings all parts back leaves what the entries leave, turned one after the other.
+pub fn every_play_gives_the_whole<S>()
+    ensures { (division : Pos → S) (w : World) (entries : List Entry) (parts : List (List Placed)) → divided.IsPlan division w entries parts
         → (k : ℕ → Kind) (now : ℕ) (lists : Lists) (events : List Event)
         → AreLawful k now parts (start w lists parts) events
         → AllBack (play k now parts (start w lists parts) events)
         → outcome (play k now parts (start w lists parts) events) ≡ in_order k now entries w lists }
+{}
+
+/// From the world after the tick's edits, its due entries taken out, every list of lawful events that brings all parts
+/// of the plan back gives the world of the tick. The sections are any division of the blocks.
+pub fn every_play_gives_the_tick<S>()
+    ensures { (division : Pos → S) (k : ℕ → Kind) (now : ℕ) (edits : List (Set ℕ)) (w : Land ℕ) (parts : List (List Placed))
+        → divided.IsPlan division (land_cells (opened k now edits w)) (due_in k now edits w) parts → (events : List Event)
+        → AreLawful k now parts (start (land_cells (opened k now edits w)) (opened k now edits w).lists parts) events
+        → AllBack (play k now parts (start (land_cells (opened k now edits w)) (opened k now edits w).lists parts) events)
+        → outcome (play k now parts (start (land_cells (opened k now edits w)) (opened k now edits w).lists parts) events) ≡ outcome_of (ticked k now edits w) }
 {}
 
 /// Entries that are turned on some sections alone, among which are their territories, and put back over the other

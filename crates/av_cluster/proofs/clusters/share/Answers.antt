@@ -18,13 +18,13 @@ loop-key-preserved c =
     let i = c.loop-key.invariant in
     record {
       parts = c.in_ok-give.ensures.parts ∙ i.parts;
-      shared = shared_more (owner_in c.args.owners.now.entries) c.args.numbers.now (take c.loop-key.key-index c.as_slice-keys.result.now) c.section_of.result (sections_of c.loop-key.clusters.items) (sections_of c.give.new.clusters.items) i.shared _
-          (taken_more c.as_slice-keys.result.now c.loop-key.key-index _ c.loop-key-test.true ∙ ap (λ k. take c.loop-key.key-index c.as_slice-keys.result.now ++ k ∷ []) (sym c.section_of.ensures))
-          (λ k e. part_inside c.loop-key.clusters.items (parts_of c.args.clusters.now.items) (get_or c.args.numbers.now k 0) i.parts (c.requires.numbers k (c.requires.owners c.section_of.result k e)))
+      shared = shared_more (owner_in c.args.owners.now.entries) c.args.numbers.now (take c.loop-key.key-index c.as_slice-keys.result.now) c.of_key.result (sections_of c.loop-key.clusters.items) (sections_of c.give.new.clusters.items) i.shared _
+          (taken_more c.as_slice-keys.result.now c.loop-key.key-index _ c.loop-key-test.true ∙ ap (λ k. take c.loop-key.key-index c.as_slice-keys.result.now ++ k ∷ []) (sym c.of_key.ensures))
+          (λ k e. part_inside c.loop-key.clusters.items (parts_of c.args.clusters.now.items) (get_or c.args.numbers.now k 0) i.parts (c.requires.numbers k (c.requires.owners c.of_key.result k e)))
           c.in_ok-give.ensures.sections;
-      once = once_more (owner_in c.args.owners.now.entries) c.args.numbers.now (take c.loop-key.key-index c.as_slice-keys.result.now) c.section_of.result (sections_of c.loop-key.clusters.items) (sections_of c.give.new.clusters.items) i.shared i.once
-          (λ k. key_fresh c.as_slice-keys.result.now (subst (IsDistinct same_key) (sym (c.as_slice-keys.ensures ∙ c.keys.ensures.rest)) c.keys.ensures.unique) c.loop-key.key-index _ c.loop-key-test.true (subst (Contains (take c.loop-key.key-index c.as_slice-keys.result.now)) c.section_of.ensures k))
-          (λ k e. part_inside c.loop-key.clusters.items (parts_of c.args.clusters.now.items) (get_or c.args.numbers.now k 0) i.parts (c.requires.numbers k (c.requires.owners c.section_of.result k e)))
+      once = once_more (owner_in c.args.owners.now.entries) c.args.numbers.now (take c.loop-key.key-index c.as_slice-keys.result.now) c.of_key.result (sections_of c.loop-key.clusters.items) (sections_of c.give.new.clusters.items) i.shared i.once
+          (λ k. key_fresh c.as_slice-keys.result.now (subst (IsDistinct same_key) (sym (c.as_slice-keys.ensures ∙ c.keys.ensures.rest)) c.keys.ensures.unique) c.loop-key.key-index _ c.loop-key-test.true (subst (Contains (take c.loop-key.key-index c.as_slice-keys.result.now)) c.of_key.ensures k))
+          (λ k e. part_inside c.loop-key.clusters.items (parts_of c.args.clusters.now.items) (get_or c.args.numbers.now k 0) i.parts (c.requires.numbers k (c.requires.owners c.of_key.result k e)))
           c.in_ok-give.ensures.sections;
     }
 

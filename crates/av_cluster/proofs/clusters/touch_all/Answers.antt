@@ -1,21 +1,32 @@
-use Rattle.std.proofs.Common.{arith}
-use Rattle.av_world.specs.Views.{blocks}
-use Rattle.av_cluster.proofs.Joinings.{within_none, within_more, within_end, touches_at, taken_more, owner_inside}
+use Rattle.std.proofs.Common.{arith, ◌∙◌}
+use Rattle.av_world.specs.Near.{cells_near}
+use Rattle.av_world.specs.Views.{blocks, grid}
+use Rattle.av_cluster.proofs.Joinings.{within_none, taken_more, owner_inside}
+use Rattle.av_cluster.proofs.CornerLists.{corner_noted, corners_noted, item_of, owned_is_there}
 use Rattle.av_cluster.proofs.clusters.touch_all.Goals as goal
 
-pub loop-section-init : goal.loop-section-init
-loop-section-init c = within_none _ _ _ _ _ c.requires.noted
+pub corners-corners-requires : goal.corners-corners-requires
+corners-corners-requires c = let w = c.args.world.now in cells_near w.height w.positions.items w.chunks.items w.lawful _ (c.requires.loaded c.args.place _ c.requires.place)
+
+pub loop-corner-init : goal.loop-corner-init
+loop-corner-init c = within_none _ _ _ _ _ c.requires.noted
 
 pub touch-requires-clause-owner : goal.touch-requires-clause-owner
-touch-requires-clause-owner c = owner_inside _ _ _ _ _ c.loop-section.invariant _
+touch-requires-clause-owner c = owner_inside _ _ _ _ _ c.loop-corner.invariant _
 
-pub loop-section-preserved : goal.loop-section-preserved
-loop-section-preserved c =
-    within_more _ _ _ _ _ _ _ _ _ _ (taken_more c.as_slice-section-items.result.now c.loop-section.section-index _ c.loop-section-test.true) c.loop-section.invariant
-    (touches_at (blocks c.args.world.now) c.args.entries.now c.args.place _ c.requires.place c.as_slice-section-items.result.now _ c.as_slice-section-items.ensures.value c.territory-sections.ensures.exact c.loop-section.section-index c.loop-section-test.true _)
+pub touch-requires-clause-loaded : goal.touch-requires-clause-loaded
+touch-requires-clause-loaded c = owned_is_there (grid c.args.world.now) _ _ _ _ c.loop-corner.invariant _
+
+pub loop-corner-preserved : goal.loop-corner-preserved
+loop-corner-preserved c =
+    corner_noted (grid c.args.world.now) c.args.entries.now c.args.place _ c.requires.place _ _ _ _ _ _ _
+    (taken_more c.as_slice-corner-items.result.now c.loop-corner.corner-index _ c.loop-corner-test.true)
+    (item_of c.as_slice-corner-items.result.now _ (c.as_slice-corner-items.ensures.value ∙ c.corners-corners.ensures) c.loop-corner.corner-index c.loop-corner-test.true _)
+    c.loop-corner.invariant
     c.in_ok-touch.ensures.ok
 
 pub returns-clause-ok : goal.returns-clause-ok
 returns-clause-ok c =
-    within_end _ _ _ _ _ _ c.requires.place c.as_slice-section-items.result.now _ c.as_slice-section-items.ensures.value c.territory-sections.ensures.exact c.loop-section.section-index
-    (let a = c.loop-section-test.false in let b = c.loop-section.auto.section-index-end in omega arith) c.loop-section.invariant
+    corners_noted (grid c.args.world.now) c.args.entries.now c.args.place _ c.requires.place _ _ c.as_slice-corner-items.result.now
+    (c.as_slice-corner-items.ensures.value ∙ c.corners-corners.ensures) c.loop-corner.corner-index
+    (let a = c.loop-corner-test.false in let b = c.loop-corner.auto.corner-index-end in omega arith) c.loop-corner.invariant

@@ -2,4 +2,4 @@ use Rattle.av_play.proofs.Interleaving.{gathers_whole}
 use Rattle.av_play.proofs.laws.parts_alone_give_the_whole.Goals as goal
 
 pub returns : goal.returns
-returns c = gathers_whole
+returns s c = gathers_whole

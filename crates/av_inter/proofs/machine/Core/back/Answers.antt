@@ -7,6 +7,7 @@ use Rattle.av_inter.specs.Out.{Out, out_in, outs}
 use Rattle.av_inter.specs.Whole.{whole}
 use Rattle.av_inter.specs.Lawful.{IsCore}
 use Rattle.av_inter.proofs.Holding.{held_by, slot_out, outs_set, inside_parcels}
+use Rattle.av_inter.proofs.Cutting.{same_places}
 use Rattle.av_inter.proofs.Homing.{core_moved, slot_of_world, after_back}
 use Rattle.av_inter.proofs.Starting.{blank_cells}
 use Rattle.av_inter.proofs.machine.Core.back.Goals as goal
@@ -60,3 +61,6 @@ returns-clause-ok c =
       made = s.made.items;
       stages = slice_set s.stages.items n Ended;
     }
+
+pub returns-clause-same : goal.returns-clause-same
+returns-clause-same c = record { parts = refl; kinds = refl; now = refl; same_site = same_places _ _ c.mend_one.ensures.same }

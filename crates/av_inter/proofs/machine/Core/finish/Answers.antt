@@ -1,4 +1,4 @@
-use Rattle.std.proofs.Common.{◌≡◌, ◌∙◌, sym, ap, subst, List, All, append-nil}
+use Rattle.std.proofs.Common.{◌≡◌, ◌∙◌, refl, sym, ap, subst, List, All, append-nil}
 use Rattle.std.proofs.lemmas.Bool.{true≢false}
 use Rattle.av_types.specs.declared.tick.Made.{Made}
 use Rattle.av_rules.specs.Kinds.{kind_count}
@@ -70,3 +70,9 @@ returns-clause-ok c =
       world = (c.in-Ok-append.ensures.blocks ∙ appended_is (blocks s.world) s.made.items c.as_slice-2.result.now merged ∙ sym (rest_is (kind_count s.kinds.now) (height_of s.world) (positions_of s.world) (lists s.world) (blocks s.world) (sections_of s.clusters.items) (parts_of s.clusters.items) s.stages.items (outs s.parcels.items) s.made.items s.lawful (λ q. s.world.lawful.tied q) ended)) i;
       lists = (c.in-Ok-append.ensures.lists ∙ ap (listed_all (lists s.world)) (ap entries_made merged ∙ entries_are (ordered made_order s.made.items))) i;
     }
+
+pub returns-clause-site : goal.returns-clause-site
+returns-clause-site c = c.append.ensures.site
+
+pub returns-in-Err-clause-same : goal.returns-in-Err-clause-same
+returns-in-Err-clause-same c = record { parts = refl; kinds = refl; now = refl; same_site = c.append.ensures.site }

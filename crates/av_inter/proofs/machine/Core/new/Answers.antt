@@ -12,7 +12,7 @@ use Rattle.av_cluster.specs.Clusters.{parts_of, sections_of}
 use Rattle.av_inter.specs.Out.{outs}
 use Rattle.av_inter.specs.Cut.{CanCut, AreCut}
 use Rattle.av_inter.specs.Lawful.{IsCore}
-use Rattle.av_inter.proofs.Cutting.{parts_of_cut}
+use Rattle.av_inter.proofs.Cutting.{parts_of_cut, same_places}
 use Rattle.av_inter.proofs.Starting.{can_cut, start_is, start_core, all_wait_is}
 use Rattle.av_inter.proofs.machine.Core.new.Goals as goal
 
@@ -74,3 +74,6 @@ returns-clause-start c =
       made = c.new.ensures.items i;
       stages = waits i;
     }
+
+pub returns-clause-site : goal.returns-clause-site
+returns-clause-site c = same_places _ _ c.carve_all.ensures.same

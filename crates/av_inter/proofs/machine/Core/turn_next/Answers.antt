@@ -67,6 +67,17 @@ invariant_of-self-in-Ok c =
       unbroken = s.unbroken;
     }
 
+pub returns-in-Err-clause-refused : goal.returns-in-Err-clause-refused
+returns-in-Err-clause-refused c =
+    let s = c.args.self.now in
+    let n = c.args.part in
+    record {
+      done = c.in-Some.done;
+      next = c.in-Some-entry_after.next;
+      held = ap (λ l. slice_get l n) (sym c.as_slice.ensures.value) ∙ held_by c.args.worker (slice_get c.as_slice.result.now n) c.in-Some.done (sym c.in-Some.ensures.done);
+      left = ap (λ l. slice_get (part_at (parts_of l) n) c.in-Some.done) (sym c.as_slice-2.ensures.value) ∙ sym c.in-Some-entry_after.ensures.entry;
+    }
+
 pub returns-in-Err-clause-unchanged : goal.returns-in-Err-clause-unchanged
 returns-in-Err-clause-unchanged c =
     let s = c.args.self.now in
