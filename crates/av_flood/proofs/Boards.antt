@@ -9,11 +9,10 @@ use Rattle.av_types.specs.declared.place.Pos.{Pos}
 use Rattle.av_types.specs.declared.place.ChunkPos.{ChunkPos}
 use Rattle.av_types.specs.declared.place.Height.{Height}
 use Rattle.av_types.specs.Division.{divided}
-use Rattle.av_types.specs.Places.{chunk_of, section_of}
-use Rattle.av_types.specs.declared.place.SectionPos.{SectionPos}
+use Rattle.av_types.specs.Places.{chunk_of}
 use Rattle.av_flood.specs.Offsets.{is_within, offset, IsNth, IsBeyond}
 use Rattle.av_flood.specs.Board.{corner, is_on, index_of, IsOff, IsPlace}
-use Rattle.av_flood.specs.Blocks.{IsNear, IsInner, IsNearOrigin, IsNearColumn, IsNearSection, spot, first_block, column_at, section_at}
+use Rattle.av_flood.specs.Blocks.{IsNear, IsInner, IsNearOrigin, column_at}
 use Rattle.av_flood.specs.Flooding.{same_pos, Matters, IsNearAlong}
 use Rattle.av_flood.proofs.Same.{same_pos_is, same_pos_self}
 
@@ -154,14 +153,14 @@ pub on_board : (c : ChunkPos) (h : Height) (n : ℕ) (p : Pos) → n ≤ 15 → 
 on_board c h n p most m near =
     let k = corner c h in
     and_both (is_within k.x 44 p.x && is_within k.z 44 p.z) (is_within k.y (16 * h.sections) p.y)
-    (and_both (is_within k.x 44 p.x) (is_within k.z 44 p.z) (along (pos 16 *ℤ c.x) p.x m.along_x) (along (pos 16 *ℤ c.z) p.z m.along_z))
+    (and_both (is_within k.x 44 p.x) (is_within k.z 44 p.z) (along (pos 16 *ℤ c.x) p.x m.over_x (let l = m.less in omega arith) m.along_x) (along (pos 16 *ℤ c.z) p.z m.over_z (let l = m.less in omega arith) m.along_z))
     (between k.y p.y (16 * h.sections) near.low near.high)
   where
     between : (from x : ℤ) (size : ℕ) → from ≤ℤ x → x <ℤ (from +ℤ pos size) → is_within from size x ≡ true
     between from x size l g = and_both (int_le from x) (int_lt x (from +ℤ pos size)) (grind (arith, ints)) (grind (arith, ints))
 
-    along : (from x : ℤ) → IsNearAlong from n x → is_within (from -ℤ pos 14) 44 x ≡ true
-    along from x a = let l = a.low in let g = a.high in between (from -ℤ pos 14) x 44 (omega (arith, ints)) (omega (arith, ints))
+    along : (from x : ℤ) (k : ℕ) → k ≤ 14 → IsNearAlong from k x → is_within (from -ℤ pos 14) 44 x ≡ true
+    along from x k few a = let l = a.low in let g = a.high in between (from -ℤ pos 14) x 44 (omega (arith, ints)) (omega (arith, ints))
 
 pub inner_near : (h : Height) (p : Pos) → IsNear h p → IsInner p
 inner_near h p near =
@@ -183,20 +182,7 @@ quotient (negsuc n) = record { low = omega (arith, ints); high = omega (arith, i
 between : (from x : ℤ) (size : ℕ) → from ≤ℤ x → x <ℤ (from +ℤ pos size) → is_within from size x ≡ true
 between from x size l g = and_both (int_le from x) (int_lt x (from +ℤ pos size)) (grind (arith, ints)) (grind (arith, ints))
 
-in_sixteen : (x q : ℤ) → divided x 16 ≡ q → is_within (pos 16 *ℤ q) 16 x ≡ true
-in_sixteen x q e = subst (λ r. is_within (pos 16 *ℤ r) 16 x ≡ true) e (let i = quotient x in between (pos 16 *ℤ divided x 16) x 16 i.low i.high)
-
--- what holds of each spot of a section holds of each of its blocks
-pub at_spot : (s : SectionPos) (P : Pos → Type 0) → ((y : ℕ) → y < 16 → (z : ℕ) → z < 16 → (x : ℕ) → x < 16 → P (spot (first_block s) x y z)) → (p : Pos) → section_of p ≡ s → P p
-at_spot s P all p e =
-    let k = first_block s in
-    let x = in_sixteen p.x s.x (ap (λ t. t.x) e) in
-    let y = in_sixteen p.y s.y (ap (λ t. t.y) e) in
-    let z = in_sixteen p.z s.z (ap (λ t. t.z) e) in
-    subst P (λ i. record { x = sym (offset_back k.x p.x 16 x) i; y = sym (offset_back k.y p.y 16 y) i; z = sym (offset_back k.z p.z 16 z) i })
-    (all (offset (p.y -ℤ k.y)) (offset_below k.y p.y 16 y) (offset (p.z -ℤ k.z)) (offset_below k.z p.z 16 z) (offset (p.x -ℤ k.x)) (offset_below k.x p.x 16 x))
-
--- which of the three chunks along an axis, and which section from the lowest
+-- which of the three chunks along an axis
 record IsNumber (from : ℤ) (size : ℕ) (q : ℤ) (n : ℕ) : Type 0 where
   less : n < size
   is : q ≡ from +ℤ pos n
@@ -206,36 +192,21 @@ number_of from q size l g =
     let w = between from q size l g in
     (offset (q -ℤ from), record { less = offset_below from q size w; is = offset_back from q size w })
 
-near_three : (x c : ℤ) (n : ℕ) → n ≤ 15 → IsNearAlong (pos 16 *ℤ c) n x → (m : ℕ) × IsNumber (c -ℤ pos 1) 3 (divided x 16) m
+near_three : (x c : ℤ) (n : ℕ) → n ≤ 14 → IsNearAlong (pos 16 *ℤ c) n x → (m : ℕ) × IsNumber (c -ℤ pos 1) 3 (divided x 16) m
 near_three x c n most a =
     let i = quotient x in let il = i.low in let ih = i.high in let l = a.low in let h = a.high in
     number_of (c -ℤ pos 1) (divided x 16) 3 (omega (arith, ints)) (omega (arith, ints))
 
-section_in : (y : ℤ) (h : Height) → (pos 16 *ℤ h.min_section) ≤ℤ y → y <ℤ (pos 16 *ℤ h.min_section +ℤ pos (16 * h.sections)) → (m : ℕ) × IsNumber h.min_section h.sections (divided y 16) m
-section_in y h low high = let i = quotient y in let il = i.low in let ih = i.high in number_of h.min_section (divided y 16) h.sections (omega (arith, ints)) (omega (arith, ints))
-
--- what holds of the blocks of the nine chunks' sections holds wherever light matters
-pub at_section : (c : ChunkPos) (h : Height) (n : ℕ) (P : Pos → Type 0) (p : Pos) → n ≤ 15 → Matters c n p → IsNear h p
-    → ((k : ℕ) → k < 9 → (m : ℕ) → m < h.sections → section_of p ≡ section_at (column_at c k) h m → P p) → P p
-at_section c h n P p most m near all =
-    let x = near_three p.x c.x n most m.along_x in
-    let z = near_three p.z c.z n most m.along_z in
-    let y = section_in p.y h near.low near.high in
+-- what holds of the blocks of the nine chunks holds wherever light matters
+pub at_column : (c : ChunkPos) (n : ℕ) (P : Pos → Type 0) (p : Pos) → n ≤ 15 → Matters c n p → ((k : ℕ) → k < 9 → chunk_of p ≡ column_at c k → P p) → P p
+at_column c n P p most m all =
+    let x = near_three p.x c.x m.over_x (let l = m.less in omega arith) m.along_x in
+    let z = near_three p.z c.z m.over_z (let l = m.less in omega arith) m.along_z in
     let xl = x.1.less in let zl = z.1.less in
     let k = 3 * z.0 + x.0 in
     let e : x.0 ≡ k % 3 = omega arith in
     let f : z.0 ≡ k / 3 = omega arith in
-    all k (omega arith) y.0 y.1.less (λ i. record { x = (x.1.is ∙ ap (λ a. c.x -ℤ pos 1 +ℤ pos a) e) i; y = y.1.is i; z = (z.1.is ∙ ap (λ a. c.z -ℤ pos 1 +ℤ pos a) f) i })
-
-pub near_column : (c : ChunkPos) (k : ℕ) → negsuc 1920030 ≤ℤ c.x → c.x ≤ℤ pos 1920031 → negsuc 1920030 ≤ℤ c.z → c.z ≤ℤ pos 1920031 → k < 9 → (d : ChunkPos) → d ≡ column_at c k → IsNearColumn d
-near_column c k west east north south less d e =
-    let x : k % 3 < 3 = omega arith in let z : k / 3 < 3 = omega arith in
-    subst IsNearColumn (sym e) (record { west = omega (arith, ints); east = omega (arith, ints); north = omega (arith, ints); south = omega (arith, ints) })
-
-pub near_section : (c : ChunkPos) (h : Height) (k : ℕ) → k < h.sections → IsNearColumn c → (s : SectionPos) → s ≡ section_at c h k → IsNearSection s
-near_section c h k less near s e =
-    let i = h.lowest in let j = h.highest in
-    subst IsNearSection (sym e) (record { west = near.west; east = near.east; low = omega (arith, ints); high = omega (arith, ints); north = near.north; south = near.south })
+    all k (omega arith) (λ i. record { x = (x.1.is ∙ ap (λ a. c.x -ℤ pos 1 +ℤ pos a) e) i; z = (z.1.is ∙ ap (λ a. c.z -ℤ pos 1 +ℤ pos a) f) i })
 
 -- a loaded block's chunk is one in which loaded blocks can lie
 near_end : (x : ℤ) → negsuc 30719999 ≤ℤ x → negsuc 1920030 ≤ℤ divided x 16
@@ -250,9 +221,8 @@ pub near_chunk : (h : Height) (p : Pos) → IsNear h p → IsNearOrigin (chunk_o
 near_chunk h p near = record { west = near_end p.x near.west; east = far_end p.x near.east; north = near_end p.z near.north; south = far_end p.z near.south }
 
 -- the chunk's own blocks
-near_own : (x c : ℤ) → divided x 16 ≡ c → IsNearAlong (pos 16 *ℤ c) 1 x
-near_own (pos n) c e = subst (λ d. IsNearAlong (pos 16 *ℤ d) 1 (pos n)) e (record { low = omega (arith, ints); high = omega (arith, ints) })
-near_own (negsuc n) c e = subst (λ d. IsNearAlong (pos 16 *ℤ d) 1 (negsuc n)) e (record { low = omega (arith, ints); high = omega (arith, ints) })
+near_own : (x c : ℤ) → divided x 16 ≡ c → IsNearAlong (pos 16 *ℤ c) 0 x
+near_own x c e = subst (λ d. IsNearAlong (pos 16 *ℤ d) 0 x) e (let i = quotient x in let l = i.low in let h = i.high in record { low = omega (arith, ints); high = omega (arith, ints) })
 
 pub matters_own : (c : ChunkPos) (p : Pos) → chunk_of p ≡ c → Matters c 1 p
-matters_own c p e = record { along_x = near_own p.x c.x (ap (λ d. d.x) e); along_z = near_own p.z c.z (ap (λ d. d.z) e) }
+matters_own c p e = record { over_x = 0; over_z = 0; less = omega arith; along_x = near_own p.x c.x (ap (λ d. d.x) e); along_z = near_own p.z c.z (ap (λ d. d.z) e) }

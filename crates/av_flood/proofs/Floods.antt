@@ -253,8 +253,8 @@ IsFlooding-started t c lit todo dark h =
       low = h.low;
     }
 
-pub IsReady-quiet : (t : Terrain) (c : ChunkPos) (todo : Levels) (p : Pos) → (IsTrue (t.loaded p) → t.emission p ≡ 0) → IsReady t c todo p
-IsReady-quiet t c todo p quiet = record { ready = λ l g m. let e = quiet l in absurd (omega arith) }
+pub IsReady-known : (t : Terrain) (c : ChunkPos) (todo : Levels) (p : Pos) → (0 < t.emission p → IsReady t c todo p) → IsReady t c todo p
+IsReady-known t c todo p known = record { ready = λ l e m. (known e).ready l e m }
 
 -- marks
 pub Has-same : (lit lit' : Pos → ℕ) (todo : Levels) (p : Pos) (n : ℕ) → ((q : Pos) → lit' q ≡ lit q) → Has lit todo p n → Has lit' todo p n

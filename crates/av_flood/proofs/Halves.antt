@@ -1,10 +1,10 @@
 -- Half bytes of light.
-use Rattle.std.proofs.Common.{◌≡◌, ℕ, ℤ, pos, ◌+◌, ◌-◌, ◌*◌, ◌/◌, ◌%◌, ◌<◌, ◌≤◌, ⊎_elim, ◌+ℤ◌, ◌*ℤ◌, Bool, true, false, cond, suc, zero, List, [], ◌∷◌, ◌++◌, length, get_or, drop, replicate, refl, sym, ap, ◌∙◌, subst, arith}
-use Rattle.std.specs.Prelude.{nat_le, count_by, All, slice_range, ◌==◌}
+use Rattle.std.proofs.Common.{◌≡◌, ℕ, ℤ, pos, ◌+◌, ◌-◌, ◌*◌, ◌/◌, ◌%◌, ◌<◌, ◌≤◌, ⊎_elim, ◌+ℤ◌, ◌*ℤ◌, Bool, true, false, cond, suc, zero, List, [], ◌∷◌, ◌++◌, length, get_or, take, drop, replicate, Result, Ok, Err, refl, sym, ap, ◌∙◌, subst, arith}
+use Rattle.std.specs.Prelude.{nat_le, count_by, All, slice_range, ◌==◌, OnOk}
 use Rattle.std.proofs.lemmas.Int.{ints}
 use Rattle.std.proofs.lemmas.Bool.{cases_lt}
 use Rattle.std.proofs.lemmas.Bool.Decides.{nat_tests}
-use Rattle.std.proofs.lemmas.List.{get_or-take, get_or-drop}
+use Rattle.std.proofs.lemmas.List.{get_or-take, get_or-drop, length-append, length-replicate}
 use Rattle.std.proofs.lemmas.List.Elements.{All-take, All-drop}
 use Rattle.std.proofs.lemmas.List.Sums.{sum_by-cons}
 use Rattle.av_types.specs.declared.place.ChunkPos.{ChunkPos}
@@ -65,18 +65,49 @@ pub HasLightSoFar-none : (light : ℕ → ℕ) (bytes : List ℕ) → length byt
 HasLightSoFar-none light bytes e = record { halves = λ j less. absurd (omega arith) }
 
 -- bytes of 0 where all is dark
-get_or-zeros : (n i : ℕ) → get_or (replicate {A = ℕ} n 0) i 0 ≡ 0
+pub get_or-zeros : (n i : ℕ) → get_or (replicate {A = ℕ} n 0) i 0 ≡ 0
 get_or-zeros zero i = refl
 get_or-zeros (suc n) zero = refl
 get_or-zeros (suc n) (suc i) = get_or-zeros n i
 
-pub HasLightSoFar-dark : (light : ℕ → ℕ) (n : ℕ) → ((j : ℕ) → light j ≡ 0) → HasLightSoFar light (replicate {A = ℕ} n 0)
-HasLightSoFar-dark light n dark =
+get_or-append_zeros : (xs : List ℕ) (n i : ℕ) → length xs ≤ i → get_or (xs ++ replicate {A = ℕ} n 0) i 0 ≡ 0
+get_or-append_zeros [] n i l = get_or-zeros n i
+get_or-append_zeros (x ∷ xs) n zero l = absurd (omega arith)
+get_or-append_zeros (x ∷ xs) n (suc i) l = get_or-append_zeros xs n i (omega arith)
+
+length-zeros : (xs : List ℕ) (n : ℕ) → length (xs ++ replicate {A = ℕ} n 0) ≡ length xs + n
+length-zeros xs n = simp (length-append, length-replicate)
+
+pub HasLightSoFar-dark : (light : ℕ → ℕ) (bytes : List ℕ) (n : ℕ) → HasLightSoFar light bytes → ((j : ℕ) → 2 * length bytes ≤ j → j < 2 * length bytes + 2 * n → light j ≡ 0) → HasLightSoFar light (bytes ++ replicate {A = ℕ} n 0)
+HasLightSoFar-dark light bytes n h dark =
     record {
-      halves = λ j less. by_halves (λ i. nibble_at (replicate {A = ℕ} n 0) i ≡ light i) j
-          (low_half (replicate {A = ℕ} n 0) (j / 2) ∙ ap (λ m. m % 16) (get_or-zeros n (j / 2)) ∙ sym (dark (2 * (j / 2))))
-          (high_half (replicate {A = ℕ} n 0) (j / 2) ∙ ap (λ m. m / 16) (get_or-zeros n (j / 2)) ∙ sym (dark (2 * (j / 2) + 1)));
+      halves = λ j less. by_halves (λ i. nibble_at new i ≡ light i) j
+          (⊎_elim (λ l. low_half new (j / 2) ∙ ap (λ m. m % 16) (get_or-append_left bytes (replicate {A = ℕ} n 0) (j / 2) l) ∙ sym (low_half bytes (j / 2)) ∙ h.halves (2 * (j / 2)) (omega arith))
+          (λ l. low_half new (j / 2) ∙ ap (λ m. m % 16) (get_or-append_zeros bytes n (j / 2) l) ∙ sym (dark (2 * (j / 2)) (omega arith) (omega (arith, length-zeros bytes n))))
+          (cases_lt (j / 2) (length bytes)))
+          (⊎_elim (λ l. high_half new (j / 2) ∙ ap (λ m. m / 16) (get_or-append_left bytes (replicate {A = ℕ} n 0) (j / 2) l) ∙ sym (high_half bytes (j / 2)) ∙ h.halves (2 * (j / 2) + 1) (omega arith))
+          (λ l. high_half new (j / 2) ∙ ap (λ m. m / 16) (get_or-append_zeros bytes n (j / 2) l) ∙ sym (dark (2 * (j / 2) + 1) (omega arith) (omega (arith, length-zeros bytes n))))
+          (cases_lt (j / 2) (length bytes)));
     }
+  where
+    new : List ℕ
+    new = bytes ++ replicate {A = ℕ} n 0
+
+take_whole : (xs : List ℕ) (n : ℕ) → length xs ≤ n → take n xs ≡ xs
+take_whole [] zero l = refl
+take_whole [] (suc n) l = refl
+take_whole (x ∷ xs) zero l = absurd (omega arith)
+take_whole (x ∷ xs) (suc n) l = ap (λ ys. x ∷ ys) (take_whole xs n (omega arith))
+
+pub HasLightSoFar-resized : (light : ℕ → ℕ) (old new : List ℕ) (n m : ℕ) → new ≡ take n old ++ replicate (n - m) 0 → m ≡ length old → n ≡ m + 2048
+    → HasLightSoFar light old → ((j : ℕ) → 2 * m ≤ j → j < 2 * m + 4096 → light j ≡ 0) → HasLightSoFar light new
+HasLightSoFar-resized light old new n m e is long h dark =
+    subst (HasLightSoFar light) (sym (e ∙ ap (λ xs. xs ++ replicate (n - m) 0) (take_whole old n (omega arith))))
+    (HasLightSoFar-dark light old (n - m) h (λ j low high. dark j (omega arith) (omega arith)))
+
+pub on_ok : {T E : Type 0} {A B : Type 0} (r : Result T E) → (A → B) → OnOk r A → OnOk r B
+on_ok (Ok t) f h = f h
+on_ok (Err e) f h = tt
 
 -- none of a list is settled
 pub none_settled : (xs : List ℕ) → count_by (λ n. nat_le 128 n) xs ≡ 0 → (i : ℕ) → get_or xs i 0 < 128
@@ -112,7 +143,7 @@ parts_z y z x l m = let e : (256 * y + 16 * z + x) / 16 ≡ 16 * y + z = omega a
 nth : (from : ℤ) (size n : ℕ) (x : ℤ) → n < size → x ≡ from +ℤ pos n → IsNth from size x n
 nth from size n x l e = record { less = l; is = e }
 
-own_place : (c : ChunkPos) (h : Height) (y z x : ℕ) → y < 16 * h.sections → z < 16 → x < 16 → IsPlace c h (own_block c h (256 * y + 16 * z + x)) (44 * (44 * y + (z + 14)) + (x + 14))
+pub own_place : (c : ChunkPos) (h : Height) (y z x : ℕ) → y < 16 * h.sections → z < 16 → x < 16 → IsPlace c h (own_block c h (256 * y + 16 * z + x)) (44 * (44 * y + (z + 14)) + (x + 14))
 own_place c h y z x yl zl xl =
     let p = own_block c h (256 * y + 16 * z + x) in
     let ex = parts_x y z x zl xl in let ey = parts_y y z x zl xl in let ez = parts_z y z x zl xl in

@@ -4,3 +4,4 @@ pub mod Same
 pub mod Floods
 pub mod Boards
 pub mod Halves
+pub mod Quiet

@@ -6,14 +6,14 @@ use Rattle.av_types.specs.declared.place.ChunkPos.{ChunkPos}
 use Rattle.av_flood.specs.Light.{Terrain, IsAdjacent, sides, cost, costs, IsPath, last_of, light_along, HasLight, IsLight}
 use Rattle.av_flood.specs.Flooding.{Matters, IsNearAlong}
 
--- a step moves each coordinate by 1 at most
+-- a step moves a coordinate by 1 at most
 record IsNext (a b : ℤ) : Type 0 where
   below : a ≤ℤ (b +ℤ pos 1)
   above : b ≤ℤ (a +ℤ pos 1)
 
-record AreNext (p q : Pos) : Type 0 where
-  along_x : IsNext p.x q.x
-  along_z : IsNext p.z q.z
+-- and one of them alone
+abbrev AreNext : Pos → Pos → Type 0
+AreNext p q = (IsNext p.x q.x × (p.z ≡ q.z)) ⊎ ((p.x ≡ q.x) × IsNext p.z q.z)
 
 next_same : (a b : ℤ) → a ≡ b → IsNext a b
 next_same a b e = record { below = omega (arith, ints); above = omega (arith, ints) }
@@ -25,30 +25,44 @@ next_more : (a b : ℤ) → a +ℤ pos 1 ≡ b → IsNext a b
 next_more a b e = record { below = omega (arith, ints); above = omega (arith, ints) }
 
 next_at : (p q : Pos) (k : ℕ) → k < 6 → get_or (sides p) k q ≡ q → AreNext p q
-next_at p q zero l e = record { along_x = next_same _ _ (ap (λ r. r.x) e); along_z = next_same _ _ (ap (λ r. r.z) e) }
-next_at p q (suc zero) l e = record { along_x = next_same _ _ (ap (λ r. r.x) e); along_z = next_same _ _ (ap (λ r. r.z) e) }
-next_at p q (suc (suc zero)) l e = record { along_x = next_same _ _ (ap (λ r. r.x) e); along_z = next_less _ _ (ap (λ r. r.z) e) }
-next_at p q (suc (suc (suc zero))) l e = record { along_x = next_same _ _ (ap (λ r. r.x) e); along_z = next_more _ _ (ap (λ r. r.z) e) }
-next_at p q (suc (suc (suc (suc zero)))) l e = record { along_x = next_less _ _ (ap (λ r. r.x) e); along_z = next_same _ _ (ap (λ r. r.z) e) }
-next_at p q (suc (suc (suc (suc (suc zero))))) l e = record { along_x = next_more _ _ (ap (λ r. r.x) e); along_z = next_same _ _ (ap (λ r. r.z) e) }
+next_at p q zero l e = inr (ap (λ r. r.x) e, next_same _ _ (ap (λ r. r.z) e))
+next_at p q (suc zero) l e = inr (ap (λ r. r.x) e, next_same _ _ (ap (λ r. r.z) e))
+next_at p q (suc (suc zero)) l e = inr (ap (λ r. r.x) e, next_less _ _ (ap (λ r. r.z) e))
+next_at p q (suc (suc (suc zero))) l e = inr (ap (λ r. r.x) e, next_more _ _ (ap (λ r. r.z) e))
+next_at p q (suc (suc (suc (suc zero)))) l e = inl (next_less _ _ (ap (λ r. r.x) e), ap (λ r. r.z) e)
+next_at p q (suc (suc (suc (suc (suc zero))))) l e = inl (next_more _ _ (ap (λ r. r.x) e), ap (λ r. r.z) e)
 next_at p q (suc (suc (suc (suc (suc (suc k)))))) l e = absurd (omega arith)
 
 adjacent_next : (p q : Pos) → IsAdjacent p q → AreNext p q
 adjacent_next p q a = next_at p q a.0 a.1 a.2
 
-near_before : (from : ℤ) (n m : ℕ) (x y : ℤ) → IsNext x y → n < m → IsNearAlong from n y → IsNearAlong from m x
-near_before from n m x y s l h = let a = s.below in let b = s.above in let c = h.low in let d = h.high in record { low = omega (arith, ints); high = omega (arith, ints) }
+near_before : (from : ℤ) (n : ℕ) (x y : ℤ) → IsNext x y → IsNearAlong from n y → IsNearAlong from (n + 1) x
+near_before from n x y s h = let a = s.below in let b = s.above in let c = h.low in let d = h.high in record { low = omega (arith, ints); high = omega (arith, ints) }
+
+near_same : (from : ℤ) (n : ℕ) (x y : ℤ) → x ≡ y → IsNearAlong from n y → IsNearAlong from n x
+near_same from n x y e h = subst (IsNearAlong from n) (sym e) h
 
 -- where light comes from matters if where it comes to does
 pub Matters-before : (c : ChunkPos) (n m : ℕ) (p q : Pos) → IsAdjacent q p → n < m → Matters c n p → Matters c m q
-Matters-before c n m p q a l h =
-    let s = adjacent_next q p a in
-    record { along_x = near_before _ _ _ _ _ s.along_x l h.along_x; along_z = near_before _ _ _ _ _ s.along_z l h.along_z }
+Matters-before c n m p q a l h = on (adjacent_next q p a) where
+  on : AreNext q p → Matters c m q
+  on (inl s) = record {
+    over_x = h.over_x + 1;
+    over_z = h.over_z;
+    less = let k = h.less in omega arith;
+    along_x = near_before _ _ _ _ s.0 h.along_x;
+    along_z = near_same _ _ _ _ s.1 h.along_z;
+  }
+  on (inr s) = record {
+    over_x = h.over_x;
+    over_z = h.over_z + 1;
+    less = let k = h.less in omega arith;
+    along_x = near_same _ _ _ _ s.0 h.along_x;
+    along_z = near_before _ _ _ _ s.1 h.along_z;
+  }
 
 pub Matters-more : (c : ChunkPos) (n m : ℕ) (p : Pos) → n ≤ m → Matters c n p → Matters c m p
-Matters-more c n m p l h = record { along_x = more l h.along_x; along_z = more l h.along_z } where
-  more : {from : ℤ} {n m : ℕ} {x : ℤ} → n ≤ m → IsNearAlong from n x → IsNearAlong from m x
-  more l h = let c = h.low in let d = h.high in record { low = omega (arith, ints); high = omega (arith, ints) }
+Matters-more c n m p l h = record { over_x = h.over_x; over_z = h.over_z; less = let k = h.less in omega arith; along_x = h.along_x; along_z = h.along_z }
 
 -- one block more at the end of a path
 IsPath-more : (g : Terrain) (c : Pos) (ps : List Pos) (p q : Pos) → IsPath g c ps → last_of c ps ≡ p → IsAdjacent p q → IsTrue (g.loaded q) → IsPath g c (ps ++ q ∷ [])

@@ -1,5 +1,5 @@
 -- Working definitions: a flood from the brightest level down. No public clause cites them.
-use Rattle.std.specs.Prelude.{ℤ, ◌≡◌, ℕ, ◌+◌, ◌≤◌, ◌<◌, pos, ◌+ℤ◌, ◌*ℤ◌, ◌<ℤ◌, List, [], ◌∷◌, Bool, IsTrue, Contains, ◌⊎◌, if◌then◌else◌, ◌&&◌, ◌++◌, ◌≢◌, map, length, slice_index_or}
+use Rattle.std.specs.Prelude.{ℤ, ◌≡◌, ℕ, ◌+◌, ◌≤◌, ◌<◌, pos, ◌+ℤ◌, ◌*ℤ◌, ◌≤ℤ◌, List, [], ◌∷◌, Bool, IsTrue, Contains, ◌⊎◌, if◌then◌else◌, ◌&&◌, ◌++◌, ◌≢◌, map, length, slice_index_or}
 use Rattle.av_flood.specs.declared.buckets.Buckets.{Buckets}
 use Rattle.std.specs.Ordering.{int_eq}
 use Rattle.av_types.specs.declared.place.Pos.{Pos}
@@ -10,15 +10,18 @@ use Rattle.av_flood.specs.Light.{Terrain, IsAdjacent, cost, HasLight}
 abbrev pub same_pos : Pos → Pos → Bool
 same_pos p q = int_eq p.x q.x && int_eq p.y q.y && int_eq p.z q.z
 
--- a coordinate is less than n from the chunk's sixteen
+-- a coordinate is at most n from the chunk's sixteen
 pub record IsNearAlong (from : ℤ) (n : ℕ) (x : ℤ) : Type 0 where
-  pub low : from <ℤ (x +ℤ pos n)
-  pub high : x <ℤ (from +ℤ pos 15 +ℤ pos n)
+  pub low : from ≤ℤ (x +ℤ pos n)
+  pub high : x ≤ℤ (from +ℤ pos 15 +ℤ pos n)
 
--- light of level n at p may come to the chunk: p is less than n blocks from it along x and along z
+-- light of level n at p may come to the chunk: it is fewer than n steps to it, those along x and those along z
 pub record Matters (c : ChunkPos) (n : ℕ) (p : Pos) : Type 0 where
-  pub along_x : IsNearAlong (pos 16 *ℤ c.x) n p.x
-  pub along_z : IsNearAlong (pos 16 *ℤ c.z) n p.z
+  pub over_x : ℕ
+  pub over_z : ℕ
+  pub less : (over_x + over_z) < n
+  pub along_x : IsNearAlong (pos 16 *ℤ c.x) over_x p.x
+  pub along_z : IsNearAlong (pos 16 *ℤ c.z) over_z p.z
 
 -- the lists of blocks to which light of each level comes
 abbrev pub Levels : Type 0

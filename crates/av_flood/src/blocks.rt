@@ -1,14 +1,14 @@
 //! What a flood reads of a world.
-ghost use Rattle.std.specs.Prelude.{◌≡◌, ◌≤◌, ◌<◌, IsTrue, MatchOption, false};
-ghost use Rattle.av_types.specs.Places.{section_of};
+ghost use Rattle.std.specs.Prelude.{◌≡◌, ◌≤◌, List, IsTrue, MatchOption, false};
 ghost use Rattle.av_flood.specs.Light.{Terrain, cost};
 ghost use Rattle.av_flood.specs.Blocks.{IsNear};
 
-use av_types::{Height, Pos, SectionPos};
+use av_types::{ChunkPos, Height, Pos};
 
 /// Blocks as light sees them. Each is loaded or not, and gives and takes light.
 pub trait Blocks {
     ghost use Rattle.av_types.specs.declared.place.Pos.{Pos};
+    ghost use Rattle.av_types.specs.declared.place.ChunkPos.{ChunkPos};
     ghost use Rattle.av_types.specs.declared.place.Height.{Height};
 
     ghost terrain: { Self → Terrain };
@@ -29,9 +29,11 @@ pub trait Blocks {
         ensures { MatchOption result ((terrain self.now).loaded pos ≡ false)
             (λ n. IsTrue ((terrain self.now).loaded pos) × (n ≡ (terrain self.now).emission pos)) };
 
-    /// Whether no block of a section gives light, as far as a quick look tells. It may say no of any section.
-    fn is_dark(&self, section: SectionPos) -> bool
-        ensures { IsTrue result → (p : Pos) → section_of p ≡ section → IsTrue ((terrain self.now).loaded p) → (terrain self.now).emission p ≡ 0 };
+    ghost lamps: { Self → ChunkPos → List Pos };
+
+    /// Blocks of a chunk, among them those that give light, as far as they are known.
+    fn lamps(&self, chunk: ChunkPos) -> &[Pos]
+        ensures { result.now ≡ lamps self.now chunk };
 
     /// A loaded block lies in the height and within the limits of regions.
     ghost near: { (b : Self) (p : Pos) → IsTrue ((terrain b).loaded p) → IsNear (tall b) p };

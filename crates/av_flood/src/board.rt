@@ -1,9 +1,11 @@
 //! The board of a flood: blocks with their light.
-ghost use Rattle.std.specs.Prelude.{◌≡◌, ◌≤◌, ◌<◌, ◌+◌, ◌*◌, ℕ, pos, ◌+ℤ◌, ◌≤ℤ◌, ◌<ℤ◌, IsTrue, MatchOption, IfOk, vec_len, true, false, count_by, nat_le, if◌then◌else◌, All, length, slice_index, ◌-◌, ◌/◌, ◌%◌, OnOk, replicate, slice_range};
+ghost use Rattle.std.specs.Prelude.{◌≡◌, ◌≤◌, ◌<◌, ◌+◌, ◌*◌, ℕ, pos, ◌+ℤ◌, ◌≤ℤ◌, ◌<ℤ◌, IsTrue, MatchOption, IfOk, vec_len, true, false, count_by, nat_le, if◌then◌else◌, All, length, slice_index, slice_index_or, ◌-◌, ◌/◌, ◌%◌, OnOk, slice_range};
 ghost use Rattle.std.proofs.Props.{props};
 ghost use Rattle.av_types.specs.declared.place.Pos.{Pos};
 ghost use Rattle.av_flood.specs.Offsets.{IsNth, IsBeyond};
+ghost use Rattle.av_flood.specs.Quiet.{IsQuiet};
 
+use crate::bytes::{PART, clear, push_dark, two_halves};
 use av_types::{ChunkPos, Height, Pos};
 use std::alloc::{AllocError, Global};
 
@@ -19,7 +21,11 @@ pub struct Flood {
     light: Vec<u8>,
     /// How many blocks have their light.
     count: u32,
+    /// For each section of the height, whether any of its bytes was set.
+    touched: Vec<bool>,
     ghost long: { vec_len light ≡ 30976 * height.sections },
+    ghost parts: { vec_len touched ≡ height.sections },
+    ghost quiet: { IsQuiet touched.items light.items } by { Prim.hlevel props },
     ghost counted: { count ≡ count_by (λ n. nat_le 128 n) light.items },
     ghost dim: { All (λ n. n < 144) light.items } by { Prim.hlevel props },
 }
@@ -31,24 +37,6 @@ fn natural(number: i64) -> u32
     ensures { number ≡ pos result }
 {
     number as u32
-}
-
-/// So many bytes of 0.
-fn zeros(alloc: Global, count: usize) -> Result<Vec<u8>, AllocError>
-    ensures { IfOk result (λ bytes. bytes.items ≡ replicate count 0) }
-{
-    let bytes = vec![in alloc; 0; count]?;
-    Ok(bytes)
-}
-
-/// The light of two blocks in one byte, that of the first in its low half.
-fn two_halves(first: u8, second: u8) -> u8
-    requires first { first < 144 }
-    requires second { second < 144 }
-    ensures low { result % 16 ≡ first - 128 }
-    ensures high { result / 16 ≡ second - 128 }
-{
-    first.saturating_sub(128) + 16 * second.saturating_sub(128)
 }
 
 impl Flood {
@@ -68,9 +56,54 @@ impl Flood {
         Ok(Flood {
             chunk,
             height,
-            light: vec![in alloc; 0; 30976 * height.sections as usize]?,
+            light: vec![in alloc; 0; PART * height.sections as usize]?,
             count: 0,
+            touched: vec![in alloc; false; height.sections as usize]?,
         })
+    }
+
+    /// The same board for another chunk, on which no block has light yet. Work goes where light was.
+    fn cleared(self, chunk: ChunkPos) -> Flood
+        ensures chunk { result.chunk ≡ chunk }
+        ensures height { result.height ≡ self.height }
+        ensures dark { (p : Pos) → byte_of result p ≡ 0 }
+    {
+        let Flood {
+            height,
+            mut light,
+            mut touched,
+            ..
+        } = self;
+        for section in 0..touched.len() {
+            clear(&mut light, &mut touched, section);
+        }
+        Flood {
+            chunk,
+            height,
+            light,
+            count: 0,
+            touched,
+        }
+    }
+
+    /// A board on which no block has light yet, over the memory of another if it fits.
+    pub(crate) fn dark(
+        alloc: Global,
+        chunk: ChunkPos,
+        height: Height,
+        used: Option<Flood>,
+    ) -> Result<Flood, AllocError>
+        ensures chunk { IfOk result (λ f. f.chunk ≡ chunk) }
+        ensures height { IfOk result (λ f. f.height ≡ height) }
+        ensures dark { IfOk result (λ f. (p : Pos) → byte_of f p ≡ 0) }
+    {
+        let Some(used) = used else {
+            return Flood::new(alloc, chunk, height);
+        };
+        if used.height != height {
+            return Flood::new(alloc, chunk, height);
+        }
+        Ok(used.cleared(chunk))
     }
 
     /// How many blocks it is from the board's west end.
@@ -167,6 +200,7 @@ impl Flood {
     {
         if let Some(index) = self.index(pos) {
             self.light[index] = level;
+            self.touched[index / PART] = true;
         }
     }
 
@@ -184,6 +218,7 @@ impl Flood {
     {
         if let Some(index) = self.index(pos) {
             self.light[index] = 128 + level;
+            self.touched[index / PART] = true;
             self.count += 1;
         }
     }
@@ -247,6 +282,23 @@ impl Flood {
         Ok(())
     }
 
+    /// Appends the light of the chunk's blocks in a section, by its place from the lowest up.
+    fn push_section(&self, section: u32, bytes: &mut Vec<u8>) -> Result<(), AllocError>
+        requires section { section < self.now.height.sections }
+        requires before { vec_len bytes.old ≡ 2048 * section }
+        requires halves { HasLightSoFar (light_at self.now) bytes.old.items }
+        ensures count { OnOk result (vec_len bytes.new ≡ 2048 * section + 2048) }
+        ensures halves { OnOk result (HasLightSoFar (light_at self.now) bytes.new.items) }
+    {
+        if !self.touched[section as usize] {
+            return push_dark(bytes);
+        }
+        for y in 16 * section..16 * section + 16 {
+            self.push_layer(y, bytes)?;
+        }
+        Ok(())
+    }
+
     /// The light of the chunk's blocks, a half byte each, x within z within y, the lowest layer first.
     ///
     /// # Errors
@@ -255,13 +307,9 @@ impl Flood {
         ensures count { IfOk result (λ bytes. vec_len bytes ≡ 2048 * self.now.height.sections) }
         ensures halves { IfOk result (λ bytes. HasLightSoFar (light_at self.now) bytes.items) }
     {
-        if self.count == 0 {
-            let dark = zeros(alloc, 2048 * self.height.sections as usize)?;
-            return Ok(dark);
-        }
         let mut bytes = Vec::with_capacity(alloc, 2048 * self.height.sections as usize)?;
-        for y in 0..16 * self.height.sections {
-            self.push_layer(y, &mut bytes)?;
+        for section in 0..self.height.sections {
+            self.push_section(section, &mut bytes)?;
         }
         Ok(bytes)
     }

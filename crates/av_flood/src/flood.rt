@@ -4,14 +4,14 @@ ghost use Rattle.av_types.specs.Places.{chunk_of};
 ghost use Rattle.av_types.specs.declared.place.Pos.{Pos};
 ghost use Rattle.av_flood.specs.Light.{IsAdjacent, HasLight, IsLight};
 ghost use Rattle.av_flood.specs.Board.{light_of, byte_of};
-ghost use Rattle.av_flood.specs.Blocks.{IsInner, IsNearOrigin};
+ghost use Rattle.av_flood.specs.Blocks.{IsInner, IsNearOrigin, AreKnown};
 ghost use Rattle.av_flood.specs.Flooding.{todo_of, IsMarked, IsGrown, IsOffered, IsFlooding};
 
 use crate::blocks::Blocks;
 use crate::board::Flood;
 use crate::buckets::Buckets;
 use crate::emit::start;
-use crate::near::matters;
+use crate::near::{is_near_origin, matters};
 use crate::sides::sides;
 use av_types::{ChunkPos, Pos};
 use std::alloc::{AllocError, Global};
@@ -116,36 +116,37 @@ fn settle_level<B: Blocks>(
 fn fill<B: Blocks>(alloc: Global, blocks: &B, flood: &mut Flood) -> Result<(), AllocError>
     requires near { IsNearOrigin flood.old.chunk }
     requires height { flood.old.height ≡ B.tall blocks.now }
+    requires known { AreKnown (B.terrain blocks.now) (B.lamps blocks.now) flood.old.chunk }
     requires dark { (p : Pos) → byte_of flood.old p ≡ 0 }
     ensures chunk { flood.new.chunk ≡ flood.old.chunk }
     ensures height { flood.new.height ≡ flood.old.height }
     ensures light { OnOk result ((p : Pos) → chunk_of p ≡ flood.old.chunk → IsLight (B.terrain blocks.now) p (light_of flood.new p)) }
 {
     let mut buckets = Buckets::new(alloc)?;
-    start(flood.chunk, flood.height, blocks, &mut buckets)?;
+    start(flood.chunk, blocks, &mut buckets)?;
     for step in 0..15 {
         settle_level(flood, blocks, 15 - step, &mut buckets)?;
     }
     Ok(())
 }
 
-/// Whether loaded blocks can lie in a chunk.
-fn is_near_origin(chunk: ChunkPos) -> bool
-    ensures { IsTrue result ↔ IsNearOrigin chunk }
-{
-    -1920031 <= chunk.x && chunk.x <= 1920031 && -1920031 <= chunk.z && chunk.z <= 1920031
-}
-
 /// A board on which each block of a chunk has its light: that of its brightest path, wherever the path comes from.
+/// It takes the memory of a board that was used, if one is given.
 ///
 /// # Errors
 /// A growth was refused.
-pub fn flooded<B: Blocks>(alloc: Global, blocks: &B, chunk: ChunkPos) -> Result<Flood, AllocError>
+pub fn flooded<B: Blocks>(
+    alloc: Global,
+    blocks: &B,
+    chunk: ChunkPos,
+    used: Option<Flood>,
+) -> Result<Flood, AllocError>
+    requires { AreKnown (B.terrain blocks.now) (B.lamps blocks.now) chunk }
     ensures chunk { IfOk result (λ f. f.chunk ≡ chunk) }
     ensures height { IfOk result (λ f. f.height ≡ B.tall blocks.now) }
     ensures light { IfOk result (λ f. (p : Pos) → chunk_of p ≡ chunk → IsLight (B.terrain blocks.now) p (light_of f p)) }
 {
-    let mut flood = Flood::new(alloc, chunk, blocks.height())?;
+    let mut flood = Flood::dark(alloc, chunk, blocks.height(), used)?;
     if !is_near_origin(chunk) {
         return Ok(flood);
     }

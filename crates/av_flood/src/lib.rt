@@ -7,11 +7,13 @@
 pub mod blocks;
 pub mod board;
 mod buckets;
+mod bytes;
 mod emit;
 mod flood;
-mod near;
+pub mod near;
 mod sides;
 
 pub use blocks::Blocks;
 pub use board::Flood;
 pub use flood::flooded;
+pub use near::is_near_origin;

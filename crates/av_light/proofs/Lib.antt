@@ -1,3 +1,4 @@
 pub mod Reading
 pub mod Lit
 pub mod Filling
+pub mod LampLists

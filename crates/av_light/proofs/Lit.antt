@@ -22,6 +22,12 @@ pub if_ok : {T E : Type 0} {P Q : T → Type 0} → (r : Result T E) → ((t : T
 if_ok (Ok t) f h = f t h
 if_ok (Err e) f h = tt
 
+pub weaken : {A B : Type 0} (R S : A → B → Type 0) → ((x : A) (y : B) → R x y → S x y) → (xs : List A) (ys : List B) → AllZip R xs ys → AllZip S xs ys
+weaken R S turn [] [] h = tt
+weaken R S turn [] (y ∷ ys) h = absurd h
+weaken R S turn (x ∷ xs) [] h = absurd h
+weaken R S turn (x ∷ xs) (y ∷ ys) h = (turn x y h.0, weaken R S turn xs ys h.1)
+
 zip_at : {A B : Type 0} → (Q : A → B → Type 0) (xs : List A) (ys : List B) (i : ℕ) (x : A) (y : B) → AllZip Q xs ys → slice_get xs i ≡ Some x → slice_get ys i ≡ Some y → Q x y
 zip_at Q xs ys i x y zip left right =
     let at_right = subst (λ o. MatchOption o (Unit {0}) (λ b. IsSomeAnd (slice_get xs i) (λ a. Q a b))) right (AllZip-right Q xs ys zip i) in

@@ -1,3 +1,4 @@
 pub mod Columns
 pub mod Near
+pub mod Lamps
 pub mod Lights

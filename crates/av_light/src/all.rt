@@ -8,7 +8,9 @@ ghost use Rattle.av_section_light.specs.Light.{IsChunkLight, IsAnswer};
 ghost use Rattle.av_light.specs.Lights.{AreLit};
 
 use crate::chunk_light::light_at;
+use crate::lamps::Lamps;
 use av_chunk::ChunkLight;
+use av_flood::Flood;
 use av_rules::Kinds;
 use av_types::{ChunkPos, Fault};
 use av_world::World;
@@ -16,7 +18,32 @@ use rayon::prelude::*;
 use std::alloc::Global;
 use std::thread::Threads;
 
-/// The light of each chunk of a world, broken or not, from as many threads as there are processors.
+/// The light of each chunk of a world, by as many threads as there are processors. Each piece of the work uses one board
+/// for all its chunks.
+fn lights_by(
+    rt: &(impl Threads + Sync),
+    alloc: Global,
+    lamps: &Lamps<'_>,
+) -> Result<Vec<ChunkLight>, Fault>
+    ensures each { IfOk result (λ lights. AllZip (IsChunkLight lamps.now.kinds.now (blocks lamps.now.world.now) (height_of lamps.now.world.now)) (positions_of lamps.now.world.now) lights.items) }
+    ensures fault { IfErr result (λ e. e ≡ OutOfMemory) }
+{
+    let lights = lamps
+        .world
+        .positions()
+        .par_iter()
+        .with_min_len(1)
+        .map_init(
+            || -> Option<Flood> { None },
+            |board: &mut Option<Flood>, chunk: &ChunkPos| -> Result<ChunkLight, Fault>
+                ensures { IsAnswer lamps.entry.now.kinds.now (blocks lamps.entry.now.world.now) (height_of lamps.entry.now.world.now) chunk.now result }
+            { light_at(alloc, lamps, *chunk, board) },
+        )
+        .collect::<Result<Vec<ChunkLight>, Fault>>(rt, alloc)?;
+    lights
+}
+
+/// The light of each chunk of a world, broken or not.
 fn lights(
     rt: &(impl Threads + Sync),
     alloc: Global,
@@ -26,17 +53,8 @@ fn lights(
     ensures each { IfOk result (λ lights. AllZip (IsChunkLight kinds.now (blocks world.now) (height_of world.now)) (positions_of world.now) lights.items) }
     ensures fault { IfErr result (λ e. e ≡ OutOfMemory) }
 {
-    let lights = world
-        .positions()
-        .par_iter()
-        .with_min_len(1)
-        .map(
-            |chunk: &ChunkPos| -> Result<ChunkLight, Fault>
-                ensures { IsAnswer kinds.entry.now (blocks world.entry.now) (height_of world.entry.now) chunk.now result }
-            { light_at(alloc, world, kinds, *chunk) },
-        )
-        .collect::<Result<Vec<ChunkLight>, Fault>>(rt, alloc)?;
-    lights
+    let lamps = Lamps::new(alloc, world, kinds)?;
+    lights_by(rt, alloc, &lamps)
 }
 
 /// The light of each chunk of a world, in the order of its positions, from as many threads as there are processors.

@@ -1,13 +1,13 @@
 //! A world as the light of one chunk reads it.
-ghost use Rattle.std.specs.Prelude.{◌≡◌, ◌<◌, ◌+◌, ◌≤ℤ◌, ◌+ℤ◌, ◌-ℤ◌, pos, negsuc, ℕ, ⊤, slice_index, MatchOption, IfSome};
+ghost use Rattle.std.specs.Prelude.{◌≡◌, ◌<◌, ◌+◌, ◌≤ℤ◌, ◌+ℤ◌, ◌-ℤ◌, pos, negsuc, ℕ, ⊤, slice_index, map, MatchOption, IfSome};
 ghost use Rattle.av_world.specs.Index.{slot};
 ghost use Rattle.av_world.specs.Views.{positions_of};
 ghost use Rattle.av_light.specs.Columns.{column, IsCorner};
 
-use crate::finding::{section_in, slot};
+use crate::finding::{list_at, section_in, slot};
 use av_section::Section;
 use av_section_light::Sections;
-use av_types::{ChunkPos, Height, SectionPos};
+use av_types::{ChunkPos, Height, Pos, SectionPos};
 use av_world::World;
 
 /// No chunk is loaded beyond this coordinate.
@@ -58,6 +58,8 @@ fn nth(corner: ChunkPos, at: ChunkPos) -> Option<usize>
 #[derive(Drop)]
 pub(crate) struct Around<'a> {
     world: &'a World,
+    /// The blocks that give light, as far as they are known, by where their chunks stand.
+    lamps: &'a [Vec<Pos>],
     corner: ChunkPos,
     slots: [usize; 9],
     ghost inner: { IsCorner corner },
@@ -65,8 +67,9 @@ pub(crate) struct Around<'a> {
 }
 
 impl<'a> Around<'a> {
-    pub(crate) fn new(world: &'a World, chunk: ChunkPos) -> Around<'a>
-        ensures { result.world.now ≡ world.now }
+    pub(crate) fn new(world: &'a World, lamps: &'a [Vec<Pos>], chunk: ChunkPos) -> Around<'a>
+        ensures world { result.world.now ≡ world.now }
+        ensures lamps { result.lamps.now ≡ lamps.now }
     {
         let corner = ChunkPos {
             x: before(chunk.x),
@@ -78,6 +81,7 @@ impl<'a> Around<'a> {
         }
         Around {
             world,
+            lamps,
             corner,
             slots,
         }
@@ -97,10 +101,13 @@ impl<'a> Around<'a> {
 impl Sections for Around<'_> {
     ghost use Rattle.av_world.specs.Views.{height_of, grid};
     ghost use Rattle.av_light.specs.Near.{blocks_near};
+    ghost use Rattle.av_light.specs.Lamps.{lamps_at};
 
     ghost grid = { λ a. grid a.world.now };
 
     ghost tall = { λ a. height_of a.world.now };
+
+    ghost lamps = { λ a c. lamps_at a.world.now (map (λ v. v.items) a.lamps.now) c };
 
     ghost near = { λ a p h. blocks_near a.world.now.height a.world.now.positions.items a.world.now.chunks.items a.world.now.lawful p h };
 
@@ -110,5 +117,9 @@ impl Sections for Around<'_> {
 
     fn section(&self, at: SectionPos) -> Option<&Section> {
         section_in(self.world, self.slot(at.chunk()), at)
+    }
+
+    fn lamps(&self, chunk: ChunkPos) -> &[Pos] {
+        list_at(self.lamps, self.slot(chunk))
     }
 }

@@ -9,6 +9,7 @@ ghost use Rattle.av_world.specs.Views.{height_of, blocks, is_broken};
 ghost use Rattle.av_section_light.specs.Light.{terrain_of, IsChunkLight, IsAnswer};
 
 use crate::around::Around;
+use crate::lamps::Lamps;
 use av_chunk::ChunkLight;
 use av_flood::Flood;
 use av_rules::Kinds;
@@ -32,21 +33,23 @@ pub fn flood(alloc: Global, world: &World, kinds: &Kinds, chunk: ChunkPos) -> Re
     if world.broken() {
         return Err(Fault::Broken);
     }
-    let around = Around::new(world, chunk);
-    flood_in(alloc, &around, kinds, chunk)
+    let lamps = Lamps::new(alloc, world, kinds)?;
+    let around = Around::new(world, lamps.lists.as_slice(), chunk);
+    flood_in(alloc, &around, kinds, chunk, None)
 }
 
-/// The light of a chunk of a world, broken or not. Refuses with `OutOfMemory` alone.
+/// The light of a chunk of a world, broken or not. A board is used again, and left for the next chunk. Refuses with
+/// `OutOfMemory` alone.
 pub(crate) fn light_at(
     alloc: Global,
-    world: &World,
-    kinds: &Kinds,
+    lamps: &Lamps<'_>,
     chunk: ChunkPos,
+    board: &mut Option<Flood>,
 ) -> Result<ChunkLight, Fault>
-    ensures { IsAnswer kinds.now (blocks world.now) (height_of world.now) chunk result }
+    ensures { IsAnswer lamps.now.kinds.now (blocks lamps.now.world.now) (height_of lamps.now.world.now) chunk result }
 {
-    let around = Around::new(world, chunk);
-    light_in(alloc, &around, kinds, chunk)
+    let around = Around::new(lamps.world, lamps.lists.as_slice(), chunk);
+    light_in(alloc, &around, lamps.kinds, chunk, board)
 }
 
 /// The light of a chunk's sections: the half byte of each block is its light.
@@ -66,5 +69,6 @@ pub fn light_of_chunk(
     if world.broken() {
         return Err(Fault::Broken);
     }
-    light_at(alloc, world, kinds, chunk)
+    let lamps = Lamps::new(alloc, world, kinds)?;
+    light_at(alloc, &lamps, chunk, &mut None)
 }

@@ -1,14 +1,13 @@
 //! Where a world's chunks and sections are found.
-ghost use Rattle.std.specs.Prelude.{◌≡◌, ◌<◌, length, option_copied, true};
-ghost use Rattle.av_types.specs.Places.{chunk_of_section, is_section_of};
-ghost use Rattle.av_chunk.specs.Rest.{offset_of};
+ghost use Rattle.std.specs.Prelude.{◌≡◌, length, map, slice_index_or, [], option_copied};
+ghost use Rattle.av_types.specs.Places.{chunk_of_section};
 ghost use Rattle.av_world.specs.Index.{slot};
 ghost use Rattle.av_world.specs.Sections.{layer_at};
 ghost use Rattle.av_world.specs.Views.{positions_of, grid};
 ghost use Rattle.av_section_light.specs.Sections.{filling_in};
 
 use av_section::Section;
-use av_types::{ChunkPos, Height, SectionPos};
+use av_types::{ChunkPos, Height, Pos, SectionPos};
 use av_world::World;
 
 /// Where a chunk stands, and the number of chunks where it is not loaded.
@@ -21,20 +20,15 @@ pub(crate) fn slot(world: &World, at: ChunkPos) -> usize
     }
 }
 
-/// Whether a section's number is in the height.
-fn is_high(height: Height, at: SectionPos) -> bool
-    ensures { result ≡ is_section_of height at.y }
+/// One of several lists, and an empty one beyond the last.
+#[tactic(auto, using(crate::proofs::LampLists::list_within, crate::proofs::LampLists::list_past))]
+pub(crate) fn list_at(lists: &[Vec<Pos>], index: usize) -> &[Pos]
+    ensures { result.now ≡ slice_index_or (map (λ v. v.items) lists.now) index [] }
 {
-    height.min_section <= at.y && at.y < height.min_section + height.sections as i32
-}
-
-/// Where a section stands among those of its chunk.
-fn offset(height: Height, at: SectionPos) -> usize
-    requires { is_section_of height at.y ≡ true }
-    ensures value { result ≡ offset_of height at.y }
-    ensures bound { result < height.sections }
-{
-    (at.y - height.min_section) as usize
+    if index >= lists.len() {
+        return &[];
+    }
+    lists[index].as_slice()
 }
 
 /// The section at a position, of those of its chunk.
@@ -42,8 +36,8 @@ fn layer(sections: &[Option<Section>], height: Height, at: SectionPos) -> Option
     requires { length sections.now ≡ height.sections }
     ensures { option_copied result ≡ layer_at height sections.now at.y }
 {
-    if is_high(height, at) {
-        sections[offset(height, at)].as_ref()
+    if height.has_section(at.y) {
+        sections[height.section_index(at.y)].as_ref()
     } else {
         None
     }

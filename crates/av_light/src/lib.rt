@@ -5,6 +5,7 @@ mod all;
 mod around;
 mod chunk_light;
 mod finding;
+mod lamps;
 
 pub use all::light_all;
 pub use av_flood::Flood;

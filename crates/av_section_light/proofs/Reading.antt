@@ -1,12 +1,11 @@
 -- What a section says of the blocks in it.
-use Rattle.std.proofs.Common.{◌≡◌, ℕ, ◌<◌, max, true, false, Some, None, sym, ap, ◌∙◌}
+use Rattle.std.proofs.Common.{◌≡◌, ℕ, max, true, false, Some, None, sym, ap, ◌∙◌}
 use Rattle.std.specs.Prelude.{IsTrue}
 use Rattle.av_types.specs.Places.{section_of, place_of}
 use Rattle.av_types.specs.declared.place.Pos.{Pos}
 use Rattle.av_types.specs.declared.place.SectionPos.{SectionPos}
 use Rattle.av_section.specs.declared.section.Section.{Section}
 use Rattle.av_section.specs.Section.{number_at}
-use Rattle.av_document.proofs.Positions.{place_of-lt}
 use Rattle.av_rules.specs.declared.kinds.Kinds.{Kinds}
 use Rattle.av_rules.specs.Kinds.{row_at}
 use Rattle.av_cells.specs.Grid.{Grid, cells_of, is_here, number_in}
@@ -34,9 +33,6 @@ module _ (k : Kinds) (g : Grid) (p : Pos) (s : SectionPos) (found : Section) (at
 
   pub opacity_here : (i n : ℕ) → i ≡ place_of p → n ≡ (row_at k (number_at found i)).opacity → max 1 n ≡ cost (terrain_of k (cells_of g)) p
   opacity_here i n e is = ap (max 1) (is ∙ ap (λ j. (row_at k (number_at found j)).opacity) e ∙ ap (λ m. (row_at k m).opacity) (sym number_here))
-
-  pub dark_here : ((i : ℕ) → i < 4096 → (row_at k (number_at found i)).emission ≡ 0) → (terrain_of k (cells_of g)).emission p ≡ 0
-  dark_here dark = ap (λ m. (row_at k m).emission) number_here ∙ dark (place_of p) (place_of-lt p)
 
 -- no block of a section that is not there is loaded
 pub none_loaded : (g : Grid) (p : Pos) (s : SectionPos) → section_of p ≡ s → None ≡ g s → IsTrue ((cells_of g).loaded p) → ⊥

@@ -1,2 +1,3 @@
 pub mod Sections
+pub mod Lamps
 pub mod Light

@@ -1,9 +1,9 @@
 //! Sections as a flood reads them.
-use crate::rows::{emission, is_dark, opacity};
+use crate::rows::{emission, opacity};
 use crate::sections::Sections;
 use av_flood::Blocks;
 use av_rules::Kinds;
-use av_types::{Height, Pos, SectionPos};
+use av_types::{ChunkPos, Height, Pos};
 
 /// Sections, with what their states give and take of light.
 #[derive(Drop)]
@@ -20,6 +20,8 @@ impl<S: Sections> Blocks for Lit<'_, S> {
     ghost terrain = { λ l. terrain_of l.kinds.now (cells_of (S.grid l.sections.now)) };
 
     ghost tall = { λ l. S.tall l.sections.now };
+
+    ghost lamps = { λ l c. S.lamps l.sections.now c };
 
     ghost near = { λ l p h. S.near l.sections.now p h };
 
@@ -43,10 +45,7 @@ impl<S: Sections> Blocks for Lit<'_, S> {
         Some(emission(self.kinds, section.get(pos.place())))
     }
 
-    fn is_dark(&self, section: SectionPos) -> bool {
-        match self.sections.section(section) {
-            None => true,
-            Some(found) => is_dark(self.kinds, found),
-        }
+    fn lamps(&self, chunk: ChunkPos) -> &[Pos] {
+        self.sections.lamps(chunk)
     }
 }

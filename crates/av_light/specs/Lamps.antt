@@ -1,0 +1,19 @@
+-- The blocks of a world's chunks that give light, a list for each chunk in the order of its positions.
+use Rattle.std.specs.Prelude.{◌≡◌, ◌<◌, List, [], true, IsTrue, slice_index_or}
+use Rattle.std.specs.List.{list_any}
+use Rattle.av_types.specs.Places.{chunk_of, same_pos}
+use Rattle.av_types.specs.declared.place.Pos.{Pos}
+use Rattle.av_types.specs.declared.place.ChunkPos.{ChunkPos}
+use Rattle.av_rules.specs.declared.kinds.Kinds.{Kinds}
+use Rattle.av_world.specs.Index.{slot}
+use Rattle.av_world.specs.Views.{positions_of, blocks}
+use Rattle.av_world.specs.declared.worlds.World.{World}
+use Rattle.av_section_light.specs.Light.{terrain_of}
+
+-- the list of a chunk, by where it stands
+abbrev pub lamps_at : World → List (List Pos) → ChunkPos → List Pos
+lamps_at w lists c = slice_index_or lists (slot (positions_of w) c) []
+
+-- each is in the list of its chunk
+pub record AreLamps (k : Kinds) (w : World) (lists : List (List Pos)) : Type 0 where
+  pub has : (p : Pos) → IsTrue ((blocks w).loaded p) → 0 < (terrain_of k (blocks w)).emission p → list_any (same_pos p) (lamps_at w lists (chunk_of p)) ≡ true

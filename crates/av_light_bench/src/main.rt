@@ -1,0 +1,98 @@
+//! The program by which `bench/run.sh` times light: a region is read, and lit so many times.
+#![tactic(auto)]
+
+use anyhow::{Result, bail};
+use av_chunk::ChunkLight;
+use av_image::load;
+use av_light::light_all;
+use av_rules::{Kinds, Rules};
+use av_sink::RegionFile;
+use av_state::StateTable;
+use av_types::{Fault, RegionPos};
+use av_world::World;
+use std::alloc::{AllocError, Global};
+use std::rt::{Env, Files};
+use std::thread::Threads;
+use std::{env, fs};
+
+/// A world and the kinds of its states.
+#[derive(Drop)]
+struct Scene {
+    world: World,
+    kinds: Kinds,
+}
+
+/// What a file of the region (0, 0) holds, by a block table.
+fn read(alloc: Global, bytes: Vec<u8>, table: &[u8]) -> Result<Scene, Fault> {
+    let rules = Rules::read(alloc, table)?;
+    let mut states = StateTable::new(alloc)?;
+    let pos = RegionPos { x: 0, z: 0 };
+    let mut files = Vec::new(alloc);
+    files.push(RegionFile { pos, bytes })?;
+    let (world, _rest) = load(alloc, files, &rules, &mut states)?;
+    let kinds = Kinds::new(alloc, states, &rules)?;
+    Ok(Scene { world, kinds })
+}
+
+/// A sum over bytes that depends on their order.
+fn byte_sum(start: u64, bytes: &[u8]) -> u64 {
+    let mut sum = start;
+    for byte in bytes {
+        sum = sum.wrapping_mul(31).wrapping_add(u64::from(*byte));
+    }
+    sum
+}
+
+/// A sum over all half bytes of lights.
+fn light_sum(lights: &[ChunkLight]) -> u64 {
+    let mut sum = 0u64;
+    for light in lights {
+        for index in 0..light.len() {
+            sum = byte_sum(sum, light.section(index));
+        }
+    }
+    sum
+}
+
+/// Lights a world so many times. The line has the number of chunks, and the sum of their lights.
+fn light(
+    rt: &(impl Threads + Sync),
+    alloc: Global,
+    scene: &Scene,
+    times: u32,
+) -> Result<String, Fault> {
+    let mut lights = Vec::new(alloc);
+    for _ in 0..times {
+        lights = light_all(rt, alloc, &scene.world, &scene.kinds)?;
+    }
+    let chunks = lights.len();
+    let sum = light_sum(lights.as_slice());
+    Ok(format!(in alloc; "chunks {chunks} sum {sum}")?)
+}
+
+fn run<R: Env + Files + AllocGlobal + Threads + Sync>(rt: &R, words: &[&str]) -> Result<String> {
+    let alloc = rt.alloc();
+    match words {
+        ["light", path, table, times] => {
+            let bytes = fs::read(rt, *path)?;
+            let table = fs::read(rt, *table)?;
+            let times: u32 = times.parse()?;
+            let scene = read(alloc, bytes, table.as_slice())?;
+            Ok(light(rt, alloc, &scene, times)?)
+        }
+        _ => bail!("av_light_bench light FILE TABLE TIMES"),
+    }
+}
+
+fn as_texts(alloc: Global, words: &[String]) -> Result<Vec<&str>, AllocError> {
+    words.iter().map(|word| word.as_str()).collect(alloc)
+}
+
+fn main(rt: HostRuntime) -> Result<()> {
+    let alloc = rt.alloc();
+    let words: Vec<String> = env::args(&rt)?.skip(1).collect(alloc)?;
+    let words = as_texts(alloc, words.as_slice())?;
+    let line = run(&rt, words.as_slice())?;
+    println!(rt; "{line}")?;
+    Ok(())
+}

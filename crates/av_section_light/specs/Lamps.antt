@@ -1,0 +1,25 @@
+-- The blocks of a chunk that give light.
+use Rattle.std.specs.Prelude.{ℕ, ◌≡◌, ◌<◌, ◌≤ℤ◌, ◌+ℤ◌, pos, negsuc, List, IsTrue, Contains}
+use Rattle.av_types.specs.Places.{chunk_of}
+use Rattle.av_types.specs.declared.place.Pos.{Pos}
+use Rattle.av_types.specs.declared.place.ChunkPos.{ChunkPos}
+use Rattle.av_types.specs.declared.place.SectionPos.{SectionPos}
+use Rattle.av_types.specs.declared.place.Height.{Height}
+use Rattle.av_flood.specs.Light.{Terrain}
+
+-- each of them is in the list
+pub record HasLamps (t : Terrain) (c : ChunkPos) (lamps : List Pos) : Type 0 where
+  pub lit : (p : Pos) → chunk_of p ≡ c → IsTrue (t.loaded p) → 0 < t.emission p → Contains lamps p
+
+-- a section of a chunk, by its place from the lowest up
+abbrev pub section_at : ChunkPos → Height → ℕ → SectionPos
+section_at c h n = record { x = c.x; y = h.min_section +ℤ pos n; z = c.z }
+
+-- a section in whose chunk loaded blocks can lie
+pub record IsNearSection (s : SectionPos) : Type 0 where
+  pub west : negsuc 1920030 ≤ℤ s.x
+  pub east : s.x ≤ℤ pos 1920031
+  pub low : negsuc 63 ≤ℤ s.y
+  pub high : s.y ≤ℤ pos 63
+  pub north : negsuc 1920030 ≤ℤ s.z
+  pub south : s.z ≤ℤ pos 1920031

@@ -1,0 +1,128 @@
+//! The blocks of a chunk that give light.
+ghost use Rattle.std.specs.Prelude.{◌≡◌, ◌<◌, ℕ, IsTrue, IfOk, OnOk, Contains};
+ghost use Rattle.av_types.specs.Places.{section_of, block_at};
+ghost use Rattle.av_types.specs.declared.place.Pos.{Pos};
+ghost use Rattle.av_rules.specs.Kinds.{row_at};
+ghost use Rattle.av_section.specs.Section.{number_at};
+ghost use Rattle.av_cells.specs.Grid.{cells_of};
+ghost use Rattle.av_flood.specs.Blocks.{IsNearOrigin};
+ghost use Rattle.av_section_light.specs.Light.{terrain_of};
+ghost use Rattle.av_section_light.specs.Lamps.{IsNearSection, section_at, HasLamps};
+
+use crate::rows::{emission, is_dark};
+use crate::sections::Sections;
+use av_flood::is_near_origin;
+use av_rules::Kinds;
+use av_section::Section;
+use av_types::{ChunkPos, Height, Place, Pos, SectionPos};
+use std::alloc::{AllocError, Global};
+
+/// The block at a place of a section.
+fn block_at(section: SectionPos, place: Place) -> Pos
+    requires { IsNearSection section }
+    ensures { result ≡ block_at section place.index }
+{
+    Pos {
+        x: 16 * section.x + i32::from(place.index % 16),
+        y: 16 * section.y + i32::from(place.index / 256),
+        z: 16 * section.z + i32::from(place.index / 16 % 16),
+    }
+}
+
+/// Appends the block at a place of a section if it gives light.
+fn push_lamp(
+    kinds: &Kinds,
+    section: &Section,
+    at: SectionPos,
+    place: Place,
+    lamps: &mut Vec<Pos>,
+) -> Result<(), AllocError>
+    requires { IsNearSection at }
+    ensures kept { OnOk result ((p : Pos) → Contains lamps.old.items p → Contains lamps.new.items p) }
+    ensures lit { OnOk result (0 < (row_at kinds.now (number_at section.now place.index)).emission → Contains lamps.new.items (block_at at place.index)) }
+{
+    if emission(kinds, section.get(place)) == 0 {
+        return Ok(());
+    }
+    lamps.push(block_at(at, place))?;
+    Ok(())
+}
+
+/// Appends the blocks of a section that give light.
+fn push_lamps(
+    kinds: &Kinds,
+    section: &Section,
+    at: SectionPos,
+    lamps: &mut Vec<Pos>,
+) -> Result<(), AllocError>
+    requires { IsNearSection at }
+    ensures kept { OnOk result ((p : Pos) → Contains lamps.old.items p → Contains lamps.new.items p) }
+    ensures lit { OnOk result ((i : ℕ) → i < 4096 → 0 < (row_at kinds.now (number_at section.now i)).emission → Contains lamps.new.items (block_at at i)) }
+{
+    if is_dark(kinds, section) {
+        return Ok(());
+    }
+    for index in 0..4096u16 {
+        push_lamp(kinds, section, at, Place::new(index), lamps)?;
+    }
+    Ok(())
+}
+
+/// A section of a chunk, by its place from the lowest up.
+fn section_at(chunk: ChunkPos, height: Height, number: u32) -> SectionPos
+    requires { number < height.sections }
+    ensures { result ≡ section_at chunk height number }
+{
+    SectionPos {
+        x: chunk.x,
+        y: height.min_section + number as i32,
+        z: chunk.z,
+    }
+}
+
+/// Appends the blocks that give light of the section at a position.
+fn push_lamps_at<S: Sections>(
+    sections: &S,
+    kinds: &Kinds,
+    at: SectionPos,
+    lamps: &mut Vec<Pos>,
+) -> Result<(), AllocError>
+    requires { IsNearSection at }
+    ensures kept { OnOk result ((p : Pos) → Contains lamps.old.items p → Contains lamps.new.items p) }
+    ensures lit { OnOk result ((p : Pos) → section_of p ≡ at → IsTrue ((terrain_of kinds.now (cells_of (S.grid sections.now))).loaded p)
+        → 0 < (terrain_of kinds.now (cells_of (S.grid sections.now))).emission p → Contains lamps.new.items p) }
+{
+    let Some(section) = sections.section(at) else {
+        return Ok(());
+    };
+    push_lamps(kinds, section, at, lamps)?;
+    Ok(())
+}
+
+/// Blocks of a chunk, among them each that gives light.
+///
+/// # Errors
+/// A growth was refused.
+pub fn lamps_in<S: Sections>(
+    alloc: Global,
+    sections: &S,
+    kinds: &Kinds,
+    chunk: ChunkPos,
+) -> Result<Vec<Pos>, AllocError>
+    ensures { IfOk result (λ lamps. HasLamps (terrain_of kinds.now (cells_of (S.grid sections.now))) chunk lamps.items) }
+{
+    let mut lamps = Vec::new(alloc);
+    if !is_near_origin(chunk) {
+        return Ok(lamps);
+    }
+    let height = sections.height();
+    for number in 0..height.sections {
+        push_lamps_at(
+            sections,
+            kinds,
+            section_at(chunk, height, number),
+            &mut lamps,
+        )?;
+    }
+    Ok(lamps)
+}
