@@ -4,7 +4,7 @@ use Rattle.std.specs.Int.{w32}
 use Rattle.std.specs.Int.RustNames.{FitsSigned}
 use Rattle.std.specs.Ordering.{int_eq}
 use Rattle.std.proofs.lemmas.Int.{ints}
-use Rattle.std.proofs.lemmas.Bool.{and_parts}
+use Rattle.std.proofs.lemmas.Bool.{and_parts, and_from}
 use Rattle.std.proofs.lemmas.Bool.Decides.{Decides-int_eq}
 use Rattle.av_types.specs.Division.{divided, remainder}
 use Rattle.av_types.specs.Places.{chunk_of, region_of, index_of, chunk_at, IsInLimits}
@@ -25,35 +25,15 @@ pub fits_high : (z : ℤ) → FitsSigned w32 z → z ≤ℤ pos 2147483647
 fits_high (pos n) f = let e : n < 2147483648 = f.sfits in omega (arith, ints)
 fits_high (negsuc n) f = omega (arith, ints)
 
-remainder_less : (z : ℤ) → remainder z 32 < 32
-remainder_less (pos n) = omega arith
-remainder_less (negsuc n) = omega arith
-
-whole : (z : ℤ) → pos 32 *ℤ divided z 32 +ℤ pos (remainder z 32) ≡ z
-whole (pos n) = omega (arith, ints)
-whole (negsuc n) = omega (arith, ints)
-
-pub index_less : (c : ChunkPos) → index_of c < 1024
-index_less c = let a = remainder_less c.x in let b = remainder_less c.z in omega arith
-
-part_x : (a b : ℕ) → a < 32 → (a + 32 * b) % 32 ≡ a
-part_x a b h = omega arith
-
-part_z : (a b : ℕ) → a < 32 → (a + 32 * b) / 32 ≡ b
-part_z a b h = omega arith
-
-pub chunk_back : (c : ChunkPos) → chunk_at (region_of c) (index_of c) ≡ c
-chunk_back c =
-    let x = ap (λ n. pos 32 *ℤ divided c.x 32 +ℤ pos n) (part_x (remainder c.x 32) (remainder c.z 32) (remainder_less c.x)) ∙ whole c.x in
-    let z = ap (λ n. pos 32 *ℤ divided c.z 32 +ℤ pos n) (part_z (remainder c.x 32) (remainder c.z 32) (remainder_less c.x)) ∙ whole c.z in
-    λ i. record { x = x i; z = z i }
-
 pub same_region_is : (a b : RegionPos) → same_region a b ≡ true → a ≡ b
 same_region_is a b h =
     let parts = and_parts (int_eq a.x b.x) (int_eq a.z b.z) h in
     let x = (Decides-int_eq a.x b.x).0 parts.0 in
     let z = (Decides-int_eq a.z b.z).0 parts.1 in
     λ i. record { x = x i; z = z i }
+
+pub same_region-refl : (r : RegionPos) → same_region r r ≡ true
+same_region-refl r = and_from (int_eq r.x r.x) (int_eq r.z r.z) ((Decides-int_eq r.x r.x).1 refl) ((Decides-int_eq r.z r.z).1 refl)
 
 -- a coordinate whose region is within the limits
 pub near : (z : ℤ) → negsuc 59999 ≤ℤ divided (divided z 16) 32 → divided (divided z 16) 32 ≤ℤ pos 60000 → FitsSigned w32 z

@@ -8,6 +8,7 @@ use Rattle.av_types.specs.declared.place.Height.{Height}
 use Rattle.av_types.specs.declared.place.ChunkPos.{ChunkPos}
 use Rattle.av_types.specs.declared.fault.Fault.{Fault}
 use Rattle.av_types.specs.declared.fault.Fault.TheVariants.{BadLocation, TruncatedChunk, BadLength, ExternalChunk, Compression, BadNbt}
+use Rattle.av_types.proofs.HeightNumbers.{height_is}
 use Rattle.av_nbt.specs.Nbt.{Document}
 use Rattle.av_nbt.specs.Spelling.{SpellsDocument}
 use Rattle.av_region.specs.Region.{IsShort, IsChunkFault, IsBadLocation, IsLocated, IsTruncated, IsWhole, IsBadLength, IsMeasured, Holds, IsAbsent, location_of, offset_of, count_of, length_of, type_of}
@@ -23,7 +24,6 @@ use Rattle.av_edits.specs.Edits.{first_in_edits}
 use Rattle.av_files.specs.FirstFault.{IsPlaceFault, sectors, spelling, document, IsPlaceGood, nothing, chunk, states_read, ArePlacesGood, IsFirstOfPlaces, IsFileGood, IsFirstOfFile, header, place, AreFilesGood, IsFirstOfFiles, IsTable, AreRead, IsFilesFault, range, repeated, region, IsFirstFault, counts, rules, file, edit, IsAccepted, OneFault, OneFirstFault}
 use Rattle.av_files.proofs.Unique.{same_document, some_location, denote_one}
 use Rattle.av_files.proofs.OneFault.{document_fault}
-use Rattle.av_files.proofs.Heights.{height_is}
 
 -- ---- sectors
 

@@ -16,6 +16,8 @@ use Rattle.av_types.specs.declared.place.ChunkPos.{ChunkPos}
 use Rattle.av_types.specs.declared.place.RegionPos.{RegionPos}
 use Rattle.av_types.specs.declared.place.Height.{Height}
 use Rattle.av_types.specs.declared.tick.Entry.{Entry}
+use Rattle.av_types.proofs.Coordinates.{index_less, chunk_back}
+use Rattle.av_types.proofs.SamePlaces.{same_chunk_is}
 use Rattle.av_nbt.specs.Writing.{IsWellFormed}
 use Rattle.av_state.specs.BlockState.{BlockState, air, meant, is_storable}
 use Rattle.av_state.specs.StateList.{IsStateList, first_states}
@@ -29,13 +31,12 @@ use Rattle.av_document.proofs.Ints.{ints_read, less_nothing}
 use Rattle.av_land.specs.Land.{Land, has_chunk, is_loaded}
 use Rattle.av_land.specs.Good as good
 use Rattle.av_land.specs.Good.{Good, IsEntryOf, IsTimely}
-use Rattle.av_land.proofs.Kept.{same_chunk_is}
 use Rattle.av_files.specs.Files.{File, in_order, region_order, same_region}
 use Rattle.av_files.specs.Denotes.{Rest, IsSlot, absent, kept, full, DenotesFile, Denotes}
 use Rattle.av_files.specs.Lawful.{IsLawfulLand, AreStorable}
 use Rattle.av_files.specs.Run.{stated}
 use Rattle.av_files.proofs.Sorted.{all_ordered}
-use Rattle.av_files.proofs.Coordinates.{fits_from, fits_low, fits_high, index_less, chunk_back, same_region_is, near}
+use Rattle.av_files.proofs.Coordinates.{fits_from, fits_low, fits_high, same_region_is, near}
 
 -- ---- from numbers to states
 

@@ -8,9 +8,9 @@ use Rattle.std.proofs.lemmas.Int.{ints}
 use Rattle.std.proofs.lemmas.Bool.{and_parts, and_from, or_cases, true≢false, false≢true}
 use Rattle.std.proofs.lemmas.Bool.Decides.{Decides-int_eq}
 use Rattle.av_types.specs.declared.place.ChunkPos.{ChunkPos}
+use Rattle.av_types.proofs.SamePlaces.{same_chunk_is, same_chunk-refl}
 use Rattle.av_cells.specs.Positions.{same_chunk}
 use Rattle.av_land.specs.Land.{has_chunk}
-use Rattle.av_land.proofs.Kept.{same_chunk_is}
 use Rattle.av_files.specs.Files.{chunk_order, starts_after, chunks_rise}
 
 abbrev Below : ChunkPos → ChunkPos → Type 0
@@ -36,9 +36,6 @@ below_not : (a : ChunkPos) → Below a a → ⊥
 below_not a (inl p) = omega (arith, ints)
 below_not a (inr p) = let e = p.1 in omega (arith, ints)
 
-same_chunk_refl : (c : ChunkPos) → same_chunk c c ≡ true
-same_chunk_refl c = and_from _ _ ((Decides-int_eq c.x c.x).1 refl) ((Decides-int_eq c.z c.z).1 refl)
-
 -- what stands later in a rising list is above
 later_above : (x : ChunkPos) (cs : List ChunkPos) (c : ChunkPos) → starts_after x cs ≡ true → chunks_rise cs ≡ true → has_chunk cs c ≡ true → Below x c
 later_above x [] c s r h = absurd (false≢true h)
@@ -57,7 +54,7 @@ not_later x cs s r = by (has_chunk cs x) refl where
   by false e = refl
 
 here : (c : ChunkPos) (cs : List ChunkPos) → has_chunk (c ∷ cs) c ≡ true
-here c cs = ap (λ b. b || has_chunk cs c) (same_chunk_refl c)
+here c cs = ap (λ b. b || has_chunk cs c) (same_chunk-refl c)
 
 same_head : (x y : ChunkPos) (xs ys : List ChunkPos) → starts_after x xs ≡ true → chunks_rise xs ≡ true → starts_after y ys ≡ true → chunks_rise ys ≡ true
     → ((c : ChunkPos) → has_chunk (x ∷ xs) c ≡ has_chunk (y ∷ ys) c) → x ≡ y

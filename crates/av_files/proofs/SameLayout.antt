@@ -15,6 +15,8 @@ use Rattle.av_types.specs.declared.place.ChunkPos.{ChunkPos}
 use Rattle.av_types.specs.declared.place.RegionPos.{RegionPos}
 use Rattle.av_types.specs.declared.place.Height.{Height}
 use Rattle.av_types.specs.declared.tick.Entry.{Entry}
+use Rattle.av_types.proofs.Coordinates.{region_back}
+use Rattle.av_files.proofs.Coordinates.{same_region-refl}
 use Rattle.av_nbt.specs.Nbt.{NamedTag, members_of, text, int}
 use Rattle.av_nbt.specs.Place.{place}
 use Rattle.av_nbt.specs.Writing.{written_document}
@@ -78,7 +80,7 @@ chunk_same c h cells es sources r s l m n k then now a b same lit =
 
 -- ---- files
 
-map_range : {X : Type 0} (f g : ℕ → X) (a n : ℕ) → ((i : ℕ) → i < a + n → f i ≡ g i) → map f (range_with_len a n) ≡ map g (range_with_len a n)
+pub map_range : {X : Type 0} (f g : ℕ → X) (a n : ℕ) → ((i : ℕ) → i < a + n → f i ≡ g i) → map f (range_with_len a n) ≡ map g (range_with_len a n)
 map_range f g a zero h = refl
 map_range f g a (suc n) h =
     let first = h a (omega arith) in
@@ -89,9 +91,6 @@ map_all : {X Y : Type 0} (f g : X → Y) (xs : List X) → AllByRecursion (λ x.
 map_all f g [] h = refl
 map_all f g (x ∷ xs) h = λ i. h.0 i ∷ map_all f g xs h.1 i
 
-same_region_refl : (r : RegionPos) → same_region r r ≡ true
-same_region_refl r = and_from _ _ ((Decides-int_eq r.x r.x).1 refl) ((Decides-int_eq r.z r.z).1 refl)
-
 or_true : (b : Bool) → (b || true) ≡ true
 or_true true = refl
 or_true false = refl
@@ -99,26 +98,11 @@ or_true false = refl
 members : (P : RegionPos → Type 0) (rs : List RegionPos) → ((x : RegionPos) → list_any (same_region x) rs ≡ true → P x) → AllByRecursion P rs
 members P [] h = tt
 members P (r ∷ rs) h =
-    (h r (ap (λ b. b || list_any (same_region r) rs) (same_region_refl r)), members P rs (λ x e. h x (ap (λ b. same_region x r || b) e ∙ or_true (same_region x r))))
+    (h r (ap (λ b. b || list_any (same_region r) rs) (same_region-refl r)), members P rs (λ x e. h x (ap (λ b. same_region x r || b) e ∙ or_true (same_region x r))))
 
-below_zero_is : (n j : ℕ) → j < 32 → pos 32 *ℤ negsuc n +ℤ pos j ≡ negsuc (n * 32 + (31 - j))
-below_zero_is n j h = omega (arith, ints)
-
-region_part : (r : ℤ) (j : ℕ) → j < 32 → divided (pos 32 *ℤ r +ℤ pos j) 32 ≡ r
-region_part (pos n) j less = omega (arith, ints)
-region_part (negsuc n) j less =
-    let e : (n * 32 + (31 - j)) / 32 ≡ n = omega arith in
-    ap (λ z. divided z 32) (below_zero_is n j less) ∙ ap negsuc e
-
-region_back : (region : RegionPos) (i : ℕ) → i < 1024 → region_of (chunk_at region i) ≡ region
-region_back region i less =
-    let x = region_part region.x (i % 32) (omega arith) in
-    let z = region_part region.z (i / 32) (omega arith) in
-    λ j. record { x = x j; z = z j }
-
-payload_same : (b : Bool) (x y : List ℕ) (k l : Option (List ℕ)) → (b ≡ true → x ≡ y) → k ≡ l → cond b (Some x) k ≡ cond b (Some y) l
-payload_same true x y k l h e = ap (λ z. Some z) (h refl)
-payload_same false x y k l h e = e
+pub payload_if : (b : Bool) (x y : List ℕ) (k l : Option (List ℕ)) → (b ≡ true → x ≡ y) → k ≡ l → cond b (Some x) k ≡ cond b (Some y) l
+payload_if true x y k l h e = ap (λ z. Some z) (h refl)
+payload_if false x y k l h e = e
 
 -- the world of n + m ticks, sooner by n and written after m, is written as that world after n + m
 pub layout_same : (t : BlockTable) (w u : Land BlockState) (r s : Rest) (l m : Lights) (n k : ℕ) → SameRest u.height w s r → w.chunks ≡ u.chunks
@@ -127,7 +111,7 @@ pub layout_same : (t : BlockTable) (w u : Land BlockState) (r s : Rest) (l m : L
 layout_same t w u r s l m n k same chunks lit =
     let payload : (region : RegionPos) → list_any (same_region region) s.regions ≡ true → (i : ℕ) → i < 0 + 1024 → payload_of (sources_of t (shifted n u)) (shifted n u) s l k (chunk_at region i) ≡ payload_of (sources_of t u) u r m (k + n) (chunk_at region i) =
     λ region found i less. let c = chunk_at region i in
-    payload_same (has_chunk u.chunks c) (chunk_bytes (sources_of t (shifted n u)) (shifted n u) s l k c) (chunk_bytes (sources_of t u) u r m (k + n) c) (s.kept c) (r.kept c)
+    payload_if (has_chunk u.chunks c) (chunk_bytes (sources_of t (shifted n u)) (shifted n u) s l k c) (chunk_bytes (sources_of t u) u r m (k + n) c) (s.kept c) (r.kept c)
     (λ is. ap written_document (chunk_same c u.height u.at (u.lists c) (sources_of t u) (r.chunk c) (s.chunk c) (l c) (m c) n k w.at w.at (w.lists c) (w.lists c) (same.chunks c (ap (λ cs. has_chunk cs c) chunks ∙ is)) (lit c is)))
     (same.kept c (ap (λ x. list_any (same_region x) s.regions) (region_back region i (omega arith)) ∙ found)) in
     let one : (region : RegionPos) → list_any (same_region region) s.regions ≡ true → file_layout (sources_of t (shifted n u)) (shifted n u) s l k region ≡ file_layout (sources_of t u) u r m (k + n) region = λ region found.

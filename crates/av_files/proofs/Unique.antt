@@ -10,6 +10,7 @@ use Rattle.av_types.specs.declared.place.Pos.{Pos}
 use Rattle.av_types.specs.declared.place.ChunkPos.{ChunkPos}
 use Rattle.av_types.specs.declared.place.RegionPos.{RegionPos}
 use Rattle.av_types.specs.declared.place.Height.{Height}
+use Rattle.av_types.proofs.Coordinates.{index_less, chunk_back}
 use Rattle.av_nbt.specs.Nbt.{Document}
 use Rattle.av_nbt.specs.Spelling.{SpellsDocument}
 use Rattle.av_nbt.proofs.LawProofs.{one_document}
@@ -23,7 +24,7 @@ use Rattle.av_files.specs.Files.{File, in_order, region_order, same_region}
 use Rattle.av_files.specs.Denotes.{Rest, IsSlot, absent, kept, full, DenotesFile, Denotes}
 use Rattle.av_files.specs.Laws.{SameRest, DenoteOne}
 use Rattle.av_files.proofs.Sorted.{all_ordered, all_both}
-use Rattle.av_files.proofs.Coordinates.{index_less, chunk_back, same_region_is}
+use Rattle.av_files.proofs.Coordinates.{same_region_is}
 use Rattle.av_files.proofs.Rising.{rising_same}
 
 pub some_location : (file : List ℕ) (i : ℕ) (payload : List ℕ) → Holds file i payload → IsAbsent file i → ⊥

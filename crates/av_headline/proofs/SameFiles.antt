@@ -12,6 +12,8 @@ use Rattle.av_types.specs.declared.place.ChunkPos.{ChunkPos}
 use Rattle.av_types.specs.declared.place.RegionPos.{RegionPos}
 use Rattle.av_types.specs.declared.place.Height.{Height}
 use Rattle.av_types.specs.declared.tick.Entry.{Entry}
+use Rattle.av_types.proofs.Coordinates.{region_back}
+use Rattle.av_files.proofs.SameLayout.{map_range, payload_if}
 use Rattle.av_nbt.specs.Nbt.{members_of}
 use Rattle.av_nbt.specs.Place.{place}
 use Rattle.av_nbt.specs.Writing.{written_document}
@@ -48,32 +50,6 @@ chunk_same c h cells es sources r s l m n then now a b same lit =
     }
 
 -- ---- the places of a region
-
-map_range : {X : Type 0} (f g : ℕ → X) (a n : ℕ) → ((i : ℕ) → i < a + n → f i ≡ g i) → map f (range_with_len a n) ≡ map g (range_with_len a n)
-map_range f g a zero h = refl
-map_range f g a (suc n) h =
-    let first = h a (omega arith) in
-    let rest = map_range f g (a + 1) n (λ i less. h i (omega arith)) in
-    λ i. first i ∷ rest i
-
-below_zero_is : (n j : ℕ) → j < 32 → pos 32 *ℤ negsuc n +ℤ pos j ≡ negsuc (n * 32 + (31 - j))
-below_zero_is n j h = omega (arith, ints)
-
-region_part : (r : ℤ) (j : ℕ) → j < 32 → divided (pos 32 *ℤ r +ℤ pos j) 32 ≡ r
-region_part (pos n) j less = omega (arith, ints)
-region_part (negsuc n) j less =
-    let e : (n * 32 + (31 - j)) / 32 ≡ n = omega arith in
-    ap (λ z. divided z 32) (below_zero_is n j less) ∙ ap negsuc e
-
-region_back : (region : RegionPos) (i : ℕ) → i < 1024 → region_of (chunk_at region i) ≡ region
-region_back region i less =
-    let x = region_part region.x (i % 32) (omega arith) in
-    let z = region_part region.z (i / 32) (omega arith) in
-    λ j. record { x = x j; z = z j }
-
-payload_if : (b : Bool) (x y : List ℕ) (k l : Option (List ℕ)) → (b ≡ true → x ≡ y) → k ≡ l → cond b (Some x) k ≡ cond b (Some y) l
-payload_if true x y k l h e = ap (λ z. Some z) (h refl)
-payload_if false x y k l h e = e
 
 module _ (t : BlockTable) (w v : Land BlockState) (r s : Rest) (l m : Lights) (n : ℕ) (same : SameRest v.height w r s) (chunks : w.chunks ≡ v.chunks)
     (lit : (c : ChunkPos) → has_chunk v.chunks c ≡ true → (y : ℤ) → is_section_of v.height y ≡ true → l c y ≡ m c y) where

@@ -9,11 +9,12 @@ use Rattle.av_types.specs.Division.{divided, remainder}
 use Rattle.av_types.specs.Places.{region_of, index_of, chunk_at}
 use Rattle.av_types.specs.declared.place.ChunkPos.{ChunkPos}
 use Rattle.av_types.specs.declared.place.RegionPos.{RegionPos}
+use Rattle.av_types.proofs.Coordinates.{region_back, index_back}
+use Rattle.av_types.proofs.SamePlaces.{same_chunk_is}
 use Rattle.av_chunk.specs.declared.chunk.Chunk.{Chunk}
 use Rattle.av_cells.specs.Positions.{same_chunk}
-use Rattle.av_land.proofs.Kept.{same_chunk_is}
 use Rattle.av_files.specs.Files.{same_region}
-use Rattle.av_files.proofs.Coordinates.{same_region_is}
+use Rattle.av_files.proofs.Coordinates.{same_region_is, same_region-refl}
 use Rattle.av_world.proofs.Search.{same_chunk_self}
 use Rattle.av_image.specs.declared.places.Place.{Place}
 use Rattle.av_image.specs.declared.places.Place.TheVariants.{Absent, Kept, Full}
@@ -22,42 +23,11 @@ use Rattle.av_image.specs.declared.splits.Placed.{Placed}
 use Rattle.av_image.specs.Splits.{placed_of, placed_from, placed_in, chunk_found}
 use Rattle.av_image.proofs.Worlds.{found_append, first_some}
 
-pub same_region_self : (r : RegionPos) → same_region r r ≡ true
-same_region_self r = and_from _ _ ((Decides-int_eq r.x r.x).1 refl) ((Decides-int_eq r.z r.z).1 refl)
-
 pub other_region : (a b : RegionPos) → same_region a b ≡ false → same_region b a ≡ false
 other_region a b h = by (same_region b a) refl where
   by : (t : Bool) → same_region b a ≡ t → t ≡ false
-  by true e = absurd (false≢true (sym h ∙ (ap (λ x. same_region x b) (sym (same_region_is b a e)) ∙ same_region_self b)))
+  by true e = absurd (false≢true (sym h ∙ (ap (λ x. same_region x b) (sym (same_region_is b a e)) ∙ same_region-refl b)))
   by false e = refl
-
-below_zero_is : (n j : ℕ) → j < 32 → pos 32 *ℤ negsuc n +ℤ pos j ≡ negsuc (n * 32 + (31 - j))
-below_zero_is n j h = omega (arith, ints)
-
-region_part : (r : ℤ) (j : ℕ) → j < 32 → divided (pos 32 *ℤ r +ℤ pos j) 32 ≡ r
-region_part (pos n) j less = omega (arith, ints)
-region_part (negsuc n) j less =
-    let e : (n * 32 + (31 - j)) / 32 ≡ n = omega arith in
-    ap (λ z. divided z 32) (below_zero_is n j less) ∙ ap negsuc e
-
-index_part : (r : ℤ) (j : ℕ) → j < 32 → remainder (pos 32 *ℤ r +ℤ pos j) 32 ≡ j
-index_part (pos n) j less = omega (arith, ints)
-index_part (negsuc n) j less = ap (λ z. remainder z 32) (below_zero_is n j less) ∙ rest where
-  rest : remainder (negsuc (n * 32 + (31 - j))) 32 ≡ j
-  rest = omega (arith, less)
-
-pub region_back : (region : RegionPos) (i : ℕ) → i < 1024 → region_of (chunk_at region i) ≡ region
-region_back region i less =
-    let x = region_part region.x (i % 32) (omega arith) in
-    let z = region_part region.z (i / 32) (omega arith) in
-    λ j. record { x = x j; z = z j }
-
-pub index_back : (region : RegionPos) (i : ℕ) → i < 1024 → index_of (chunk_at region i) ≡ i
-index_back region i less =
-    let x = index_part region.x (i % 32) (omega arith) in
-    let z = index_part region.z (i / 32) (omega arith) in
-    let whole : i % 32 + 32 * (i / 32) ≡ i = omega arith in
-    ap (λ a. a + 32 * remainder (pos 32 *ℤ region.z +ℤ pos (i / 32)) 32) x ∙ (ap (λ b. i % 32 + 32 * b) z ∙ whole)
 
 pub apart_at : (r : RegionPos) (i j : ℕ) → i < 1024 → j < 1024 → i ≢ j → same_chunk (chunk_at r i) (chunk_at r j) ≡ false
 apart_at r i j li lj not = by (same_chunk (chunk_at r i) (chunk_at r j)) refl where
@@ -68,7 +38,7 @@ apart_at r i j li lj not = by (same_chunk (chunk_at r i) (chunk_at r j)) refl wh
 pub away_at : (r : RegionPos) (i : ℕ) (c : ChunkPos) → i < 1024 → same_region r (region_of c) ≡ false → same_chunk (chunk_at r i) c ≡ false
 away_at r i c li away = by (same_chunk (chunk_at r i) c) refl where
   by : (t : Bool) → same_chunk (chunk_at r i) c ≡ t → t ≡ false
-  by true e = absurd (false≢true (sym away ∙ (ap (λ x. same_region r x) (ap region_of (sym (same_chunk_is (chunk_at r i) c e)) ∙ region_back r i li) ∙ same_region_self r)))
+  by true e = absurd (false≢true (sym away ∙ (ap (λ x. same_region r x) (ap region_of (sym (same_chunk_is (chunk_at r i) c e)) ∙ region_back r i li) ∙ same_region-refl r)))
   by false e = refl
 
 -- ---- chunks found among those of places

@@ -19,6 +19,7 @@ use Rattle.av_image.proofs.Rises.{not_later_region, rises}
 use Rattle.av_types.specs.declared.place.Pos.{Pos}
 use Rattle.av_types.specs.declared.place.ChunkPos.{ChunkPos}
 use Rattle.av_types.specs.declared.place.RegionPos.{RegionPos}
+use Rattle.av_types.proofs.Coordinates.{region_back, index_back}
 use Rattle.av_region.specs.Region.{stamp_of}
 use Rattle.av_state.specs.BlockState.{BlockState, air}
 use Rattle.av_chunk.specs.declared.chunk.Chunk.{Chunk}
@@ -28,7 +29,7 @@ use Rattle.av_ticks.specs.Order.{inserted, ordered}
 use Rattle.av_files.specs.Files.{File, in_order, region_order, same_region, chunks_rise, regions_rise, region_after}
 use Rattle.av_files.specs.Run.{stated}
 use Rattle.av_files.specs.Denotes.{Rest, IsSlot, DenotesFile, Denotes}
-use Rattle.av_files.proofs.Coordinates.{same_region_is}
+use Rattle.av_files.proofs.Coordinates.{same_region_is, same_region-refl}
 use Rattle.av_files.proofs.Slots.{made_at}
 use Rattle.av_image.specs.declared.places.Place.{Place}
 use Rattle.av_image.specs.declared.places.Place.TheVariants.{Absent, Kept, Full}
@@ -41,7 +42,7 @@ use Rattle.av_world.specs.Lands.{land_of}
 use Rattle.av_image.specs.Views.{rest_view, region_found, stamp_in, slot_in, slot_at, kept_in, chunk_rest_in}
 use Rattle.av_image.specs.Splits.{slot_of, placed_in, placed_from, IsSplit, AreSplit, chunk_found, HasAt, IsWorldOf}
 use Rattle.av_image.specs.Saving.{IsSlotOf, IsRegionOf}
-use Rattle.av_image.proofs.Back.{same_region_self, other_region, region_back, index_back, chunk_in, found_away, found_from, found_none_of, or_none}
+use Rattle.av_image.proofs.Back.{other_region, chunk_in, found_away, found_from, found_none_of, or_none}
 use Rattle.av_image.proofs.Worlds.{found_append, first_some}
 use Rattle.av_image.proofs.OneSlot.{slot_is}
 
@@ -124,9 +125,9 @@ has_place h t whole found w f r x rs xs has was split tells alone i lt p at =
     let c = chunk_at f.pos i in
     let own : region_of c ≡ f.pos = region_back f.pos i lt in
     let pos_is : x.pos ≡ f.pos = split.pos_is ∙ was.pos_is in
-    let among : IsOf (map (λ x. x.pos) (x ∷ xs)) f.pos = ap (λ b. b || list_any (same_region f.pos) (map (λ x. x.pos) xs)) (ap (λ p. same_region f.pos p) pos_is ∙ same_region_self f.pos) in
+    let among : IsOf (map (λ x. x.pos) (x ∷ xs)) f.pos = ap (λ b. b || list_any (same_region f.pos) (map (λ x. x.pos) xs)) (ap (λ p. same_region f.pos p) pos_is ∙ same_region-refl f.pos) in
     let is_among : IsOf (map (λ x. x.pos) (x ∷ xs)) (region_of c) = subst (λ q. IsOf (map (λ x. x.pos) (x ∷ xs)) q) (sym own) among in
-    let rest : chunk_found (flat_map placed_in rs) c ≡ None = alone c is_among (ap (λ q. same_region q r.pos) own ∙ (ap (λ q. same_region f.pos q) was.pos_is ∙ same_region_self f.pos)) in
+    let rest : chunk_found (flat_map placed_in rs) c ≡ None = alone c is_among (ap (λ q. same_region q r.pos) own ∙ (ap (λ q. same_region f.pos q) was.pos_is ∙ same_region-refl f.pos)) in
     let from : chunk_found (placed_in r) c ≡ chunk_in (Some p) =
     ap (λ q. chunk_found (placed_in r) (chunk_at q i)) (sym was.pos_is) ∙ (found_from r.pos 0 r.places.items i i (few_of h t f r was) (omega arith) lt ∙ ap chunk_in at) in
     let chunk : chunk_found found c ≡ chunk_in (Some p) =
@@ -146,10 +147,10 @@ file_denoted h t whole found w f r x rs xs has was split tells alone = record {
   pos_is = split.pos_is ∙ was.pos_is
 
   among : IsOf (map (λ x. x.pos) (x ∷ xs)) f.pos
-  among = ap (λ b. b || list_any (same_region f.pos) (map (λ x. x.pos) xs)) (ap (λ p. same_region f.pos p) pos_is ∙ same_region_self f.pos)
+  among = ap (λ b. b || list_any (same_region f.pos) (map (λ x. x.pos) xs)) (ap (λ p. same_region f.pos p) pos_is ∙ same_region-refl f.pos)
 
   here : region_found whole f.pos ≡ Some x
-  here = tells.region f.pos among ∙ ap (λ b. cond b (Some x) (region_found xs f.pos)) (ap (λ p. same_region p f.pos) pos_is ∙ same_region_self f.pos)
+  here = tells.region f.pos among ∙ ap (λ b. cond b (Some x) (region_found xs f.pos)) (ap (λ p. same_region p f.pos) pos_is ∙ same_region-refl f.pos)
 
   slot : (i : ℕ) → i < 1024 → IsSlot h (stated t (land_of w)) (rest_view whole) f.bytes (chunk_at f.pos i) i
   slot i lt =
@@ -206,7 +207,7 @@ alone h t f r x fs rs xs split was rest n c is own = found_elsewhere h t fs rs x
   at = split.pos_is ∙ sym (same_region_is (region_of c) r.pos own)
 
   by : (b : Bool) → list_any (same_region (region_of c)) (map (λ x. x.pos) xs) ≡ b → b ≡ false
-  by true k = absurd (false≢true (sym (n.none (region_of c) k) ∙ (ap (λ p. same_region p (region_of c)) at ∙ same_region_self (region_of c))))
+  by true k = absurd (false≢true (sym (n.none (region_of c) k) ∙ (ap (λ p. same_region p (region_of c)) at ∙ same_region-refl (region_of c))))
   by false k = refl
 
 all_files : (h : Height) (t : List BlockState) (whole : List RegionRest) (found : List Placed) (w : World) (fs : List File) (rs : List ReadRegion) (xs : List RegionRest)

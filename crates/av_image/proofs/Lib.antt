@@ -8,7 +8,6 @@ pub mod Sorting
 pub mod Rises
 pub mod Denoted
 pub mod Loads
-pub mod SameChunk
 pub mod OneChunk
 pub mod Written
 pub mod Ready

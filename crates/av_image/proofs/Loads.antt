@@ -21,6 +21,8 @@ use Rattle.std.proofs.lemmas.Option.{slice_get_within}
 use Rattle.std.proofs.lemmas.List.{length-append}
 use Rattle.av_types.specs.Division.{divided}
 use Rattle.av_types.specs.Places.{place_of, is_section_of}
+use Rattle.av_types.proofs.Coordinates.{region_back}
+use Rattle.av_types.proofs.SamePlaces.{same_chunk_is}
 use Rattle.av_nbt.specs.Nbt.{Document}
 use Rattle.av_nbt.specs.Shape.{or_else, ◌>>=◌}
 use Rattle.av_section.specs.Section.{number_at, is_pending as is_pending_at}
@@ -35,7 +37,6 @@ use Rattle.av_chunk.specs.declared.rest.ChunkRest.{ChunkRest}
 use Rattle.av_cells.specs.Grid.{number_in as number_in_filling, pending_in as pending_in_filling, is_here}
 use Rattle.av_world.specs.Sections.{filling_in}
 use Rattle.av_world.specs.Inserted.{chunk_grid}
-use Rattle.av_land.proofs.Kept.{same_chunk_is}
 use Rattle.av_world.specs.Inserted.{IsNewChunk}
 use Rattle.av_world.specs.declared.worlds.World.{World}
 use Rattle.av_ticks.specs.Order.{inserted, ordered}
@@ -55,11 +56,11 @@ use Rattle.av_world.specs.Views.{grid}
 use Rattle.av_world.specs.Lands.{land_of, IsWhole}
 use Rattle.av_image.specs.Views.{rest_view, region_found, stamp_in}
 use Rattle.av_image.specs.Splits.{placed_in, placed_from, placed_of, IsSplit, AreSplit, chunk_found, ArePlacedOnce, HasAt, IsWorldOf}
-use Rattle.av_image.proofs.Back.{same_region_self, other_region, region_back, found_away, found_before, found_none_of}
+use Rattle.av_image.proofs.Back.{other_region, found_away, found_before, found_none_of}
 use Rattle.av_image.proofs.Worlds.{found_append, first_some, not_same}
 use Rattle.av_image.proofs.Sorting.{found_inserted, found_ordered}
 use Rattle.av_files.proofs.Sorted.{all_ordered}
-use Rattle.av_files.proofs.Coordinates.{same_region_is}
+use Rattle.av_files.proofs.Coordinates.{same_region_is, same_region-refl}
 use Rattle.av_image.proofs.Rises.{not_later_region, region_total}
 
 -- ---- limits and counts of regions that were read
@@ -208,7 +209,7 @@ found_not_in h t (f ∷ fs) [] w c e = absurd w
 not_in_rest : (p : RegionPos) (ps : List RegionPos) → regions_rise (p ∷ ps) ≡ true → list_any (same_region p) ps ≡ false
 not_in_rest p ps h = by (list_any (same_region p) ps) refl where
   by : (b : Bool) → list_any (same_region p) ps ≡ b → b ≡ false
-  by true e = absurd (false≢true (sym (not_later_region p p ps h e) ∙ same_region_self p))
+  by true e = absurd (false≢true (sym (not_later_region p p ps h e) ∙ same_region-refl p))
   by false e = refl
 
 placed_once_read : (h : Height) (t : List BlockState) (fs : List File) (rs : List ReadRegion) → WereRegionsRead h t fs rs → regions_rise (map (λ f. f.pos) fs) ≡ true → ArePlacedOnce (flat_map placed_in rs)
@@ -329,7 +330,7 @@ any_inserted p c f (g ∷ gs) = by (is_lt (c g f)) (any_inserted p c f gs) where
 same_both : (a b : RegionPos) → same_region a b ≡ same_region b a
 same_both a b = by (same_region a b) refl where
   by : (t : Bool) → same_region a b ≡ t → t ≡ same_region b a
-  by true e = sym (ap (λ x. same_region x a) (sym (same_region_is a b e)) ∙ same_region_self a)
+  by true e = sym (ap (λ x. same_region x a) (sym (same_region_is a b e)) ∙ same_region-refl a)
   by false e = sym (other_region a b e)
 
 share_inserted : (c : File → File → Ordering) (f : File) (fs : List File) → share_a_region (inserted c f fs) ≡ (list_any (λ g. same_region f.pos g.pos) fs || share_a_region fs)
@@ -364,7 +365,7 @@ rise_apart (f ∷ fs) h =
     let parts = and_parts (region_after f.pos (map (λ g. g.pos) fs)) (regions_rise (map (λ g. g.pos) fs)) h in
     by (list_any (λ g. same_region f.pos g.pos) fs) refl (rise_apart fs parts.1) where
       by : (b : Bool) → list_any (λ g. same_region f.pos g.pos) fs ≡ b → share_a_region fs ≡ false → (b || share_a_region fs) ≡ false
-      by true e k = absurd (false≢true (sym (not_later_region f.pos f.pos (map (λ g. g.pos) fs) h (sym (any_pos f.pos fs) ∙ e)) ∙ same_region_self f.pos))
+      by true e k = absurd (false≢true (sym (not_later_region f.pos f.pos (map (λ g. g.pos) fs) h (sym (any_pos f.pos fs) ∙ e)) ∙ same_region-refl f.pos))
       by false e k = k
 
 -- in order, files that share no region rise

@@ -42,7 +42,7 @@ use Rattle.av_world.specs.declared.worlds.World.{World}
 use Rattle.av_world.proofs.Search.{slot_found, not_before_self}
 use Rattle.av_image.specs.Saving.{CanSave, states_in, sources_in, section_light, lights_in}
 use Rattle.av_image.proofs.OneSlot.{chunk_of_position, state_found, layer_is}
-use Rattle.av_image.proofs.SameChunk.{layout_same}
+use Rattle.av_document.proofs.Inside.{layout_same}
 use Rattle.av_image.proofs.Ways.{grows_nothing}
 
 -- ---- where a chunk stands
@@ -138,8 +138,8 @@ module _ (w : World) (k : Kinds) (ls : List ChunkLight) (n : ℕ) (can : CanSave
     written_is light =
         let moved : written x r k l n ≡ chunk_layout c (height_of w) (chunk_cells (states (table_in k)) (height_of w) x) (entries x.ticks) (sources_of k (height_of w) x) (rest_of r) (light_of l (height_of w)) n =
         λ i. chunk_layout (at i) (tall i) (chunk_cells (states (table_in k)) (tall i) x) (entries x.ticks) (sources_of k (tall i) x) (rest_of r) (light_of l (tall i)) n in
-        let same = layout_same c (height_of w) (chunk_cells (states (table_in k)) (height_of w) x) (states_in k w).at (entries x.ticks) (sources_of k (height_of w) x) (sources_in k w) (rest_of r) (light_of l (height_of w)) n
-        cells_same (sources_all (entries x.ticks) (by_recursion (λ e. lies_in c (height_of w) e.pos ≡ true) (entries x.ticks) within)) in
+        let same = layout_same c (height_of w) (chunk_cells (states (table_in k)) (height_of w) x) (states_in k w).at (entries x.ticks) (sources_of k (height_of w) x) (sources_in k w) (rest_of r) (light_of l (height_of w)) (light_of l (height_of w)) n
+        cells_same (sources_all (entries x.ticks) (by_recursion (λ e. lies_in c (height_of w) e.pos ≡ true) (entries x.ticks) within)) (λ y inside. refl) in
         moved ∙ (same
         ∙ (ap (λ (es : List Entry). chunk_layout c (height_of w) (states_in k w).at es (sources_in k w) (rest_of r) (light_of l (height_of w)) n) (sym own.entries_are)
         ∙ ap (λ (o : Option ChunkLight). chunk_layout c (height_of w) (states_in k w).at (lists w c) (sources_in k w) (rest_of r) (λ y. section_light (height_of w) o y) n) (sym light)))

@@ -13,10 +13,10 @@ use Rattle.std.proofs.lemmas.Bool.Decides.{Decides-int_eq}
 use Rattle.std.proofs.lemmas.Option.{none-some}
 use Rattle.av_types.specs.declared.place.ChunkPos.{ChunkPos}
 use Rattle.av_types.specs.declared.place.RegionPos.{RegionPos}
+use Rattle.av_types.proofs.SamePlaces.{same_chunk_is}
 use Rattle.av_ticks.specs.Order.{inserted, ordered}
 use Rattle.av_chunk.specs.declared.chunk.Chunk.{Chunk}
 use Rattle.av_cells.specs.Positions.{same_chunk}
-use Rattle.av_land.proofs.Kept.{same_chunk_is}
 use Rattle.av_world.proofs.Search.{lt_tells, eq_tells}
 use Rattle.av_files.specs.Files.{File, region_order, region_after, regions_rise, in_order, chunk_order}
 use Rattle.av_sink.specs.declared.files.RegionFile.{RegionFile}

@@ -6,6 +6,7 @@ use Rattle.av_types.specs.Places.{chunk_of_section}
 use Rattle.av_types.specs.declared.place.Height.{Height}
 use Rattle.av_types.specs.declared.place.ChunkPos.{ChunkPos}
 use Rattle.av_types.specs.declared.place.SectionPos.{SectionPos}
+use Rattle.av_types.proofs.SamePlaces.{same_chunk_is}
 use Rattle.av_ticks.specs.Ticks.{entries}
 use Rattle.av_chunk.specs.declared.chunk.Chunk.{Chunk}
 use Rattle.av_cells.specs.Positions.{same_chunk}
@@ -17,7 +18,6 @@ use Rattle.av_world.specs.Views.{grid, lists}
 use Rattle.av_world.specs.declared.worlds.World.{World}
 use Rattle.av_world.proofs.Search.{same_chunk_true}
 use Rattle.av_land.specs.Land.{has_chunk}
-use Rattle.av_land.proofs.Kept.{same_chunk_is}
 use Rattle.av_image.specs.declared.splits.Placed.{Placed}
 use Rattle.av_image.specs.Splits.{chunk_found, ArePlacedOnce, HasAt, IsWorldOf}
 

@@ -11,6 +11,8 @@ use Rattle.av_types.specs.declared.place.ChunkPos.{ChunkPos}
 use Rattle.av_types.specs.declared.place.RegionPos.{RegionPos}
 use Rattle.av_types.specs.declared.fault.Fault.{Fault}
 use Rattle.av_types.specs.declared.fault.Fault.TheVariants.{ChunkTooLarge}
+use Rattle.av_types.proofs.Coordinates.{region_back, index_back}
+use Rattle.av_files.proofs.Coordinates.{same_region-refl}
 use Rattle.av_nbt.specs.Writing.{written_document}
 use Rattle.av_region.specs.Layout.{region_bytes, first_too_large}
 use Rattle.av_rules.specs.declared.kinds.Kinds.{Kinds}
@@ -30,11 +32,10 @@ use Rattle.av_image.specs.declared.rest.Rest.{Rest}
 use Rattle.av_image.specs.Views.{region_found, stamp_in, slot_in, slot_at, kept_in, chunk_rest_in, rest_view, rest_in}
 use Rattle.av_image.specs.Saving.{states_in, sources_in, lights_in, saved, unsaved, IsSlotOf, IsRegionOf, IsRestOf}
 use Rattle.av_image.specs.SavingSteps.{loaded_bytes, slot_payload, region_payloads, region_file, region_unsaved, regions_unsaved, SavedSoFar}
-use Rattle.av_image.proofs.Back.{same_region_self, region_back, index_back}
 use Rattle.av_image.proofs.Rises.{not_later_region}
 use Rattle.av_image.proofs.Denoted.{get_within}
 use Rattle.av_image.proofs.OneChunk.{by_recursion}
-use Rattle.av_image.proofs.SameChunk.{map_range, map_same}
+use Rattle.av_document.proofs.Inside.{map_range, map_same}
 
 -- ---- each region is found at its place
 
@@ -45,7 +46,7 @@ or_right false b e = e
 later : (p : RegionPos) (xs : List RegionRest) → ((q : RegionPos) → list_any (same_region q) (map (λ x. x.pos) xs) ≡ true → same_region p q ≡ false) → AllByRecursion (λ y. same_region p y.pos ≡ false) xs
 later p [] n = tt
 later p (y ∷ ys) n = (
-  n y.pos (ap (λ b. b || list_any (same_region y.pos) (map (λ x. x.pos) ys)) (same_region_self y.pos)),
+  n y.pos (ap (λ b. b || list_any (same_region y.pos) (map (λ x. x.pos) ys)) (same_region-refl y.pos)),
   later p ys (λ q is. n q (or_right (same_region q y.pos) (list_any (same_region q) (map (λ x. x.pos) ys)) is)),
 )
 
@@ -53,7 +54,7 @@ found_all : (rs : List RegionRest) → regions_rise (map (λ x. x.pos) rs) ≡ t
 found_all [] h = tt
 found_all (x ∷ xs) h =
     let more = and_parts (region_after x.pos (map (λ y. y.pos) xs)) (regions_rise (map (λ y. y.pos) xs)) h in (
-      ap (λ b. cond b (Some x) (region_found xs x.pos)) (same_region_self x.pos),
+      ap (λ b. cond b (Some x) (region_found xs x.pos)) (same_region-refl x.pos),
       all_both (λ y. same_region x.pos y.pos ≡ false) (λ y. region_found xs y.pos ≡ Some y) (λ y. region_found (x ∷ xs) y.pos ≡ Some y) xs
           (λ y a b. ap (λ t. cond t (Some x) (region_found xs y.pos)) a ∙ b)
           (later x.pos xs (λ q is. not_later_region x.pos q (map (λ y. y.pos) xs) h is)) (found_all xs more.1),

@@ -1,9 +1,11 @@
 //! Small region files, read as a world and a rest.
+use crate::flat::{Block, Flat, Waiting, flat_region, push_chunk, push_pad, region};
+use crate::saves::{saved, saved_broken};
 use av_image::{Rest, Slot, load};
 use av_rules::Rules;
 use av_sink::RegionFile;
 use av_state::StateTable;
-use av_types::{Fault, RegionPos};
+use av_types::{ChunkPos, Fault, Height, Pos, RegionPos};
 use av_world::World;
 use std::alloc::{AllocError, Global};
 use std::process::Abort;
@@ -109,6 +111,92 @@ fn files_that_are_refused(rt: HostRuntime) -> Result<(), Fail> {
         ([(0, 0, 0), (1, 0, 8191), (2, 0, 8192)], Fault::ShortHeader),
     ] {
         assert!(rt; refusal(alloc, regions.as_slice())? == Some(fault));
+    }
+    Ok(())
+}
+
+/// A flat chunk with water and entries, of which one is overdue.
+fn watered(alloc: Global) -> Result<Vec<u8>, AllocError> {
+    let pos = Pos { x: 8, y: 64, z: 8 };
+    let entries: [Waiting; 2] = [(pos, -3, true), (Pos { x: 7, ..pos }, 2, false)];
+    let flat = Flat {
+        height: Height::game(),
+        blocks: &[
+            (pos, Block::Water(0)),
+            (Pos { x: 7, ..pos }, Block::Water(1)),
+        ],
+        entries: entries.as_slice(),
+    };
+    flat_region(alloc, flat, 2)
+}
+
+/// What is saved of files is what they were, where nothing is missing in them: blocks, entries, payloads and stamps.
+#[test]
+fn files_that_are_saved(rt: HostRuntime) -> Result<(), Fail> {
+    let alloc = rt.alloc();
+    let here = RegionPos { x: 0, z: 0 };
+    let mut files = one(alloc, here, watered(alloc)?)?;
+    let there = RegionPos { x: 7, z: -1 };
+    files.push(RegionFile {
+        pos: there,
+        bytes: kept_region(alloc)?,
+    })?;
+    let written = saved(alloc, files)?;
+    assert_eq!(rt; written.len(), 2);
+    let want = [(there, kept_region(alloc)?), (here, watered(alloc)?)];
+    for (file, (pos, bytes)) in written.iter().zip(want.iter()) {
+        assert_eq!(rt; file.pos, *pos);
+        assert!(rt; file.bytes == *bytes);
+    }
+    Ok(())
+}
+
+/// A world that was given up is broken, with chunks or without.
+#[test]
+fn a_broken_world_is_not_saved(rt: HostRuntime) -> Result<(), Fail> {
+    let alloc = rt.alloc();
+    let pos = RegionPos { x: 0, z: 0 };
+    for bytes in [Vec::new(alloc), watered(alloc)?] {
+        let files = one(alloc, pos, bytes)?;
+        assert!(rt; saved_broken(alloc, files).err() == Some(Fault::Broken));
+    }
+    Ok(())
+}
+
+/// The largest chunk that can be read, without sections, at index 1: with the sections that are missing it is too large.
+#[test]
+fn a_chunk_that_is_too_large(rt: HostRuntime) -> Result<(), Fail> {
+    let alloc = rt.alloc();
+    let at = ChunkPos { x: -31, z: 64 };
+    let mut payload = Vec::new(alloc);
+    push_chunk(&mut payload, at, 0)?;
+    push_pad(&mut payload, 1_044_475)?;
+    let mut payloads = Vec::new(alloc);
+    payloads.push(Vec::from_slice(alloc, KEPT)?)?;
+    payloads.push(payload)?;
+    let bytes = region(alloc, payloads.as_slice())?;
+    let files = one(alloc, RegionPos { x: -1, z: 2 }, bytes)?;
+    assert!(rt; saved(alloc, files).err() == Some(Fault::ChunkTooLarge(at)));
+    Ok(())
+}
+
+/// No proper beginning of a document is one.
+#[test]
+fn payloads_that_are_cut(rt: HostRuntime) -> Result<(), Fail> {
+    let alloc = rt.alloc();
+    let pos = RegionPos { x: 0, z: 0 };
+    for length in 0..=KEPT.len() {
+        let mut payloads = Vec::new(alloc);
+        let payload = KEPT.get(..length).ok_or("too long")?;
+        payloads.push(Vec::from_slice(alloc, payload)?)?;
+        let bytes = region(alloc, payloads.as_slice())?;
+        let fault = read(alloc, one(alloc, pos, bytes)?).err();
+        let want = if length < KEPT.len() {
+            Some(Fault::BadNbt)
+        } else {
+            None
+        };
+        assert!(rt; fault == want, "{length} bytes");
     }
     Ok(())
 }

@@ -23,6 +23,7 @@ use std::alloc::{AllocError, Global};
 use std::env;
 use std::io::{self, Write};
 use std::rt::{Env, Files};
+use std::sync::Wait;
 use std::thread::Threads;
 
 /// Writes why words were refused, or the help that was called for, and answers the status.
@@ -126,14 +127,12 @@ fn run_check<R: Files + AllocGlobal + Clone + Drop + Threads + Sync, O: Write, E
 }
 
 /// Runs `run`, and hands its files to a sink that has taken none yet and has not failed.
-fn run_regions<R: Files + AllocGlobal + Clone + Drop + Threads + Sync, S: Sink, O: Write, E: Write>(
-    rt: &R,
-    request: Request<'_>,
-    sink: &mut S,
-    progress: bool,
-    out: &mut O,
-    err: &mut E,
-) -> u8
+fn run_regions<
+    R: Files + AllocGlobal + Clone + Drop + Threads + Wait + Sync,
+    S: Sink,
+    O: Write,
+    E: Write,
+>(rt: &R, request: Request<'_>, sink: &mut S, progress: bool, out: &mut O, err: &mut E) -> u8
     requires failures { (S.account sink.old).failures ≡ 0 }
     requires handed { (S.account sink.old).handed ≡ 0 }
     ensures status { result ≤ REFUSED }
@@ -144,7 +143,7 @@ fn run_regions<R: Files + AllocGlobal + Clone + Drop + Threads + Sync, S: Sink, 
 }
 
 /// Runs a command. Where standard error is a terminal, it says how far long work is.
-fn run_command<R: Files + AllocGlobal + Clone + Drop + Threads + Sync, O: Write, E: Write>(
+fn run_command<R: Files + AllocGlobal + Clone + Drop + Threads + Wait + Sync, O: Write, E: Write>(
     rt: &R,
     is_terminal: bool,
     command: Words<'_>,
@@ -184,7 +183,7 @@ fn run_command<R: Files + AllocGlobal + Clone + Drop + Threads + Sync, O: Write,
 }
 
 /// Runs the command that the words name.
-fn run_words<R: Files + AllocGlobal + Clone + Drop + Threads + Sync, O: Write, E: Write>(
+fn run_words<R: Files + AllocGlobal + Clone + Drop + Threads + Wait + Sync, O: Write, E: Write>(
     rt: &R,
     is_terminal: bool,
     given: &[&str],
@@ -213,7 +212,7 @@ fn as_texts(alloc: Global, words: &[String]) -> Result<Vec<&str>, AllocError> {
 /// Reads the words that the program was called with and does what they say. Where standard error is a terminal, long work
 /// says there how far it is. The answer is the program's status: 0; 1 after a fault, and where `check` found something; 2
 /// after words that are refused or call for help.
-pub fn run<R: Env + Files + AllocGlobal + Clone + Drop + Threads + Sync, O: Write, E: Write>(
+pub fn run<R: Env + Files + AllocGlobal + Clone + Drop + Threads + Wait + Sync, O: Write, E: Write>(
     rt: &R,
     is_terminal: bool,
     out: &mut O,

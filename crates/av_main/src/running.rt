@@ -5,11 +5,13 @@ ghost use Rattle.av_main.specs.RunCommand.{HasCounts, HasRunInto, HasRunOver, Is
 use crate::output::{FAULT, report_fault};
 use crate::progress::note_step;
 use crate::reading::{read_file, read_folder};
+use av_crew::NoGate;
 use av_run::{Outcome, run};
 use av_sink::{RegionFile, Sink, save_all};
 use av_types::Fault;
 use std::io::Write;
 use std::rt::Files;
+use std::sync::Wait;
 use std::thread::Threads;
 
 /// What a run is asked for.
@@ -22,7 +24,7 @@ pub(crate) struct Request<'a> {
     /// The file of the edits.
     pub(crate) edits: &'a str,
     pub(crate) ticks: u32,
-    /// How many threads may turn blocks.
+    /// How many threads turn blocks.
     pub(crate) workers: u32,
 }
 
@@ -54,7 +56,7 @@ fn read_inputs<R: Files + AllocGlobal + Clone + Drop, E: Write>(
 }
 
 /// Runs what was read, and hands the files to a sink that has taken none yet and has not failed.
-fn run_into<R: Files + AllocGlobal + Threads + Sync, S: Sink, E: Write>(
+fn run_into<R: Files + AllocGlobal + Threads + Wait + Sync, S: Sink, E: Write>(
     rt: &R,
     inputs: Inputs,
     ticks: u32,
@@ -76,6 +78,7 @@ fn run_into<R: Files + AllocGlobal + Threads + Sync, S: Sink, E: Write>(
         inputs.edits.as_slice(),
         ticks,
         workers,
+        &NoGate,
     )?;
     note_step(err, progress, "writing");
     save_all(rt.alloc(), sink, outcome.files.as_slice())?;
@@ -83,13 +86,11 @@ fn run_into<R: Files + AllocGlobal + Threads + Sync, S: Sink, E: Write>(
 }
 
 /// Reads what is asked for, runs it, and hands the files to a sink that has taken none yet and has not failed.
-pub(crate) fn run_over<R: Files + AllocGlobal + Clone + Drop + Threads + Sync, S: Sink, E: Write>(
-    rt: &R,
-    request: Request<'_>,
-    sink: &mut S,
-    progress: bool,
-    err: &mut E,
-) -> Result<Outcome, Fault>
+pub(crate) fn run_over<
+    R: Files + AllocGlobal + Clone + Drop + Threads + Wait + Sync,
+    S: Sink,
+    E: Write,
+>(rt: &R, request: Request<'_>, sink: &mut S, progress: bool, err: &mut E) -> Result<Outcome, Fault>
     requires failures { (S.account sink.old).failures ≡ 0 }
     requires handed { (S.account sink.old).handed ≡ 0 }
     ensures { HasRunOver request.entry.ticks request.entry.workers (S.account sink.old) (S.account sink.new) result }

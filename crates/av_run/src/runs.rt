@@ -1,7 +1,8 @@
 //! A run from files to files.
-ghost use Rattle.std.specs.Prelude.{◌≢◌, IfOk, IfErr, map};
+ghost use Rattle.std.specs.Prelude.{◌≡◌, ◌≢◌, true, IfOk, IfErr, map};
 ghost use Rattle.av_types.specs.declared.fault.Fault.TheVariants.{OutOfMemory};
 ghost use Rattle.av_rules.specs.Rows.{BlockTable};
+ghost use Rattle.av_crew.specs.Counts.{is_count_of_workers};
 ghost use Rattle.av_image.specs.Loading.{file_in};
 ghost use Rattle.av_image.specs.Views.{rest_in};
 ghost use Rattle.av_run.specs.Answer.{IsAnswer};
@@ -12,10 +13,11 @@ ghost use Rattle.av_run.specs.Finished.{reached_from, IsFinished};
 use crate::counts::are_counts_good;
 use crate::input::{Input, read_input};
 use crate::writing::written;
-use av_serial::run_ticks;
+use av_crew::{Gate, run_ticks};
 use av_sink::RegionFile;
 use av_types::Fault;
 use std::alloc::Global;
+use std::sync::Wait;
 use std::thread::Threads;
 
 /// What a run answers.
@@ -30,20 +32,32 @@ pub struct Outcome {
 }
 
 /// The ticks of a run, the light after them, and the files.
-fn finish(
-    rt: &(impl Threads + Sync),
+fn finish<R: Threads + Wait + Sync, G: Gate + Sync>(
+    rt: &R,
     alloc: Global,
     input: Input,
     ticks: u32,
+    workers: u32,
+    gate: &G,
 ) -> Result<Outcome, Fault>
-    requires { CanRun ticks input }
+    requires can { CanRun ticks input }
+    requires workers { is_count_of_workers workers ≡ true }
     ensures ok { IfOk result (IsFinished ticks input) }
     ensures err { IfErr result (λ e. e ≢ OutOfMemory → (t : BlockTable) → AreKindsBy t input.kinds → IsNotWritten t (reached_from ticks input) (rest_in input.rest) ticks e) }
 {
     let mut world = input.world;
     let rest = input.rest;
     let kinds = input.kinds;
-    let turns = run_ticks(alloc, &mut world, &kinds, input.edits.as_slice(), ticks)?;
+    let turns = run_ticks(
+        rt,
+        alloc,
+        &mut world,
+        &kinds,
+        input.edits.as_slice(),
+        ticks,
+        workers,
+        gate,
+    )?;
     let files = written(rt, alloc, &world, &rest, &kinds, ticks)?;
     Ok(Outcome {
         files,
@@ -53,8 +67,9 @@ fn finish(
 }
 
 /// Runs edits and water over the world of region files, lights it, and answers the files that it is written as. `table`
-/// is a block table, `edits` are lines of edits, and `workers` is how many threads may turn blocks; the answer is the same
-/// for each number of them. A refused run hands out nothing.
+/// is a block table, `edits` are lines of edits, and `workers` is how many threads turn blocks, the calling one among them;
+/// the answer is the same for each number of them. `gate` is told of each part of a tick before and after its turns. A
+/// refused run hands out nothing.
 ///
 /// # Errors
 /// The first of these: `BadCount` where there are not 1 to 8 workers, or more than 1,000,000 ticks or 1,024 files;
@@ -63,14 +78,15 @@ fn finish(
 /// least-numbered one from `BadLocation` to `TooManyStates`; the fault of the first line of edits that has one, `BadEdit`,
 /// `EditTick`, `EditOutside` or `TooManyStates`; `ChunkTooLarge` for the first chunk that does not fit its file when all is
 /// done. `OutOfMemory` may stand in place of any.
-pub fn run(
-    rt: &(impl Threads + Sync),
+pub fn run<R: Threads + Wait + Sync, G: Gate + Sync>(
+    rt: &R,
     alloc: Global,
     files: Vec<RegionFile>,
     table: &[u8],
     edits: &[u8],
     ticks: u32,
     workers: u32,
+    gate: &G,
 ) -> Result<Outcome, Fault>
     ensures { IsAnswer (map file_in files.items) table.now edits.now ticks workers result }
 {
@@ -78,5 +94,5 @@ pub fn run(
         return Err(Fault::BadCount);
     }
     let input = read_input(alloc, files, table, edits, ticks)?;
-    finish(rt, alloc, input, ticks)
+    finish(rt, alloc, input, ticks, workers, gate)
 }

@@ -2,4 +2,14 @@
 #![tactic(auto)]
 
 #[cfg(test)]
+mod chunks;
+#[cfg(test)]
+mod given;
+#[cfg(test)]
+mod refusals;
+#[cfg(test)]
+mod stops;
+#[cfg(test)]
 mod tests;
+#[cfg(test)]
+mod water;

@@ -1,52 +1,84 @@
-//! Runs of folders without loaded chunks, and of input that is refused.
-use av_run::{Outcome, RegionFile, run};
+//! Runs of folders without loaded chunks, and the order in which input is judged.
+use crate::given::{Given, run_files, table_with};
+use av_image_tests::flat::region;
+use av_run::{Outcome, RegionFile};
 use av_types::{Fault, RegionPos};
-use std::alloc::{AllocError, Global};
+use std::alloc::Global;
+use std::sync::Wait;
 use std::test::Fail;
 use std::thread::Threads;
 
-/// A table whose one row is for stone.
-const TABLE: &[u8] =
-    b"version = 1\n[[block]]\nname = \"minecraft:stone\"\nopen = false\nfloor = true\nopacity = 15\nemission = 0\n";
-
-/// Files of zeros, each of one region, by its x and its length.
-fn zeros(alloc: Global, regions: &[(i32, usize)]) -> Result<Vec<RegionFile>, AllocError> {
-    let mut files = Vec::new(alloc);
-    for (x, len) in regions {
-        files.push(RegionFile {
-            pos: RegionPos { x: *x, z: 0 },
-            bytes: vec![in alloc; 0u8; *len]?,
-        })?;
-    }
-    Ok(files)
-}
-
-/// A run of 10 ticks without edits.
-fn run_on(
-    rt: &(impl Threads + Sync),
+/// A run of 10 ticks without edits, on files of zeros: each region's x and z, and its length.
+fn run_zeros(
+    rt: &(impl Threads + Wait + Sync),
     alloc: Global,
-    regions: &[(i32, usize)],
+    regions: &[(i32, i32, usize)],
     table: &[u8],
     workers: u32,
 ) -> Result<Outcome, Fault> {
-    let files = zeros(alloc, regions)?;
-    run(rt, alloc, files, table, b"", 10, workers)
+    let mut files = Vec::new(alloc);
+    for (x, z, len) in regions {
+        files.push(RegionFile {
+            pos: RegionPos { x: *x, z: *z },
+            bytes: vec![in alloc; 0u8; *len]?,
+        })?;
+    }
+    let given = Given {
+        table,
+        edits: "",
+        ticks: 10,
+        workers,
+    };
+    run_files(rt, alloc, files, given)
 }
 
-/// A region without chunks comes out as it was, and a file of no bytes is such a region.
+/// A region without chunks comes out as it was, and a file of no bytes is such a region. Files come by z and then by x.
 #[test]
 fn empty_regions(rt: HostRuntime) -> Result<(), Fail> {
     let alloc = rt.alloc();
-    for len in [8192, 0] {
-        let outcome = run_on(&rt, alloc, &[(3, len)], TABLE, 2)?;
-        assert_eq!(rt; outcome.turns, 0);
-        assert_eq!(rt; outcome.chunks, 0);
-        assert_eq!(rt; outcome.files.len(), 1);
-        for file in &outcome.files {
-            assert_eq!(rt; file.pos, RegionPos { x: 3, z: 0 });
-            assert_eq!(rt; file.bytes.len(), 8192);
-            assert!(rt; file.bytes.iter().all(|byte| *byte == 0));
-        }
+    let regions = [(1, 0, 8192), (0, 1, 0), (0, -1, 0), (-1, 0, 8192)];
+    let outcome = run_zeros(&rt, alloc, regions.as_slice(), b"version = 1", 2)?;
+    assert_eq!(rt; outcome.turns, 0);
+    assert_eq!(rt; outcome.chunks, 0);
+    assert_eq!(rt; outcome.files.len(), 4);
+    let order = [(0, -1), (-1, 0), (1, 0), (0, 1)];
+    for (file, (x, z)) in outcome.files.iter().zip(order.iter()) {
+        assert_eq!(rt; file.pos, RegionPos { x: *x, z: *z });
+        assert_eq!(rt; file.bytes.len(), 8192);
+        assert!(rt; file.bytes.iter().all(|byte| *byte == 0));
+    }
+    Ok(())
+}
+
+/// The payload of a chunk that is not full.
+const KEPT: &[u8] = b"\x0a\0\0\x01\0\x08sections\x05\x08\0\x06Status\0\x12minecraft:features\0";
+
+/// A chunk that is not full is written byte for byte, and its stamp with those of absent chunks.
+#[test]
+fn a_chunk_that_is_kept(rt: HostRuntime) -> Result<(), Fail> {
+    let alloc = rt.alloc();
+    let table = table_with(alloc, "version = 1")?;
+    let mut payloads = Vec::new(alloc);
+    payloads.push(Vec::from_slice(alloc, KEPT)?)?;
+    let bytes = region(alloc, payloads.as_slice())?;
+    let mut files = Vec::new(alloc);
+    let pos = RegionPos { x: -1, z: 2 };
+    files.push(RegionFile {
+        pos,
+        bytes: bytes.clone()?,
+    })?;
+    let given = Given {
+        table: table.as_slice(),
+        edits: "",
+        ticks: 3,
+        workers: 1,
+    };
+    let outcome = run_files(&rt, alloc, files, given)?;
+    assert_eq!(rt; outcome.chunks, 0);
+    assert_eq!(rt; outcome.files.len(), 1);
+    for file in &outcome.files {
+        assert_eq!(rt; file.pos, pos);
+        assert!(rt; file.bytes == bytes);
     }
     Ok(())
 }
@@ -55,25 +87,17 @@ fn empty_regions(rt: HostRuntime) -> Result<(), Fail> {
 #[test]
 fn refused_input(rt: HostRuntime) -> Result<(), Fail> {
     let alloc = rt.alloc();
-    let short = [(0, 100)];
-    let twice = [(0, 100), (0, 8192)];
+    let short = [(0, 0, 100)];
+    let twice = [(0, 0, 100), (0, 0, 8192)];
+    let none: &[u8] = b"no table";
+    let table: &[u8] = b"version = 1";
     for (regions, table, workers, line) in [
-        (
-            twice.as_slice(),
-            b"no table".as_slice(),
-            9,
-            "fault 23: BadCount",
-        ),
-        (
-            twice.as_slice(),
-            b"no table".as_slice(),
-            8,
-            "fault 19: BadTable",
-        ),
-        (twice.as_slice(), TABLE, 8, "fault 03: RepeatedRegion"),
-        (short.as_slice(), TABLE, 8, "fault 04: ShortHeader"),
+        (twice.as_slice(), none, 9, "fault 23: BadCount"),
+        (twice.as_slice(), none, 8, "fault 19: BadTable"),
+        (twice.as_slice(), table, 8, "fault 03: RepeatedRegion"),
+        (short.as_slice(), table, 8, "fault 04: ShortHeader"),
     ] {
-        let fault = run_on(&rt, alloc, regions, table, workers)
+        let fault = run_zeros(&rt, alloc, regions, table, workers)
             .err()
             .ok_or("no fault")?;
         assert_eq!(rt; fault.to_string(alloc)?.as_str(), line);

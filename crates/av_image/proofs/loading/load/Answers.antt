@@ -1,12 +1,12 @@
 use Rattle.std.proofs.Common.{◌≡◌, ◌∙◌, ◌≢◌, subst, map, IfOk, IfErr}
 use Rattle.av_types.specs.declared.place.Height.{Height}
 use Rattle.av_types.specs.declared.fault.Fault.TheVariants.{OutOfMemory}
+use Rattle.av_types.proofs.HeightNumbers.{height_is}
 use Rattle.av_state.specs.Table.{states}
 use Rattle.av_world.specs.Lands.{land_of}
 use Rattle.av_world.specs.Views.{positions_of}
 use Rattle.av_files.specs.FirstFault.{IsFilesFaultAfter}
 use Rattle.av_files.specs.Layers.{IsLoadAfter}
-use Rattle.av_files.proofs.Heights.{height_is}
 use Rattle.av_image.specs.Loading.{file_in}
 use Rattle.av_image.specs.Views.{rest_in}
 use Rattle.av_image.specs.Saving.{IsRestOf}

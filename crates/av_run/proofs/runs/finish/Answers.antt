@@ -18,16 +18,16 @@ use Rattle.av_run.proofs.Answered.{good_after, same_positions}
 use Rattle.av_run.proofs.runs.finish.Goals as goal
 
 pub run_ticks-requires-clause-edits : goal.run_ticks-requires-clause-edits
-run_ticks-requires-clause-edits g c =
+run_ticks-requires-clause-edits g c κs within =
     let i = c.args.input in
-    λ sound. subst (λ (es : List Edit). All (CanApply (kind_count i.kinds) i.world) es) (sym c.as_slice.ensures.value) (can_apply_all (kind_count i.kinds) i.world i.edits.items c.requires.whole c.requires.edits)
+    λ sound. subst (λ (es : List Edit). All (CanApply (kind_count i.kinds) i.world) es) (sym c.as_slice.ensures.value) (can_apply_all (kind_count i.kinds) i.world i.edits.items c.requires.can.whole c.requires.can.edits)
 
 pub written-requires-clause-good : goal.written-requires-clause-good
 written-requires-clause-good g c κs within =
     let i = c.args.input in
     let n = c.args.ticks in
     let to = c.in_ok-turns.ensures.done ∙ ap (λ (es : List Edit). run (kinds_of i.kinds) (number_sets es) n (land_of i.world)) c.as_slice.ensures.value in
-    subst (λ (w : Land ℕ). Good (kind_count i.kinds) (IsTimely n) w) (sym to) (good_after n i c.requires)
+    subst (λ (w : Land ℕ). Good (kind_count i.kinds) (IsTimely n) w) (sym to) (good_after n i c.requires.can)
 
 pub returns-clause-ok : goal.returns-clause-ok
 returns-clause-ok g c =

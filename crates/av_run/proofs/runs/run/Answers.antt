@@ -17,8 +17,8 @@ returns-in_err-input g c =
     is_refusal files c.args.table.now c.args.edits.now c.args.ticks c.args.workers e (λ other. input (c.in_err-input.ensures.err other c.args.workers counts)) in
     let p = err_from_is_err_and c.from_residual.result c.from_residual.ensures.1 in rw (p.1, p.2) h
 
-pub finish-requires-after_bounds : goal.finish-requires-after_bounds
-finish-requires-after_bounds g c κs within =
+pub finish-requires-clause-can : goal.finish-requires-clause-can
+finish-requires-clause-can g c κs within =
     let files = map file_in c.args.files.items in
     let counts : AreCountsGood files c.args.ticks c.args.workers = search rules in
     can_run files c.args.table.now c.args.edits.now c.args.ticks c.in_ok-input.input counts.few_ticks c.in_ok-input.ensures.ok
