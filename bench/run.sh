@@ -9,19 +9,28 @@ trap 'rm -rf "$work"' EXIT
 
 mkdir "$work/in" "$work/proved" "$work/plain_out"
 "$top/scripts/make_samples.py" --bench "$work/r.0.0.mca"
+"$top/scripts/make_samples.py" --dark "$work/dark.mca"
 "$top/scripts/make_samples.py" --edits "$work/edits.txt"
 : >"$work/no_edits.txt"
 ln "$work/r.0.0.mca" "$work/in/r.0.0.mca"
 rustc --edition 2024 -O "$top/bench/plain/main.rs" -o "$work/plain"
 proved=$top/crates/av_bench/out/av_bench
-log=$(cd "$top/crates/av_bench" && rt run </dev/null 2>&1) || true
-case $log in
-  *"rt: running out/av_bench"*) ;;
-  *)
-    printf '%s\n' "$log" >&2
-    exit 1
-    ;;
-esac
+plans=$top/crates/av_plan_bench/out/av_plan_bench
+
+# Builds a program, which prints its usage where it is given no words.
+build() {
+  log=$(cd "$top/crates/$1" && rt run </dev/null 2>&1) || true
+  case $log in
+    *"rt: running out/$1"*) ;;
+    *)
+      printf '%s\n' "$log" >&2
+      exit 1
+      ;;
+  esac
+}
+build av_bench
+build av_light_bench
+build av_plan_bench
 "$top/anvilwater" block "$top/samples/r.0.0.mca" 4 67 15 >/dev/null
 
 measure() { "$top/bench/measure.py" "$@"; }
@@ -33,14 +42,53 @@ measure rewrite "$times" "$proved" rewrite "$work/r.0.0.mca" "$work/proved.mca" 
 cmp "$work/proved.mca" "$work/plain.mca"
 measure turn "$times" "$proved" turn 10000 -- "$work/plain" turn 10000
 
-# A whole run, of no tick and of 20 ticks with 5,000 edits.
-measure_run() {
-  name=$1 edits=$2 ticks=$3
-  measure "$name" "$times" \
-    "$top/crates/av_main/out/av_main" run --in "$work/in" --out "$work/proved" --table "$top/tables/blocks.toml" \
-    --edits "$edits" --ticks "$ticks" --workers 1 -- \
-    "$work/plain" run "$work/in" "$work/plain_out" "$top/tables/blocks.toml" "$edits" "$ticks"
-  cmp "$work/proved/r.0.0.mca" "$work/plain_out/r.0.0.mca"
+# Light alone, on one thread and on all; the dark region is read as r.0.0 too.
+mkdir "$work/dark"
+mv "$work/dark.mca" "$work/dark/r.0.0.mca"
+"$top/bench/light.py" "$top/crates/av_light_bench/out/av_light_bench" "$work/plain" \
+  "$work/r.0.0.mca" "$work/dark/r.0.0.mca" "$top/tables/blocks.toml" 10 "$times"
+
+# 20 plans of so many entries: anywhere in 1,024 chunks, in one lake, and in pools that are parts of their own.
+for kind in spread lake pools; do
+  for count in 50000 100000 200000; do
+    measure "$kind" "$times" "$plans" plan "$kind" "$count" 20 -- "$work/plain" plan "$kind" "$count" 20
+  done
+done
+
+# The commands of a whole run over the regions of a folder.
+proved_run() {
+  printf '%s\n' "$top/crates/av_main/out/av_main" run --in "$work/$1" --out "$work/proved" --table "$top/tables/blocks.toml" \
+    --edits "$work/$2" --ticks "$3" --workers 1
 }
-measure_run light "$work/no_edits.txt" 0
-measure_run run "$work/edits.txt" 20
+plain_run() { printf '%s\n' "$work/plain" run "$work/$1" "$work/plain_out" "$top/tables/blocks.toml" "$work/$2" "$3"; }
+measure_run() {
+  mapfile -t one < <(proved_run "${@:2}")
+  mapfile -t other < <(plain_run "${@:2}")
+  measure "$1" "$times" "${one[@]}" -- "${other[@]}"
+  for region in "$work/$2"/*; do
+    cmp "$work/proved/${region##*/}" "$work/plain_out/${region##*/}"
+  done
+}
+measure_run run in edits.txt 20
+
+# The ticks alone: that run less one of no tick over what it wrote, which reads, lights and writes the same blocks.
+mkdir "$work/after"
+cp "$work/plain_out/r.0.0.mca" "$work/after"
+mapfile -t run < <(proved_run in edits.txt 20)
+mapfile -t other < <(plain_run in edits.txt 20)
+mapfile -t less < <(proved_run after no_edits.txt 0)
+mapfile -t other_less < <(plain_run after no_edits.txt 0)
+measure ticks "$times" "${run[@]}" -- "${other[@]}" -- "${less[@]}" -- "${other_less[@]}"
+
+# Runs of no tick over 1, 4 and 16 regions, the same one at other places.
+for side in 1 2 4; do
+  for ((x = 0; x < side; x++)); do
+    for ((z = 0; z < side; z++)); do
+      [ -e "$work/in/r.$x.$z.mca" ] || "$top/scripts/make_samples.py" --copy "$work/r.0.0.mca" "$x" "$z" "$work/in/r.$x.$z.mca"
+    done
+  done
+  measure_run "light$((side * side))" in no_edits.txt 0
+done
+
+# Ticks of lakes that spread at once, on one thread and on several workers.
+"$top/bench/ticks.py" "$times"

@@ -3,7 +3,9 @@
 
     scripts/make_samples.py                 samples/ and the regions of the stored runs of av_main and av_bench
     scripts/make_samples.py --bench FILE    a full region of 1,024 chunks
+    scripts/make_samples.py --dark FILE     the same with nothing in it that gives light
     scripts/make_samples.py --edits FILE    5,000 edits of it in the ticks 1 to 20
+    scripts/make_samples.py --copy FILE X Z TO      a region file's copy as that of the region (X, Z), from (0, 0)
 
 Chunks are uncompressed (type 3), DataVersion 2975, sections -4 to 19, with the tags that a server
 writes (minecraft.wiki: Region file format, Chunk format, NBT format). The blocks come from a small
@@ -12,6 +14,7 @@ only plausible. All output is a function of this file: there is no clock and no 
 """
 import functools
 import os
+import re
 import struct
 import sys
 
@@ -370,6 +373,15 @@ class Chunk:
         self.block_entities.append({"keepPacked": Tag(BYTE, 0), **at, "id": Tag(TEXT, "minecraft:beehive"), "Bees": compounds(
             [{"MinOccupationTicks": Tag(INT, 600), "TicksInHive": Tag(INT, 41), "EntityData": bee}])})
 
+    def light_up(self):
+        """Torches on the ground, as a village has them."""
+        for _ in range(2):
+            x, z = 1 + self.dice.below(14), 1 + self.dice.below(14)
+            y = max(self.surface[16 * z + x], SEA) + 1
+            if self.get(x, y, z) == AIR:
+                self.set(x, y, z, TORCH)
+                self.lights.append((y >> 4, 256 * (y & 15) + 16 * z + x))
+
     def build(self, furnished):
         self.lay_ground()
         self.scatter()
@@ -575,8 +587,18 @@ def stored_run():
     write("crates/av_main/data/r.-1.-1.mca", region_bytes({(-1, -1): root}))
 
 
-def bench(path):
-    chunks = {(x, z): chunk_tags(Chunk(x, z).build((x + 5 * z) % 16 == 0), "full") for z in range(32) for x in range(32)}
+def bench(path, bright=True):
+    """Four villages stand in it. Without `bright` nothing in it gives light."""
+    def chunk_at(x, z):
+        chunk = Chunk(x, z).build((x + 5 * z) % 16 == 0)
+        if x % 16 < 6 and z % 16 < 6:
+            chunk.light_up()
+        if not bright:
+            dark = bytes.maketrans(bytes((LAVA, TORCH)), bytes((CAVE_AIR, AIR)))
+            chunk.cells = {y: bytearray(cells.translate(dark)) for y, cells in chunk.cells.items()}
+        return chunk
+
+    chunks = {(x, z): chunk_tags(chunk_at(x, z), "full") for z in range(32) for x in range(32)}
     write(os.path.abspath(path), region_bytes(chunks))
 
 
@@ -592,11 +614,29 @@ def edits(path):
     write(os.path.abspath(path), ("\n".join(lines) + "\n").encode())
 
 
+def moved(data, x, z):
+    """The bytes of the region (0, 0) as those of another: its chunks' places and all that lies in them."""
+    for name, shift in ((b"xPos", 32 * x), (b"zPos", 32 * z), (b"x", 512 * x), (b"z", 512 * z)):
+        tag = bytes([INT]) + struct.pack(">H", len(name)) + name
+        data = re.sub(re.escape(tag) + b"(.{4})", lambda found: tag + struct.pack(">i", struct.unpack(">i", found[1])[0] + shift), data, flags=re.DOTALL)
+    return data
+
+
+def copy(path, x, z, to):
+    with open(path, "rb") as file:
+        data = file.read()
+    write(os.path.abspath(to), moved(data, int(x), int(z)))
+
+
 def main():
     if len(sys.argv) == 3 and sys.argv[1] == "--bench":
         bench(sys.argv[2])
+    elif len(sys.argv) == 3 and sys.argv[1] == "--dark":
+        bench(sys.argv[2], bright=False)
     elif len(sys.argv) == 3 and sys.argv[1] == "--edits":
         edits(sys.argv[2])
+    elif len(sys.argv) == 6 and sys.argv[1] == "--copy":
+        copy(*sys.argv[2:])
     elif len(sys.argv) == 1:
         samples()
         stored_run()

@@ -82,6 +82,16 @@ pub fn place_in_height(y: i8) -> Option<usize> {
 }
 
 impl Chunk {
+    /// Air, and no entry.
+    pub fn air() -> Chunk {
+        Chunk {
+            sections: (0..SECTIONS).map(|_| Section::air()).collect(),
+            ticks: Vec::new(),
+            pending: Pending::new(SECTIONS),
+            soonest: soonest_of(&[]),
+        }
+    }
+
     /// None where the chunk is not full.
     pub fn read(
         root: Root,

@@ -1,7 +1,8 @@
 //! Block light, spread from the brightest level down.
 use crate::chunk::{LIGHT_BYTES, SECTIONS};
+use crate::rule::Pos;
 use crate::rules::Kinds;
-use crate::world::{Pos, World};
+use crate::world::World;
 
 const SIDES: [Pos; 6] = [
     (0, -1, 0),

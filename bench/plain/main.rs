@@ -4,7 +4,9 @@ mod fault;
 mod folder;
 mod light;
 mod nbt;
+mod plan;
 mod region;
+mod rule;
 mod rules;
 mod section;
 mod state;
@@ -128,6 +130,33 @@ fn rewrite(input: &str, output: &str) -> Result<String, Box<dyn Error>> {
     Ok(format!("bytes {}", written.len()))
 }
 
+/// Lights a region so many times.
+fn light(path: &str, rules: &str, times: u32) -> Result<String, Box<dyn Error>> {
+    let rules = rules::Rules::read(&fs::read_to_string(rules)?);
+    let bytes = fs::read(path)?;
+    let at = region_of(path).ok_or("not a region's name")?;
+    let region = Region::read(&bytes)?;
+    let mut table = StateTable::new();
+    let mut chunks = Vec::new();
+    for index in 0..CHUNKS {
+        let at = chunk_at(at, index);
+        if let Some(payload) = region.payload(index)?
+            && let Some((chunk, _)) = Chunk::read(nbt::decode(payload)?, at, &mut table)?
+        {
+            chunks.push((at, chunk));
+        }
+    }
+    let kinds = rules::Kinds::new(&mut table, &rules);
+    let world = world::World::new(chunks);
+    let mut lights = Vec::new();
+    for _ in 0..times {
+        lights = light::light_all(&world, &kinds);
+    }
+    let add = |sum: u64, byte: &u8| sum.wrapping_mul(31).wrapping_add(u64::from(*byte));
+    let sum = lights.iter().flatten().fold(0, add);
+    Ok(format!("chunks {} sum {sum}", lights.len()))
+}
+
 fn run(words: &[&str]) -> Result<String, Box<dyn Error>> {
     match words {
         ["block", path, x, y, z] => block(path, x.parse()?, y.parse()?, z.parse()?),
@@ -138,11 +167,15 @@ fn run(words: &[&str]) -> Result<String, Box<dyn Error>> {
             let (turns, amounts) = water::run(worlds.parse()?);
             Ok(format!("turns {turns} amounts {amounts}"))
         }
+        ["plan", kind, entries, rounds] => {
+            plan::run(kind, entries.parse()?, rounds.parse()?).ok_or("no such kind".into())
+        }
+        ["light", path, table, times] => light(path, table, times.parse()?),
         ["run", input, output, table, edits, ticks] => {
             folder::run(input, output, table, edits, ticks.parse()?)
         }
         _ => Err(
-            "plain block FILE X Y Z | decode FILE ROUNDS | recode IN OUT | rewrite IN OUT | turn WORLDS | run IN OUT TABLE EDITS TICKS"
+            "plain block FILE X Y Z | decode FILE ROUNDS | recode IN OUT | rewrite IN OUT | turn WORLDS | plan KIND ENTRIES ROUNDS | light FILE TABLE TIMES | run IN OUT TABLE EDITS TICKS"
                 .into(),
         ),
     }

@@ -6,15 +6,21 @@ mod flowing;
 mod recoding;
 mod rewriting;
 mod tally;
+mod ticking;
 
 use anyhow::{Result, bail};
 use av_types::Height;
 use std::alloc::{AllocError, Global};
-use std::rt::{Env, Files};
+use std::rt::{Clock, Env, Files};
+use std::sync::Wait;
+use std::thread::Threads;
 use std::{env, fs};
 
 /// Runs a command, and gives the line that it prints.
-fn run<R: Env + Files + AllocGlobal>(rt: &R, words: &[&str]) -> Result<String> {
+fn run<R: Clock + Env + Files + AllocGlobal + Threads + Wait + Sync>(
+    rt: &R,
+    words: &[&str],
+) -> Result<String> {
     let alloc = rt.alloc();
     match words {
         ["decode", path, rounds] => {
@@ -36,11 +42,18 @@ fn run<R: Env + Files + AllocGlobal>(rt: &R, words: &[&str]) -> Result<String> {
             let size = written.len();
             Ok(format!(in alloc; "bytes {size}")?)
         }
+        ["tick", ticks, workers] => {
+            let ticks: u32 = ticks.parse()?;
+            let workers: u32 = workers.parse()?;
+            ticking::tick_lakes(rt, alloc, ticks, workers)
+        }
         ["turn", worlds] => {
             let worlds: u64 = worlds.parse()?;
             Ok(flowing::play_worlds(alloc, worlds)?)
         }
-        _ => bail!("av_bench decode FILE ROUNDS | recode IN OUT | rewrite IN OUT | turn WORLDS"),
+        _ => bail!(
+            "av_bench decode FILE ROUNDS | recode IN OUT | rewrite IN OUT | tick TICKS WORKERS | turn WORLDS"
+        ),
     }
 }
 
