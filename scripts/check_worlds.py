@@ -6,6 +6,7 @@
 The flat world has stone at y 63 and air elsewhere. The values are worked out by hand from docs/RULE.md, docs/LIGHT.md and
 docs/FORMATS.md. Files are written by make_samples.py and read by the reader of check_rewrite.py, which share nothing.
 """
+import itertools
 import os
 import subprocess
 import sys
@@ -84,13 +85,14 @@ def flat(blocks=(), chunks=((0, 0),), ticks=(), **more):
 
 
 class Run:
-    """What the program printed and wrote for the region (0, 0)."""
+    """What the program printed and wrote for the region (0, 0). Other files of the folder are given by their names."""
 
-    def __init__(self, program, data, edits="", ticks=0, workers=2, table=TABLE):
+    def __init__(self, program, data, edits="", ticks=0, *, workers, table=TABLE, others=()):
         with tempfile.TemporaryDirectory() as work:
             for name in ("in", "out"):
                 os.mkdir(os.path.join(work, name))
-            for name, content in (("in/r.0.0.mca", data), ("table", table.encode()), ("edits", edits.encode())):
+            named = [("in/" + name, content) for name, content in dict(others).items()]
+            for name, content in [("in/r.0.0.mca", data), ("table", table.encode()), ("edits", edits.encode()), *named]:
                 with open(os.path.join(work, name), "wb") as file:
                     file.write(content)
             words = [program, "run", "--in", "in", "--out", "out", "--table", "table", "--edits", "edits",
@@ -105,6 +107,9 @@ class Run:
                 for index, payload in enumerate(self.payloads):
                     if payload is not None:
                         self.chunks[index % 32, index // 32] = dict(check_rewrite.document(payload)[1])
+
+    def answer(self):
+        return self.line, self.fault, self.data
 
     def sections(self, at):
         return {dict(section)[b"Y"][1]: section for section in self.chunks[at][b"sections"][1][1]}
@@ -176,7 +181,7 @@ def flowing(run):
     high = [(x, 70, z) for x, _, z in SIDES]
     yield "sides of a source in the air", ([None] * 4, [1] * 4), tuple([falls[n].get(at) for at in high] for n in (10, 11))
     yield "the ground under it", (None, 8), (falls[30].get((8, 64, 8)), falls[31].get((8, 64, 8)))
-    yield "round the ground", ([False] * 4, [True] * 4), tuple([at in falls[n] for at in SIDES] for n in (35, 36))
+    yield "round the ground", ([None] * 4, [1] * 4), tuple([falls[n].get(at) for at in SIDES] for n in (35, 36))
     low = run(flat(), edit(1, 8, -64, 8, WATER), 6).wet()
     yield "on the bottom of the world", {(8, -64, 8): 0, **{(x, -64, z): 1 for x, _, z in SIDES}}, low
     parts = run(flat(), edit(1, 8, 72, 8, WATER) + edit(1, 8, 40, 8, WATER), 6)
@@ -189,15 +194,21 @@ def entries(run):
     woken = [(x + dx, 64, x + dz, 5, dx == dz == 0) for x in (8, 4) for dx, dz in ((0, -1), (0, 0), (0, 1), (-1, 0), (1, 0))]
     yield "overdue entries", ("chunks 1 turns 2", woken), (overdue.line, overdue.entries())
     yield "an overdue entry in no tick", [(8, 64, 8, -3, True)], run(flat(sources, ticks=[(8, 64, 8, -3)])).entries()
+    later = run(flat(ticks=[(4, 64, 4, 9), (5, 64, 4, 7), (6, 64, 4, 12)]), "", 5)
+    yield "due less the ticks run", [(4, 64, 4, 4, False), (5, 64, 4, 2, False), (6, 64, 4, 7, False)], later.entries()
     far = run(flat(ticks=[(8, 64, 8, 99)]), edit(1, 8, 64, 8, WATER), 20)
     yield "an entry far off hides wakings", ("chunks 1 turns 0", {(8, 64, 8): 0}), (far.line, far.wet())
+    # the second source has nowhere to go, and is woken by the turn of the first, before its own turn comes
+    shut = {at: "minecraft:stone" for at in ((10, 64, 7), (10, 64, 9), (11, 64, 8))}
+    woken = [(8, 64, 7, 5, False), (8, 64, 8, 5, True), (8, 64, 9, 5, False), (7, 64, 8, 5, False), (9, 64, 8, 5, True), (10, 64, 8, 5, True)]
+    two = run(flat({(8, 64, 8): WATER, (10, 64, 8): WATER, **shut}, ticks=[(8, 64, 8, 1), (10, 64, 8, 1)]), "", 1)
+    yield "all entries leave before the first is turned", ("chunks 1 turns 2", woken), (two.line, two.entries())
     both = ((0, 0), (1, 0))
     lines = edit(1, 8, 64, 8, WATER) + edit(1, 24, 64, 8, WATER)
     yield "two chunks", "chunks 2 turns 2", run(flat(chunks=both), lines, 6).line
     lines += edit(1, 15, 64, 8, WATER)
     yield "three sources in two chunks", "chunks 2 turns 3", run(flat(chunks=both), lines, 6).line
-    made = [run(flat(chunks=both), lines, 12, workers).data for workers in (1, 2, 3, 5, 8)]
-    yield "any number of workers", [made[0]] * 5, made
+    yield "and eleven ticks", "chunks 2 turns 18", run(flat(chunks=both), lines, 11).line
 
 
 def soaked(run):
@@ -255,6 +266,48 @@ def refusals(run):
     yield "a chunk that is kept", ("chunks 0 turns 0", kept), (same.line, same.data)
 
 
+def judging(run):
+    """Which of several faults is the first, and the ends of what is counted."""
+    yield "a million ticks", "chunks 1 turns 0", run(flat(), "", 1_000_000).line
+    yield "one tick more", "fault 23: BadCount", run(flat(), "", 1_000_001).fault
+    empty = {"r.%d.1.mca" % x: b"" for x in range(1024)}
+    yield "1,025 files", "fault 23: BadCount", run(flat(), others=empty).fault
+    del empty["r.0.1.mca"]
+    yield "1,024 files", "chunks 1 turns 0", run(flat(), others=empty).line
+    yield "files before edits", "fault 16: BadTick", run(flat(ticks=[(16, 64, 8, 1)]), "x\n", 1).fault
+    within = bytes.fromhex("00000001")
+    beyond = bytes.fromhex("00000501")
+    by_z = {"r.0.1.mca": beyond + bytes(8188), "r.1.0.mca": within + bytes(8188)}
+    yield "regions by z and then by x", "fault 05: BadLocation", run(flat(), others=by_z).fault
+    by_number = {"r.10.0.mca": beyond + bytes(8188), "r.9.0.mca": within + bytes(8188)}
+    yield "regions as numbers", "fault 05: BadLocation", run(flat(), others=by_number).fault
+    by_index = bytes(4) + within + bytes(4 * 30) + beyond + bytes(8192 - 4 * 33)
+    yield "chunks of a region by z and then by x", "fault 05: BadLocation", run(by_index).fault
+
+
+def crowding(run):
+    bad = [(16, 64, 8, 1)]
+    yield "65,535 states", "chunks 1 turns 0", run(crowded(65_525)).line
+    yield "one state more", "fault 18: TooManyStates", run(crowded(65_526)).fault
+    yield "a bad tick comes before too many states", "fault 16: BadTick", run(crowded(65_526, bad)).fault
+
+
+def crowded(count, ticks=()):
+    """A chunk of so many block states beside air and the nine of water, each at one place at least."""
+    letters = "abcdefghijklmnopqrstuvwxyz0123456789_-./+"
+    names = ["".join(name) for name in itertools.islice(itertools.product(letters, repeat=3), count)]
+    sections = []
+    for start in range(0, count, 4096):
+        some = names[start:start + 4096]
+        palette = Tag(LIST, (make_samples.COMPOUND, [state_tags(name) for name in some]))
+        data = Tag(LONGS, make_samples.pack([place % len(some) for place in range(4096)], 12))
+        states = Tag(make_samples.COMPOUND, {"palette": palette, "data": data})
+        sections.append({"Y": Tag(BYTE, start // 4096 - 4), "block_states": states})
+    root = compound(xPos=Tag(INT, 0), zPos=Tag(INT, 0), Status=Tag(make_samples.TEXT, "full"),
+                    sections=compounds(sections), fluid_ticks=compounds([tick_tags(*tick) for tick in ticks]))
+    return make_samples.region_bytes({(0, 0): root})
+
+
 def large(pad):
     """A loaded chunk without sections, and so many bytes."""
     return compound(xPos=Tag(INT, 0), zPos=Tag(INT, 0), Status=Tag(make_samples.TEXT, "full"), sections=compounds([]),
@@ -270,8 +323,20 @@ def main():
         sys.exit(__doc__)
     program = os.path.abspath(sys.argv[1])
     asked = wrong = 0
-    for examples in (spreading, flowing, entries, soaked, light, heights, refusals):
-        for what, want, got in examples(lambda *given, **named: Run(program, *given, **named)):
+
+    def run(*given, **named):
+        """A run, with the same answer by each number of workers."""
+        nonlocal asked, wrong
+        first, *others = [Run(program, *given, workers=workers, **named) for workers in (1, 2, 3, 5, 8)]
+        asked += 1
+        for other in others:
+            if other.answer() != first.answer():
+                wrong += 1
+                print("by other workers: expected %s, found %s" % (shown(first.answer()), shown(other.answer())))
+        return first
+
+    for examples in (spreading, flowing, entries, soaked, light, heights, refusals, judging, crowding):
+        for what, want, got in examples(run):
             asked += 1
             if want != got:
                 wrong += 1
