@@ -18,7 +18,8 @@ use av_types::{ChunkPos, Fault};
 use av_world::World;
 use std::alloc::Global;
 
-/// A board on which each block of a chunk has its light: that of its brightest path in the whole world.
+/// A board on which each block of a chunk has its light: that of its brightest path in the whole world. Every chunk is
+/// looked through for what gives light; for the light of many chunks, that is done once by `light_all`.
 ///
 /// # Errors
 /// `Broken` of a broken world, and else `OutOfMemory`.
@@ -52,7 +53,7 @@ pub(crate) fn light_at(
     light_in(alloc, &around, lamps.kinds, chunk, board)
 }
 
-/// The light of a chunk's sections: the half byte of each block is its light.
+/// The light of a chunk's sections: the half byte of each block is its light. It costs what `flood` does.
 ///
 /// # Errors
 /// `Broken` of a broken world, and else `OutOfMemory`.
