@@ -1,9 +1,8 @@
 -- What is found of a block.
-use Rattle.std.proofs.Common.{◌≡◌, ◌≢◌, ℕ, ◌<◌, Bool, true, false, true≢false, ◌&&◌, Option, Some, None, IsSome, List, length, slice_get, Result, Ok, Err, IfOk, IfErr, subst, refl, sym, ap, ◌∙◌, if◌then◌else◌}
+use Rattle.std.proofs.Common.{◌≡◌, ℕ, ◌<◌, Bool, true, false, true≢false, ◌&&◌, Option, Some, None, IsSome, List, length, slice_get, Result, Ok, Err, IfOk, IfErr, subst, refl, sym, ap, ◌∙◌, if◌then◌else◌}
 use Rattle.std.proofs.lemmas.Option.{slice_get_within}
 use Rattle.std.specs.Result.{IsErrAnd}
 use Rattle.av_types.specs.Division.{divided}
-use Rattle.av_types.specs.Faults.{fault_number}
 use Rattle.av_types.specs.Places.{chunk_of, is_block_of}
 use Rattle.av_types.specs.declared.place.Pos.{Pos}
 use Rattle.av_types.specs.declared.place.RegionPos.{RegionPos}
@@ -23,7 +22,8 @@ use Rattle.av_chunk.specs.declared.chunk.Chunk.{Chunk}
 use Rattle.av_chunk.specs.declared.rest.ChunkRest.{ChunkRest}
 use Rattle.av_chunk.specs.Views.{number_in, state_in}
 use Rattle.av_chunk.specs.Reading.{IsLoaded}
-use Rattle.av_chunk.specs.Block.{is_of_region, index_at, fault_in, found_in, IsNumbered, IsDenoted, IsPayloadRefused, no_memory, no_spelling, bad_document, IsFound, denoted, IsBlockRefused, memory, spelling, document}
+use Rattle.av_chunk.specs.Payload.{IsPayloadFault, no_document, bad_document}
+use Rattle.av_chunk.specs.Block.{is_of_region, index_at, found_in, IsNumbered, IsDenoted, IsPayloadRefused, IsFound, denoted, IsBlockRefused, memory, spelling, document}
 
 -- a block in the height is one of the chunk that it lies in
 own_chunk : (h : Height) (p : Pos) → is_block_of h p.y ≡ true → lies_in (chunk_of p) h p ≡ true
@@ -60,19 +60,19 @@ denoted_by payload h p d new chunk rest found s l e = record {
 pub numbered_by : (h : Height) (p : Pos) (d : Document) (new : List BlockState) (chunk : Chunk) (rest : ChunkRest) → IsLoaded (chunk_of p) h d first_states new chunk rest → IsNumbered new h chunk p
 numbered_by h p d new chunk rest l e = l.numbered p (own_chunk h p e)
 
-pub refused_by : (payload : List ℕ) (h : Height) (p : Pos) (d : Document) (e : Fault) → SpellsDocument d payload → (e ≢ OutOfMemory → fault_in h (root_tags d) p ≡ Some (fault_number e)) → IsPayloadRefused payload h p e
-refused_by payload h p d OutOfMemory s f = no_memory refl
-refused_by payload h p d e s f = bad_document d s (f (λ q. cc))
-
 pub found_in_file : (file : List ℕ) (r : RegionPos) (h : Height) (p : Pos) (payload : List ℕ) (found : Option BlockState) → (IsShort file → ⊥) → is_of_region r p ≡ true → Holds file (index_at p) payload
     → IsDenoted payload h p found → IsFound file r h p found
 found_in_file file r h p payload found w o q d = denoted w o payload d.document q d.spelled d.no_fault d.found_is
 
+refused_by_fault : (file : List ℕ) (r : RegionPos) (h : Height) (p : Pos) (payload : List ℕ) (e : Fault) → (IsShort file → ⊥) → is_of_region r p ≡ true → Holds file (index_at p) payload
+    → IsPayloadFault (chunk_of p) h payload first_states e → IsBlockRefused file r h p e
+refused_by_fault file r h p payload e w o q (no_document s b) = spelling w o b payload q s
+refused_by_fault file r h p payload e w o q (bad_document d s f) = document w o payload d q s f
+
 pub refused_in_file : (file : List ℕ) (r : RegionPos) (h : Height) (p : Pos) (payload : List ℕ) (e : Fault) → (IsShort file → ⊥) → is_of_region r p ≡ true → Holds file (index_at p) payload
     → IsPayloadRefused payload h p e → IsBlockRefused file r h p e
-refused_in_file file r h p payload e w o q (no_memory m) = memory w o m payload q
-refused_in_file file r h p payload e w o q (no_spelling b s) = spelling w o b payload q s
-refused_in_file file r h p payload e w o q (bad_document d s f) = document w o payload d q s f
+refused_in_file file r h p payload OutOfMemory w o q f = memory w o refl payload q
+refused_in_file file r h p payload e w o q f = refused_by_fault file r h p payload e w o q (f (λ q. cc))
 
 pub if_ok_then : {T E : Type 0} (r : Result T E) {P Q : T → Type 0} → IfOk r P → ((x : T) → P x → Q x) → IfOk r Q
 if_ok_then (Ok x) h f = f x h

@@ -1,5 +1,5 @@
 -- The tests of a height, as the program makes them.
-use Rattle.std.proofs.Common.{◌≡◌, ℤ, Bool, true, false, true≢false, refl, sym, ◌↔◌, IsTrue, arith, ◌&&◌, ◌≤ℤ◌, ◌<ℤ◌, pos, negsuc, ◌<◌, ◌-ℤ◌, ◌+ℤ◌}
+use Rattle.std.proofs.Common.{◌≡◌, ℕ, ℤ, Bool, true, false, true≢false, refl, sym, ◌↔◌, IsTrue, arith, ◌&&◌, ◌≤ℤ◌, ◌<ℤ◌, pos, negsuc, ◌<◌, ◌-ℤ◌, ◌+ℤ◌}
 use Rattle.std.specs.Prelude.{int_le, int_lt}
 use Rattle.std.proofs.lemmas.Int.{ints}
 use Rattle.av_types.specs.Places.{IsSectionOf, is_section_of}
@@ -20,6 +20,9 @@ pub section_test : (h : Height) (y : ℤ) (b : Bool) → (IsTrue b ↔ IsSection
 section_test h y true e = let s : IsSectionOf h y = e.0 refl in sym (tested _ _ _ _ s.low s.high)
 section_test h y false e = sym (refused (is_section_of h y) (λ t. let p = both _ _ _ _ t in true≢false (sym (e.1 (record { low = p.0; high = p.1 })))))
 
+pub section_there : (h : Height) (y : ℤ) → is_section_of h y ≡ true → IsSectionOf h y
+section_there h y t = let p = both _ _ _ _ t in record { low = p.0; high = p.1 }
+
 -- ---- where a section stands
 
 natural_is : (z : ℤ) → pos 0 ≤ℤ z → pos (natural z) ≡ z
@@ -28,6 +31,9 @@ natural_is (negsuc n) p = absurd (omega (arith, ints, p))
 
 pub offset_is : (h : Height) (y : ℤ) → is_section_of h y ≡ true → pos (offset_of h y) ≡ y -ℤ h.min_section
 offset_is h y t = let p = both h.min_section y y (h.min_section +ℤ pos h.sections) t in let low : h.min_section ≤ℤ y = p.0 in natural_is (y -ℤ h.min_section) (omega (arith, ints))
+
+pub offset_at : (h : Height) (y : ℤ) (n : ℕ) → y ≡ h.min_section +ℤ pos n → offset_of h y ≡ n
+offset_at h y n e = let is = natural_is (y -ℤ h.min_section) (omega (arith, ints)) in omega (arith, ints)
 
 pub offset_below : (h : Height) (y : ℤ) → is_section_of h y ≡ true → offset_of h y < h.sections
 offset_below h y t =

@@ -1,5 +1,5 @@
 -- The block at a position, as a region file has it.
-use Rattle.std.specs.Prelude.{◌≡◌, ◌&&◌, ℕ, List, Option, Some, None, IsSome, Bool, true, false, if◌then◌else◌}
+use Rattle.std.specs.Prelude.{◌≡◌, ◌≢◌, ◌&&◌, ℕ, List, Option, Some, None, IsSome, Bool, true, false, if◌then◌else◌}
 use Rattle.std.specs.Ordering.{int_eq}
 use Rattle.av_types.specs.Faults.{fault_number}
 use Rattle.av_types.specs.Places.{chunk_of, region_of, index_of, is_block_of}
@@ -17,6 +17,7 @@ use Rattle.av_state.specs.StateList.{first_states}
 use Rattle.av_document.specs.Chunk.{root_tags, is_full, first_fault, cell_of}
 use Rattle.av_chunk.specs.declared.chunk.Chunk.{Chunk}
 use Rattle.av_chunk.specs.Views.{state_in}
+use Rattle.av_chunk.specs.Payload.{IsPayloadFault}
 
 -- the position's chunk is one of the region
 abbrev pub is_of_region : RegionPos → Pos → Bool
@@ -60,10 +61,8 @@ pub record IsDenoted (payload : List ℕ) (h : Height) (p : Pos) (found : Option
   pub no_fault : fault_in h (root_tags document) p ≡ None
   pub found_is : found ≡ block_in h (root_tags document) p
 
-pub data IsPayloadRefused (payload : List ℕ) (h : Height) (p : Pos) (e : Fault) : Type 0 where
-  no_memory : e ≡ OutOfMemory → IsPayloadRefused payload h p e
-  no_spelling : e ≡ BadNbt → SpellsNone payload → IsPayloadRefused payload h p e
-  bad_document : (d : Document) → SpellsDocument d payload → fault_in h (root_tags d) p ≡ Some (fault_number e) → IsPayloadRefused payload h p e
+abbrev pub IsPayloadRefused : List ℕ → Height → Pos → Fault → Type 0
+IsPayloadRefused payload h p e = e ≢ OutOfMemory → IsPayloadFault (chunk_of p) h payload first_states e
 
 -- the state of a block of a chunk in memory, where it is in the height
 abbrev pub found_in : List BlockState → Height → Chunk → Pos → Option BlockState

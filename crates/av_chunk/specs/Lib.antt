@@ -2,6 +2,7 @@ pub mod Working
 pub mod Rest
 pub mod Views
 pub mod Reading
+pub mod Payload
 pub mod Block
 pub mod Light
 pub mod Writing

@@ -9,8 +9,8 @@ ghost use Rattle.av_chunk.specs.Reading.{IsWhole};
 ghost use Rattle.av_chunk.specs.Block.{is_of_region, IsFound, IsBlockRefused, IsDenoted, IsPayloadRefused, IsNumbered, found_in};
 
 use crate::chunk::{Chunk, Reading};
-use crate::sections::index_of_block;
-use av_nbt::decode;
+use crate::payload::read_payload;
+use crate::sections::offset_of;
 use av_region::Region;
 use av_state::{State, StateTable};
 use av_types::{Fault, Height, Pos, RegionPos};
@@ -36,7 +36,7 @@ fn number_in(chunk: &Chunk, pos: Pos, height: Height) -> Option<u16>
     requires count { length chunk.now.sections.items ≡ height.sections }
     ensures { result ≡ number_in height chunk.now pos }
 {
-    match &chunk.sections[index_of_block(pos.y, height)] {
+    match &chunk.sections[offset_of(height, pos.section().y)] {
         None => None,
         Some(section) => Some(section.get(pos.place())),
     }
@@ -83,9 +83,8 @@ fn block_in_payload(
     ensures ok { IfOk result (λ found. IsDenoted payload.now height pos (option_map state_of found)) }
     ensures err { IfErr result (IsPayloadRefused payload.now height pos) }
 {
-    let root = decode(alloc, payload)?;
     let mut table = StateTable::new(alloc)?;
-    match Chunk::read(alloc, root, pos.chunk(), height, &mut table)? {
+    match read_payload(alloc, payload, pos.chunk(), height, &mut table)? {
         Reading::Kept => Ok(None),
         Reading::Full { chunk, rest: _ } => state_in(&chunk, &table, pos, height),
     }
@@ -115,6 +114,3 @@ pub fn block_at(
         Some(payload) => block_in_payload(alloc, payload, pos, height),
     }
 }
-
-#[cfg(test)]
-mod tests;

@@ -6,6 +6,7 @@ mod build;
 pub mod chunk;
 mod faults;
 pub mod light;
+pub mod payload;
 mod pending;
 pub mod rest;
 mod sections;
@@ -20,7 +21,5 @@ pub mod writing;
 pub use block::block_at;
 pub use chunk::{Chunk, Reading};
 pub use light::ChunkLight;
+pub use payload::read_payload;
 pub use rest::{ChunkRest, OutsideSection, SectionTags};
-
-#[cfg(test)]
-mod tests;

@@ -1,8 +1,7 @@
 //! The sections of a chunk, taken apart in the order of the file.
 ghost use Rattle.std.specs.Prelude.{◌≡◌, IfOk, IfErr, OnOk, IsSome, ◌<◌, ◌≢◌, length, true, false, option_map};
 ghost use Rattle.av_types.specs.declared.fault.Fault.TheVariants.{OutOfMemory};
-ghost use Rattle.av_types.specs.Division.{divided};
-ghost use Rattle.av_types.specs.Places.{is_section_of, is_block_of};
+ghost use Rattle.av_types.specs.Places.{is_section_of};
 ghost use Rattle.av_nbt.specs.Place.{tag_of, emptied, blank};
 ghost use Rattle.av_nbt.specs.Shape.{compound_of};
 ghost use Rattle.av_nbt.specs.View.{view, views, named_view, named_views};
@@ -120,22 +119,13 @@ pub(crate) struct Sections {
     pub(crate) outside: Vec<OutsideSection>,
 }
 
-/// Where a section of the height stands among them.
-pub(crate) fn index_of(y: i8, height: Height) -> usize
+/// Where a section of the height stands among its sections, by its number.
+pub(crate) fn offset_of(height: Height, y: i32) -> usize
     requires { is_section_of height y ≡ true }
     ensures value { result ≡ offset_of height y }
     ensures bound { result < height.sections }
 {
-    (i32::from(y) - height.min_section) as usize
-}
-
-/// Where the section of a block in the height stands among them.
-pub(crate) fn index_of_block(y: i32, height: Height) -> usize
-    requires { is_block_of height y ≡ true }
-    ensures value { result ≡ offset_of height (divided y 16) }
-    ensures bound { result < height.sections }
-{
-    (y.div_euclid(16) - height.min_section) as usize
+    height.section_index(y)
 }
 
 impl Sections {
@@ -167,7 +157,7 @@ impl Sections {
     {
         match part {
             Part::Inside { y, section, kept } => {
-                let index = index_of(y, height);
+                let index = offset_of(height, i32::from(y));
                 self.sections[index] = Some(section);
                 self.kept[index] = Some(kept);
             }

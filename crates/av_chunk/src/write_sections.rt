@@ -5,12 +5,12 @@ ghost use Rattle.av_types.specs.Places.{is_section_of};
 ghost use Rattle.av_types.specs.declared.fault.Fault.TheVariants.{OutOfMemory};
 ghost use Rattle.av_nbt.specs.View.{views, named_views};
 ghost use Rattle.av_document.specs.Layout.{compound_with, kept_section};
-ghost use Rattle.av_chunk.specs.Rest.{offset_of};
 ghost use Rattle.av_chunk.specs.WritingSteps.{CanWriteSections, number_at, inside_layout, written_section, first_sections};
 
 use crate::chunk::Chunk;
 use crate::light::ChunkLight;
 use crate::rest::{ChunkRest, SectionTags};
+use crate::sections::offset_of;
 use crate::write_section::{kept_section, outside_section, section_tags};
 use av_nbt::{Named, Tag};
 use av_rules::Kinds;
@@ -24,14 +24,6 @@ fn number_at(index: u16) -> i8
     ensures { result ≡ number_at index }
 {
     (index as i16 - 128) as i8
-}
-
-/// Where a section stands among those of the height.
-pub(crate) fn offset_of(height: Height, y: i32) -> usize
-    requires { is_section_of height y ≡ true }
-    ensures { result ≡ offset_of height y }
-{
-    (y - height.min_section) as usize
 }
 
 /// The section at an index, where it is not out.

@@ -2,12 +2,20 @@
 #![tactic(auto)]
 
 #[cfg(test)]
+mod blocks;
+#[cfg(test)]
+mod documents;
+#[cfg(test)]
 mod judging;
 #[cfg(test)]
 mod parts;
 #[cfg(test)]
+mod payloads;
+#[cfg(test)]
 mod sections;
 #[cfg(test)]
 mod sectors;
+#[cfg(test)]
+mod stored;
 #[cfg(test)]
 mod writing;

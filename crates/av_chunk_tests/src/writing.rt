@@ -1,51 +1,23 @@
 //! Chunks, read and written back.
+use crate::documents::rewritten;
 use crate::parts::Part::{Byte, Bytes, Compound, End, Int, List, Text, Tick};
 use crate::parts::{FULL, Part, document, push_all};
-use av_chunk::{Chunk, ChunkLight, Reading};
-use av_nbt::{decode, encode};
-use av_rules::{Kinds, Rules};
-use av_state::StateTable;
-use av_types::{ChunkPos, Height};
+use av_chunk::ChunkLight;
 use std::alloc::Global;
 use std::process::Abort;
 use std::test::Fail;
 
-const PLACE: ChunkPos = ChunkPos { x: 1, z: -2 };
-
-/// One section, of number 0.
-const LOW: Height = Height {
-    min_section: 0,
-    sections: 1,
-};
-
-/// The place of that chunk.
+/// The place of the chunks.
 const X: Part<'static> = Int("xPos", 1);
 
 const Z: Part<'static> = Int("zPos", -2);
-
-/// What is written of the dark chunk that bytes spell, no tick after it was read.
-fn rewritten(alloc: Global, bytes: &[u8]) -> Result<Vec<u8>, Fail> {
-    if bytes.len() > 1_044_475 {
-        return Err(Fail::new("too many bytes"));
-    }
-    let light = ChunkLight::new(alloc, 1)?;
-    let root = decode(alloc, bytes)?;
-    let mut table = StateTable::new(alloc)?;
-    let reading = Chunk::read(alloc, root, PLACE, LOW, &mut table)?;
-    let Reading::Full { chunk, rest } = reading else {
-        return Err(Fail::new("a chunk that is not full"));
-    };
-    let rules = Rules::read(alloc, b"version = 1")?;
-    let kinds = Kinds::new(alloc, table, &rules)?;
-    let root = chunk.write(alloc, &rest, &kinds, &light, 0)?;
-    Ok(encode(alloc, &root)?)
-}
 
 /// These parts are written as those.
 fn expect(rt: &impl Abort, alloc: Global, parts: &[Part], wants: &[Part]) -> Result<(), Fail> {
     let bytes = document(alloc, parts)?;
     let want = document(alloc, wants)?;
-    assert!(rt; rewritten(alloc, &bytes)? == want);
+    let dark = ChunkLight::new(alloc, 1)?;
+    assert!(rt; rewritten(alloc, &bytes, &dark)? == want);
     Ok(())
 }
 
@@ -130,6 +102,7 @@ fn odd_light_is_replaced_where_it_stood(rt: HostRuntime) -> Result<(), Fail> {
         push_all(&mut bytes, rest)?;
         push_all(&mut want, rest)?;
     }
-    assert!(rt; rewritten(alloc, &bytes)? == want);
+    let dark = ChunkLight::new(alloc, 1)?;
+    assert!(rt; rewritten(alloc, &bytes, &dark)? == want);
     Ok(())
 }

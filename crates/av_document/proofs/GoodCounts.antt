@@ -1,8 +1,7 @@
 -- How many ticks and sections a chunk can have.
-use Rattle.std.proofs.Common.{◌≡◌, ℕ, suc, ◌+◌, ◌-◌, ◌*◌, ◌<◌, ◌≤◌, List, [], ◌∷◌, ◌++◌, ℤ, pos, negsuc, ◌<ℤ◌, ◌≤ℤ◌, ◌+ℤ◌, Bool, true, false, ◌&&◌, ◌||◌, Some, None, Option, cond, map, length, nat_eq, refl, sym, ap, ◌∙◌, subst, arith, length-append}
+use Rattle.std.proofs.Common.{◌≡◌, ℕ, suc, ◌+◌, ◌-◌, ◌*◌, ◌<◌, ◌≤◌, List, [], ◌∷◌, ◌++◌, ℤ, pos, negsuc, ◌<ℤ◌, ◌≤ℤ◌, ◌+ℤ◌, Bool, true, false, ◌||◌, Some, None, Option, cond, map, length, nat_eq, refl, sym, ap, ◌∙◌, subst, arith, length-append}
 use Rattle.std.specs.Prelude.{int_le, int_lt}
 use Rattle.std.specs.List.{AllByRecursion, IsDistinct, list_any}
-use Rattle.std.specs.Ordering.{int_eq}
 use Rattle.std.specs.Str.{bytes_eq}
 use Rattle.std.proofs.lemmas.Int.{ints}
 use Rattle.std.proofs.lemmas.Bool.{false≢true, true≢false, and_parts}
@@ -25,7 +24,6 @@ use Rattle.av_ticks.specs.Entries.{same_pos, is_pending, are_apart}
 use Rattle.av_document.specs.Ticks.{lies_in, water_entry, foreign}
 use Rattle.av_document.specs.Layout.{block_at, kept_section, all_of}
 use Rattle.av_nbt.specs.Shape.{lacks}
-use Rattle.av_document.proofs.Rows.{int_eq-refl}
 use Rattle.av_document.proofs.Numbers.{le_from, lt_from}
 use Rattle.av_document.proofs.Positions.{within_from, block_at-of, place_of-lt}
 

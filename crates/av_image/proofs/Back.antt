@@ -1,11 +1,7 @@
 -- Chunks of regions: each index is that of its chunk alone.
-use Rattle.std.proofs.Common.{◌≡◌, ◌≢◌, ◌∙◌, ℕ, zero, suc, ◌+◌, ◌-◌, ◌*◌, ◌<◌, ◌≤◌, ◌/◌, ◌%◌, ℤ, pos, negsuc, ◌+ℤ◌, ◌*ℤ◌, List, [], ◌∷◌, ◌++◌, length, Bool, true, false, cond, Option, Some, None, refl, ap, sym, subst, arith}
-use Rattle.std.specs.List.{slice_get, flat_map}
-use Rattle.std.proofs.lemmas.Int.{ints}
-use Rattle.std.proofs.lemmas.Bool.{and_from, false≢true}
-use Rattle.std.proofs.lemmas.Option.{none-some}
-use Rattle.std.proofs.lemmas.Bool.Decides.{Decides-int_eq}
-use Rattle.av_types.specs.Division.{divided, remainder}
+use Rattle.std.proofs.Common.{◌≡◌, ◌≢◌, ◌∙◌, ℕ, zero, suc, ◌+◌, ◌<◌, ◌≤◌, List, [], ◌∷◌, ◌++◌, length, Bool, true, false, cond, Option, Some, None, refl, ap, sym, arith}
+use Rattle.std.specs.List.{slice_get}
+use Rattle.std.proofs.lemmas.Bool.{false≢true}
 use Rattle.av_types.specs.Places.{region_of, index_of, chunk_at}
 use Rattle.av_types.specs.declared.place.ChunkPos.{ChunkPos}
 use Rattle.av_types.specs.declared.place.RegionPos.{RegionPos}
@@ -18,9 +14,8 @@ use Rattle.av_files.proofs.Coordinates.{same_region_is, same_region-refl}
 use Rattle.av_world.proofs.Search.{same_chunk_self}
 use Rattle.av_image.specs.declared.places.Place.{Place}
 use Rattle.av_image.specs.declared.places.Place.TheVariants.{Absent, Kept, Full}
-use Rattle.av_image.specs.declared.regions.ReadRegion.{ReadRegion}
 use Rattle.av_image.specs.declared.splits.Placed.{Placed}
-use Rattle.av_image.specs.Splits.{placed_of, placed_from, placed_in, chunk_found}
+use Rattle.av_image.specs.Splits.{placed_of, placed_from, chunk_found}
 use Rattle.av_image.proofs.Worlds.{found_append, first_some}
 
 pub other_region : (a b : RegionPos) → same_region a b ≡ false → same_region b a ≡ false

@@ -1,13 +1,13 @@
 -- What was read of files is what they denote.
-use Rattle.std.proofs.Common.{◌≡◌, ◌≢◌, ◌∙◌, ℕ, suc, zero, ◌+◌, ◌<◌, ◌≤◌, ◌⊎◌, inl, inr, List, [], ◌∷◌, ◌++◌, length, Bool, true, false, ◌||◌, ◌&&◌, cond, Option, Some, None, refl, ap, sym, subst, arith, map, take}
+use Rattle.std.proofs.Common.{◌≡◌, ◌∙◌, ℕ, suc, zero, ◌+◌, ◌<◌, ◌≤◌, List, [], ◌∷◌, length, Bool, true, false, ◌||◌, ◌&&◌, cond, Option, Some, None, refl, ap, sym, subst, arith, map, take}
 use Rattle.std.specs.Prelude.{slice_get, slice_index_or}
-use Rattle.std.specs.List.{AllByRecursion, list_any, flat_map, range_with_len}
+use Rattle.std.specs.List.{AllByRecursion, list_any, flat_map}
 use Rattle.std.specs.Ordering.{is_lt}
-use Rattle.std.proofs.lemmas.Bool.{and_parts, or_cases, false≢true, true≢false}
+use Rattle.std.proofs.lemmas.Bool.{and_parts, false≢true, true≢false}
 use Rattle.std.proofs.lemmas.Option.{none-some, same_Some, slice_get_within}
 use Rattle.std.proofs.lemmas.List.{length-map}
 use Rattle.std.proofs.lemmas.List.FromFn.{length-map-range_with_len}
-use Rattle.av_types.specs.Places.{chunk_at, region_of, index_of, section_of, chunk_of, is_block_of, chunk_of_section, IsInLimits}
+use Rattle.av_types.specs.Places.{chunk_at, region_of, index_of, section_of, chunk_of, is_block_of, IsInLimits}
 use Rattle.av_types.specs.declared.place.Height.{Height}
 use Rattle.av_types.specs.Places.{place_of}
 use Rattle.av_types.specs.Division.{divided}
@@ -28,7 +28,7 @@ use Rattle.av_land.specs.Land.{has_chunk, is_loaded}
 use Rattle.av_ticks.specs.Order.{inserted, ordered}
 use Rattle.av_files.specs.Files.{File, in_order, region_order, same_region, chunks_rise, regions_rise, region_after}
 use Rattle.av_files.specs.Run.{stated}
-use Rattle.av_files.specs.Denotes.{Rest, IsSlot, DenotesFile, Denotes}
+use Rattle.av_files.specs.Denotes.{IsSlot, DenotesFile, Denotes}
 use Rattle.av_files.proofs.Coordinates.{same_region_is, same_region-refl}
 use Rattle.av_files.proofs.Slots.{made_at}
 use Rattle.av_image.specs.declared.places.Place.{Place}
@@ -37,10 +37,10 @@ use Rattle.av_image.specs.declared.regions.ReadRegion.{ReadRegion}
 use Rattle.av_image.specs.declared.rest.Slot.{Slot}
 use Rattle.av_image.specs.declared.rest.RegionRest.{RegionRest}
 use Rattle.av_image.specs.declared.splits.Placed.{Placed}
-use Rattle.av_image.specs.Placed.{WasPlaceRead, WerePlacesRead, WasRegionRead, WereRegionsRead, are_stamps}
+use Rattle.av_image.specs.Placed.{WasPlaceRead, WasRegionRead, WereRegionsRead, are_stamps}
 use Rattle.av_world.specs.Lands.{land_of}
 use Rattle.av_image.specs.Views.{rest_view, region_found, stamp_in, slot_in, slot_at, kept_in, chunk_rest_in}
-use Rattle.av_image.specs.Splits.{slot_of, placed_in, placed_from, IsSplit, AreSplit, chunk_found, HasAt, IsWorldOf}
+use Rattle.av_image.specs.Splits.{slot_of, placed_in, IsSplit, AreSplit, chunk_found, HasAt, IsWorldOf}
 use Rattle.av_image.specs.Saving.{IsSlotOf, IsRegionOf}
 use Rattle.av_image.proofs.Back.{other_region, chunk_in, found_away, found_from, found_none_of, or_none}
 use Rattle.av_image.proofs.Worlds.{found_append, first_some}

@@ -1,17 +1,17 @@
 -- What the parts of a loader need of each other.
-use Rattle.std.proofs.Common.{ℤ, ◌≡◌, ◌≢◌, ◌∙◌, ◌^◌, ℕ, suc, zero, ◌+◌, ◌<◌, ◌≤◌, ◌⊎◌, inl, inr, List, [], ◌∷◌, ◌++◌, length, Bool, true, false, ◌||◌, ◌&&◌, cond, Option, Some, None, refl, ap, sym, subst, arith, map, take, IsTrue, All}
+use Rattle.std.proofs.Common.{ℤ, ◌≡◌, ◌∙◌, ◌^◌, ℕ, suc, zero, ◌+◌, ◌<◌, ◌≤◌, List, [], ◌∷◌, ◌++◌, length, Bool, true, false, ◌||◌, ◌&&◌, cond, Option, Some, None, refl, ap, sym, subst, arith, map, IsTrue, All}
 use Rattle.std.specs.Prelude.{slice_get, slice_index_or}
 use Rattle.std.specs.List.{AllByRecursion, list_any, flat_map}
 use Rattle.std.specs.Ordering.{is_lt}
 use Rattle.std.specs.declared.cmp.Ordering.{Ordering}
-use Rattle.std.proofs.lemmas.Bool.{and_parts, and_from, or_cases, false≢true, true≢false}
+use Rattle.std.proofs.lemmas.Bool.{and_parts, and_from, false≢true, true≢false}
 use Rattle.std.proofs.lemmas.Option.{none-some, same_Some}
-use Rattle.av_types.specs.Places.{chunk_at, region_of, index_of, section_of, chunk_of, is_block_of, chunk_of_section, IsInLimits}
+use Rattle.av_types.specs.Places.{chunk_at, region_of, section_of, chunk_of, is_block_of, IsInLimits}
 use Rattle.av_types.specs.declared.place.Height.{Height}
 use Rattle.av_types.specs.declared.place.Pos.{Pos}
 use Rattle.av_types.specs.declared.place.ChunkPos.{ChunkPos}
 use Rattle.av_types.specs.declared.place.RegionPos.{RegionPos}
-use Rattle.av_state.specs.BlockState.{BlockState, air}
+use Rattle.av_state.specs.BlockState.{BlockState}
 use Rattle.av_chunk.specs.declared.chunk.Chunk.{Chunk}
 use Rattle.av_cells.specs.Positions.{same_chunk}
 use Rattle.std.specs.Prelude.{IsSome}
@@ -49,15 +49,15 @@ use Rattle.av_image.specs.declared.places.Place.TheVariants.{Absent, Kept, Full}
 use Rattle.av_image.specs.declared.regions.ReadRegion.{ReadRegion}
 use Rattle.av_image.specs.declared.rest.RegionRest.{RegionRest}
 use Rattle.av_image.specs.declared.splits.Placed.{Placed}
-use Rattle.av_image.specs.Placed.{WasPlaceRead, WerePlacesRead, WasRegionRead, WereRegionsRead, are_stamps}
+use Rattle.av_image.specs.Placed.{WasPlaceRead, WasRegionRead, WereRegionsRead}
 use Rattle.av_image.specs.Loading.{file_in, placed_order}
 use Rattle.av_land.specs.Land.{is_loaded}
 use Rattle.av_world.specs.Views.{grid}
 use Rattle.av_world.specs.Lands.{land_of, IsWhole}
 use Rattle.av_image.specs.Views.{rest_view, region_found, stamp_in}
-use Rattle.av_image.specs.Splits.{placed_in, placed_from, placed_of, IsSplit, AreSplit, chunk_found, ArePlacedOnce, HasAt, IsWorldOf}
+use Rattle.av_image.specs.Splits.{placed_in, placed_from, AreSplit, chunk_found, ArePlacedOnce, HasAt, IsWorldOf}
 use Rattle.av_image.proofs.Back.{other_region, found_away, found_before, found_none_of}
-use Rattle.av_image.proofs.Worlds.{found_append, first_some, not_same}
+use Rattle.av_image.proofs.Worlds.{not_same}
 use Rattle.av_image.proofs.Sorting.{found_inserted, found_ordered}
 use Rattle.av_files.proofs.Sorted.{all_ordered}
 use Rattle.av_files.proofs.Coordinates.{same_region_is, same_region-refl}

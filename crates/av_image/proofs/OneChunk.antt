@@ -1,5 +1,5 @@
 -- One chunk of a world, as it is written.
-use Rattle.std.proofs.Common.{◌≡◌, ◌∙◌, ℕ, zero, suc, ◌<◌, ℤ, List, [], ◌∷◌, length, Bool, true, false, ◌&&◌, Option, Some, None, IsSome, IsTrue, refl, ap, sym, subst, arith}
+use Rattle.std.proofs.Common.{◌≡◌, ◌∙◌, ℕ, zero, suc, ◌<◌, ℤ, List, [], ◌∷◌, length, Bool, true, Option, Some, None, IsSome, refl, ap, sym, subst, arith}
 use Rattle.std.specs.Int.{w32}
 use Rattle.std.specs.Int.RustNames.{FitsSigned}
 use Rattle.std.specs.Prelude.{slice_get, slice_index_or, pos, ◌-ℤ◌}
@@ -13,7 +13,7 @@ use Rattle.av_types.specs.declared.place.Pos.{Pos}
 use Rattle.av_types.specs.declared.place.ChunkPos.{ChunkPos}
 use Rattle.av_types.specs.declared.place.Height.{Height}
 use Rattle.av_types.specs.declared.tick.Entry.{Entry}
-use Rattle.av_nbt.specs.Shape.{or_else, ◌>>=◌}
+use Rattle.av_nbt.specs.Shape.{◌>>=◌}
 use Rattle.av_state.specs.BlockState.{BlockState, air}
 use Rattle.av_state.specs.Table.{states}
 use Rattle.av_rules.specs.Kinds.{table_in, wet_at, kind_count}
@@ -24,7 +24,7 @@ use Rattle.av_ticks.specs.Ticks.{entries}
 use Rattle.av_document.specs.Ticks.{lies_in}
 use Rattle.av_document.specs.Layout.{chunk_layout, block_at}
 use Rattle.av_document.proofs.Positions.{lies_in-block_at, divided-coordinate}
-use Rattle.av_chunk.specs.Views.{section_in, number_in, state_in, cells_of as chunk_cells, rest_of}
+use Rattle.av_chunk.specs.Views.{section_in, state_in, cells_of as chunk_cells, rest_of}
 use Rattle.av_chunk.specs.Reading as reading
 use Rattle.av_chunk.specs.Light.{section_count}
 use Rattle.av_chunk.specs.Writing.{CanWrite, written, sources_of, is_source_number, light_of}

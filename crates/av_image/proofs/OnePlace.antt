@@ -1,5 +1,5 @@
 -- One place that was read, and places that were read while the table grows.
-use Rattle.std.proofs.Common.{◌≡◌, ◌≢◌, ℕ, ◌+◌, ◌<◌, List, [], ◌∷◌, ◌++◌, length, true, false, Option, Some, None, refl, ap, sym, subst, ◌∙◌, slice_get, if◌then◌else◌}
+use Rattle.std.proofs.Common.{◌≡◌, ℕ, List, [], if◌then◌else◌}
 use Rattle.av_types.specs.Places.{chunk_at}
 use Rattle.av_types.specs.declared.place.Height.{Height}
 use Rattle.av_types.specs.declared.place.ChunkPos.{ChunkPos}
@@ -8,16 +8,16 @@ use Rattle.av_region.specs.Region.{Holds}
 use Rattle.av_state.specs.BlockState.{BlockState}
 use Rattle.av_state.specs.StateList.{with_states}
 use Rattle.av_section.specs.Reading.{OnlyGrows}
-use Rattle.av_document.specs.Chunk.{root_tags, is_full, all_states}
 use Rattle.av_chunk.proofs.Slots.{OnlyGrows-trans}
 use Rattle.av_files.specs.Files.{File}
-use Rattle.av_files.specs.FirstFault.{IsPlaceFault, IsPlaceGood, sectors, spelling, document, nothing, chunk, states_read}
+use Rattle.av_files.specs.FirstFault.{IsPlaceFault, IsPlaceGood, spelling, document, nothing, chunk}
 use Rattle.av_image.specs.declared.places.Place.{Place}
 use Rattle.av_image.specs.declared.places.Place.TheVariants.{Absent, Kept, Full}
-use Rattle.av_image.specs.Placed.{IsPayloadRefused, no_spelling, bad_document, IsPlaceRead, WasPlaceRead, WerePlacesRead}
+use Rattle.av_chunk.specs.Payload.{IsPayloadFault, no_document, bad_document}
+use Rattle.av_image.specs.Placed.{IsPlaceRead, WasPlaceRead, WerePlacesRead}
 
-pub place_refused : (h : Height) (old : List BlockState) (file payload : List ℕ) (c : ChunkPos) (i : ℕ) (e : Fault) → Holds file i payload → IsPayloadRefused h old payload c e → IsPlaceFault h old file c i e
-place_refused h old file payload c i e held (no_spelling none is) = spelling payload held none is
+pub place_refused : (h : Height) (old : List BlockState) (file payload : List ℕ) (c : ChunkPos) (i : ℕ) (e : Fault) → Holds file i payload → IsPayloadFault c h payload old e → IsPlaceFault h old file c i e
+place_refused h old file payload c i e held (no_document none is) = spelling payload held none is
 place_refused h old file payload c i e held (bad_document d spelled fault) = document payload d held spelled fault
 
 states_if : (h : Height) (old new all : List BlockState) (b c : _) → b ≡ c → new ≡ with_states old (if c then all else []) → new ≡ with_states old (if b then all else [])

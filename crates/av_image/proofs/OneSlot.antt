@@ -1,13 +1,12 @@
 -- One place, as a slot of the world and the rest.
-use Rattle.std.proofs.Common.{◌≡◌, ◌≢◌, ◌∙◌, ℕ, suc, zero, ◌+◌, ◌<◌, ◌≤◌, List, [], ◌∷◌, ◌++◌, length, Bool, true, false, ◌&&◌, cond, Option, Some, None, refl, ap, sym, subst, arith, IsSome}
+use Rattle.std.proofs.Common.{◌≡◌, ◌∙◌, ℕ, List, [], ◌∷◌, ◌++◌, true, ◌&&◌, cond, Option, Some, None, refl, ap, sym, IsSome}
 use Rattle.std.specs.Prelude.{slice_get, slice_index_or}
 use Rattle.std.specs.Ordering.{int_eq}
-use Rattle.std.proofs.lemmas.Bool.{and_parts, false≢true, true≢false}
+use Rattle.std.proofs.lemmas.Bool.{and_parts, true≢false}
 use Rattle.std.proofs.lemmas.Bool.Decides.{Decides-int_eq}
-use Rattle.std.proofs.lemmas.Option.{none-some}
 use Rattle.av_types.specs.Division.{divided}
 use Rattle.av_types.specs.Faults.{least}
-use Rattle.av_types.specs.Places.{section_of, place_of, is_block_of, chunk_of_section, chunk_of}
+use Rattle.av_types.specs.Places.{section_of, place_of, is_block_of, chunk_of_section}
 use Rattle.av_types.specs.declared.place.Height.{Height}
 use Rattle.av_types.specs.declared.place.Pos.{Pos}
 use Rattle.av_types.specs.declared.place.ChunkPos.{ChunkPos}
@@ -22,22 +21,19 @@ use Rattle.av_ticks.specs.Ticks.{entries}
 use Rattle.av_document.specs.Ticks.{lies_in}
 use Rattle.av_document.specs.Chunk.{faults, first_fault, has_too_many, root_tags}
 use Rattle.av_document.proofs.Faults.{least_none}
-use Rattle.av_chunk.specs.Views.{section_in, number_in, state_in, cells_of as chunk_cells, rest_of}
+use Rattle.av_chunk.specs.Views.{section_in, cells_of as chunk_cells, rest_of}
 use Rattle.av_chunk.specs.Reading.{IsLoaded}
 use Rattle.av_chunk.specs.declared.chunk.Chunk.{Chunk}
 use Rattle.av_chunk.specs.declared.rest.ChunkRest.{ChunkRest}
 use Rattle.av_cells.specs.Grid.{number_in as number_in_filling}
-use Rattle.av_world.specs.Inserted.{chunk_grid}
 use Rattle.av_world.specs.Sections.{filling_in, layer_at}
-use Rattle.av_world.specs.Views.{grid}
 use Rattle.av_world.specs.declared.worlds.World.{World}
-use Rattle.av_land.specs.Land.{has_chunk}
 use Rattle.av_files.specs.Run.{stated}
 use Rattle.av_files.specs.Denotes.{Rest, IsSlot, absent, kept, full}
 use Rattle.av_files.proofs.Loading.{denotes_kept, state_stays}
 use Rattle.av_image.specs.declared.places.Place.{Place}
 use Rattle.av_image.specs.declared.places.Place.TheVariants.{Absent, Kept, Full}
-use Rattle.av_image.specs.Placed.{WasPlaceRead, IsPlaceRead}
+use Rattle.av_image.specs.Placed.{WasPlaceRead}
 use Rattle.av_world.specs.Lands.{land_of}
 use Rattle.av_image.specs.Views.{kept_in, chunk_rest_in}
 use Rattle.av_image.specs.Splits.{HasAt, slot_of}

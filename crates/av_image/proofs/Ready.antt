@@ -1,5 +1,5 @@
 -- A good world can be written, and its table of kinds says what a block table says.
-use Rattle.std.proofs.Common.{◌≡◌, ◌∙◌, ℕ, ◌<◌, ℤ, List, [], ◌∷◌, length, Option, Some, None, ap, sym, subst, map}
+use Rattle.std.proofs.Common.{◌≡◌, ◌∙◌, ℕ, ◌<◌, List, [], ◌∷◌, length, ap, subst, map}
 use Rattle.std.specs.Int.{w32}
 use Rattle.std.specs.Int.RustNames.{FitsSigned}
 use Rattle.std.specs.Prelude.{slice_index_or, pos, ◌-ℤ◌}
@@ -11,7 +11,7 @@ use Rattle.av_types.specs.declared.water.Wet.{Wet}
 use Rattle.av_types.specs.declared.water.Wet.TheVariants.{Dry}
 use Rattle.av_types.specs.declared.place.Pos.{Pos}
 use Rattle.av_types.specs.declared.tick.Entry.{Entry}
-use Rattle.av_state.specs.BlockState.{BlockState, air}
+use Rattle.av_state.specs.BlockState.{air}
 use Rattle.av_state.specs.Table.{states}
 use Rattle.av_rules.specs.Rows.{BlockTable, wet_in}
 use Rattle.av_rules.specs.Kinds.{table_in, wets_in, wet_at, kind_count}

@@ -1,7 +1,7 @@
 -- Rising lists of regions and of chunks.
-use Rattle.std.proofs.Common.{◌≡◌, ◌∙◌, ℕ, zero, suc, ◌<◌, ℤ, ◌<ℤ◌, ◌≤ℤ◌, ◌⊎◌, inl, inr, List, [], ◌∷◌, length, Bool, true, false, ◌&&◌, ◌||◌, cond, refl, ap, sym, subst, arith, IsTrue, int_lt}
+use Rattle.std.proofs.Common.{◌≡◌, ◌∙◌, suc, ℤ, ◌<ℤ◌, ◌≤ℤ◌, ◌⊎◌, inl, inr, List, [], ◌∷◌, Bool, true, false, ◌&&◌, refl, sym, subst, arith, int_lt}
 use Rattle.std.specs.Ordering.{is_lt, int_cmp, int_eq, ordering_then, MatchOrdering}
-use Rattle.std.specs.List.{list_any, AllPairs}
+use Rattle.std.specs.List.{list_any}
 use Rattle.std.specs.Cmp.{int_ranks}
 use Rattle.std.specs.declared.cmp.Ordering.{Ordering}
 use Rattle.std.specs.declared.cmp.Ordering.TheVariants.{Less, Equal, Greater}
@@ -11,8 +11,8 @@ use Rattle.std.proofs.lemmas.Bool.Decides.{Decides-int_eq}
 use Rattle.av_types.specs.declared.place.ChunkPos.{ChunkPos}
 use Rattle.av_types.specs.declared.place.RegionPos.{RegionPos}
 use Rattle.av_world.specs.Index.{before, IsRising}
-use Rattle.av_world.proofs.Search.{lt_tells, eq_tells}
-use Rattle.av_files.specs.Files.{region_order, region_after, regions_rise, same_region, chunk_order, starts_after, chunks_rise}
+use Rattle.av_world.proofs.Search.{lt_tells}
+use Rattle.av_files.specs.Files.{region_order, region_after, regions_rise, same_region, chunk_order, chunks_rise}
 use Rattle.av_files.proofs.Coordinates.{same_region_is}
 
 abbrev Below : RegionPos → RegionPos → Type 0

@@ -1,16 +1,14 @@
 -- Files and chunks in order.
-use Rattle.std.proofs.Common.{◌≡◌, ◌≢◌, ◌∙◌, ℕ, ℤ, ◌<ℤ◌, ◌≤ℤ◌, ◌⊎◌, inl, inr, List, [], ◌∷◌, ◌++◌, length, Bool, true, false, ◌||◌, ◌&&◌, cond, Option, Some, None, refl, ap, sym, subst, arith, map, int_lt}
+use Rattle.std.proofs.Common.{◌≡◌, ◌≢◌, ◌∙◌, ℤ, ◌<ℤ◌, ◌≤ℤ◌, ◌⊎◌, inl, inr, List, [], ◌∷◌, Bool, true, false, ◌||◌, ◌&&◌, cond, Option, Some, None, refl, ap, sym, subst, arith, map, int_lt}
 use Rattle.std.specs.Ordering.{is_lt, int_cmp, int_eq, ordering_then, MatchOrdering}
-use Rattle.std.specs.List.{list_any}
 use Rattle.std.specs.Cmp.{int_ranks, IsStrictWeakOrder}
 use Rattle.std.specs.declared.cmp.Ordering.{Ordering}
 use Rattle.std.specs.declared.cmp.Ordering.TheVariants.{Less, Equal, Greater}
 use Rattle.std.proofs.lemmas.Int.{ints}
 use Rattle.std.proofs.lemmas.Cmp.{then_total, on_total, int_cmp_total}
 use Rattle.std.proofs.lemmas.List.Sorted.{ranks_by}
-use Rattle.std.proofs.lemmas.Bool.{false≢true, true≢false}
+use Rattle.std.proofs.lemmas.Bool.{false≢true}
 use Rattle.std.proofs.lemmas.Bool.Decides.{Decides-int_eq}
-use Rattle.std.proofs.lemmas.Option.{none-some}
 use Rattle.av_types.specs.declared.place.ChunkPos.{ChunkPos}
 use Rattle.av_types.specs.declared.place.RegionPos.{RegionPos}
 use Rattle.av_types.proofs.SamePlaces.{same_chunk_is}
@@ -18,10 +16,10 @@ use Rattle.av_ticks.specs.Order.{inserted, ordered}
 use Rattle.av_chunk.specs.declared.chunk.Chunk.{Chunk}
 use Rattle.av_cells.specs.Positions.{same_chunk}
 use Rattle.av_world.proofs.Search.{lt_tells, eq_tells}
-use Rattle.av_files.specs.Files.{File, region_order, region_after, regions_rise, in_order, chunk_order}
+use Rattle.av_files.specs.Files.{region_order, regions_rise, in_order}
 use Rattle.av_sink.specs.declared.files.RegionFile.{RegionFile}
 use Rattle.av_image.specs.declared.splits.Placed.{Placed}
-use Rattle.av_image.specs.Splits.{chunk_found, ArePlacedOnce, HasAt, IsWorldOf}
+use Rattle.av_image.specs.Splits.{chunk_found, HasAt, IsWorldOf}
 use Rattle.av_image.specs.Loading.{file_in, placed_order, region_before, comes_after, rises_from}
 
 pub placed_laws : IsStrictWeakOrder (λ x y. is_lt (placed_order x y))

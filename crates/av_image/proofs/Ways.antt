@@ -1,5 +1,5 @@
 -- Steps of the loops over places and files.
-use Rattle.std.proofs.Common.{◌≡◌, ◌≢◌, ℕ, ◌+◌, ◌-◌, ◌<◌, List, [], ◌∷◌, ◌++◌, length, Option, Some, None, refl, ap, sym, subst, ◌∙◌, slice_get, suc, inl, inr, append-nil, arith}
+use Rattle.std.proofs.Common.{◌≡◌, ℕ, ◌+◌, ◌-◌, ◌<◌, List, [], ◌∷◌, ◌++◌, refl, ap, sym, subst, suc, inl, inr, append-nil, arith}
 use Rattle.std.specs.List.{range_with_len}
 use Rattle.std.proofs.lemmas.Option.{none-some}
 use Rattle.av_types.specs.Places.{chunk_at}
@@ -10,11 +10,11 @@ use Rattle.av_section.specs.Reading.{OnlyGrows}
 use Rattle.av_chunk.proofs.Slots.{OnlyGrows-trans}
 use Rattle.av_files.specs.Files.{File}
 use Rattle.av_files.specs.Layout.{indices}
-use Rattle.av_files.specs.FirstFault.{IsPlaceFault, IsPlaceGood, IsFileGood, IsFirstOfFile, IsFirstOfFiles, IsFirstOfPlaces, ArePlacesGood, AreFilesGood}
+use Rattle.av_files.specs.FirstFault.{IsPlaceFault, IsPlaceGood, IsFirstOfFile, IsFirstOfFiles, IsFirstOfPlaces}
 use Rattle.av_image.specs.declared.places.Place.{Place}
 use Rattle.av_image.specs.declared.regions.ReadRegion.{ReadRegion}
-use Rattle.av_image.specs.Placed.{IsPlaceRead, WasPlaceRead, WerePlacesRead, ArePlacesRead, WasRegionRead, IsRegionRead, WereRegionsRead, AreRegionsRead}
-use Rattle.av_image.specs.Ways.{IsPlacesWay, PlacesSoFar, IsFilesWay, FilesSoFar}
+use Rattle.av_image.specs.Placed.{IsPlaceRead, WasPlaceRead, ArePlacesRead, WasRegionRead, IsRegionRead, WereRegionsRead, AreRegionsRead}
+use Rattle.av_image.specs.Ways.{IsPlacesWay, PlacesSoFar, FilesSoFar}
 use Rattle.av_image.proofs.OnePlace.{good_place, places_grown}
 use Rattle.av_image.proofs.Growing.{pushed_each, one_longer}
 

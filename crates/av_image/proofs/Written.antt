@@ -1,7 +1,7 @@
 -- The files of regions are those of the world, the rest and the lights.
-use Rattle.std.proofs.Common.{◌≡◌, ◌∙◌, ℕ, zero, suc, ◌<◌, List, [], ◌∷◌, ◌++◌, length, Bool, true, false, ◌||◌, cond, Option, Some, None, refl, ap, sym, subst, arith, map, drop, take, get_or, drop-cons, ◌≤◌, ◌+◌}
+use Rattle.std.proofs.Common.{◌≡◌, ◌∙◌, ℕ, suc, ◌<◌, List, [], ◌∷◌, ◌++◌, length, Bool, true, false, ◌||◌, cond, Option, Some, None, refl, ap, sym, arith, map, drop, take, get_or, drop-cons, ◌≤◌, ◌+◌}
 use Rattle.std.specs.Prelude.{slice_get, slice_index_or, option_map}
-use Rattle.std.specs.List.{All, AllByRecursion, list_any, range_with_len}
+use Rattle.std.specs.List.{AllByRecursion, list_any}
 use Rattle.std.proofs.lemmas.Bool.{and_parts}
 use Rattle.std.proofs.lemmas.Option.{none-some}
 use Rattle.std.proofs.lemmas.List.{map-append, take_more, take_all, drop_all}
@@ -16,10 +16,8 @@ use Rattle.av_files.proofs.Coordinates.{same_region-refl}
 use Rattle.av_nbt.specs.Writing.{written_document}
 use Rattle.av_region.specs.Layout.{region_bytes, first_too_large}
 use Rattle.av_rules.specs.declared.kinds.Kinds.{Kinds}
-use Rattle.av_document.specs.Chunk.{Rest as ChunkRest}
 use Rattle.av_document.specs.Layout.{chunk_layout}
 use Rattle.av_chunk.specs.declared.light.ChunkLight.{ChunkLight}
-use Rattle.av_land.specs.Land.{has_chunk}
 use Rattle.av_world.specs.Views.{height_of, positions_of, lists}
 use Rattle.av_world.specs.declared.worlds.World.{World}
 use Rattle.av_files.specs.Files.{File, same_region, regions_rise, region_after}
@@ -29,13 +27,13 @@ use Rattle.av_image.specs.declared.rest.Slot.{Slot}
 use Rattle.av_image.specs.declared.rest.Slot.TheVariants.{Absent, Kept, Loaded}
 use Rattle.av_image.specs.declared.rest.RegionRest.{RegionRest}
 use Rattle.av_image.specs.declared.rest.Rest.{Rest}
-use Rattle.av_image.specs.Views.{region_found, stamp_in, slot_in, slot_at, kept_in, chunk_rest_in, rest_view, rest_in}
+use Rattle.av_image.specs.Views.{region_found, stamp_in, slot_in, slot_at, kept_in, chunk_rest_in, rest_view}
 use Rattle.av_image.specs.Saving.{states_in, sources_in, lights_in, saved, unsaved, IsSlotOf, IsRegionOf, IsRestOf}
-use Rattle.av_image.specs.SavingSteps.{loaded_bytes, slot_payload, region_payloads, region_file, region_unsaved, regions_unsaved, SavedSoFar}
+use Rattle.av_image.specs.SavingSteps.{slot_payload, region_payloads, region_file, region_unsaved, regions_unsaved, SavedSoFar}
 use Rattle.av_image.proofs.Rises.{not_later_region}
 use Rattle.av_image.proofs.Denoted.{get_within}
 use Rattle.av_image.proofs.OneChunk.{by_recursion}
-use Rattle.av_document.proofs.Inside.{map_range, map_same}
+use Rattle.av_document.proofs.Inside.{map_range}
 
 -- ---- each region is found at its place
 

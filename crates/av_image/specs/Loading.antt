@@ -1,5 +1,5 @@
 -- What is loaded. Working definitions.
-use Rattle.std.specs.Prelude.{◌≡◌, ℕ, List, ◌∷◌, map, Bool, true, false, int_lt, ◌||◌, ◌&&◌, Option, Some, None}
+use Rattle.std.specs.Prelude.{◌≡◌, List, ◌∷◌, map, Bool, true, false, int_lt, ◌||◌, ◌&&◌, Option, Some, None}
 use Rattle.std.specs.Ordering.{int_eq}
 use Rattle.av_types.specs.declared.place.RegionPos.{RegionPos}
 use Rattle.std.specs.declared.cmp.Ordering.{Ordering}

@@ -1,20 +1,15 @@
 -- What was read of region files. Working definitions.
-use Rattle.std.specs.Prelude.{◌≡◌, ℕ, ◌<◌, ◌+◌, ◌^◌, List, [], ◌∷◌, length, Some, None, false, map, slice_get}
+use Rattle.std.specs.Prelude.{◌≡◌, ℕ, ◌<◌, ◌^◌, List, [], ◌∷◌, length, Some, map, slice_get}
 use Rattle.std.specs.List.{range_with_len, All}
-use Rattle.av_types.specs.Faults.{fault_number}
 use Rattle.av_types.specs.Places.{IsInLimits, chunk_at}
 use Rattle.av_types.specs.declared.place.Height.{Height}
 use Rattle.av_types.specs.declared.place.ChunkPos.{ChunkPos}
 use Rattle.av_types.specs.declared.place.RegionPos.{RegionPos}
-use Rattle.av_types.specs.declared.fault.Fault.{Fault}
-use Rattle.av_types.specs.declared.fault.Fault.TheVariants.{BadNbt}
 use Rattle.av_nbt.specs.Nbt.{Document}
 use Rattle.av_nbt.specs.Spelling.{SpellsDocument}
-use Rattle.av_nbt.specs.Outcome.{SpellsNone}
 use Rattle.av_region.specs.Region.{IsShort, IsAbsent, Holds, stamp_of}
 use Rattle.av_state.specs.BlockState.{BlockState}
 use Rattle.av_section.specs.Reading.{OnlyGrows}
-use Rattle.av_document.specs.Chunk.{root_tags, first_fault}
 use Rattle.av_chunk.specs.Reading.{IsLoaded, IsKept}
 use Rattle.av_chunk.specs.declared.chunk.Chunk.{Chunk}
 use Rattle.av_chunk.specs.declared.rest.ChunkRest.{ChunkRest}
@@ -48,10 +43,6 @@ abbrev pub IsPayloadRead : Height → List BlockState → List BlockState → Li
 IsPayloadRead h old new payload c Absent = ⊥
 IsPayloadRead h old new payload c (Kept same) = IsKeptPayload h old new payload c same.items
 IsPayloadRead h old new payload c (Full chunk rest) = IsFullPayload h old new payload c chunk rest
-
-pub data IsPayloadRefused (h : Height) (old : List BlockState) (payload : List ℕ) (c : ChunkPos) (e : Fault) : Type 0 where
-  no_spelling : SpellsNone payload → e ≡ BadNbt → IsPayloadRefused h old payload c e
-  bad_document : (d : Document) → SpellsDocument d payload → first_fault h c old (root_tags d) ≡ Some (fault_number e) → IsPayloadRefused h old payload c e
 
 -- ---- one place
 

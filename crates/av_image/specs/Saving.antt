@@ -1,7 +1,7 @@
 -- What a world is written as, and what the caller of `save` sees to.
 use Rattle.std.specs.Int.{w32}
 use Rattle.std.specs.Int.RustNames.{FitsSigned}
-use Rattle.std.specs.Prelude.{◌≡◌, ◌<◌, ℕ, ℤ, pos, ◌-ℤ◌, List, length, Option, Some, None, Bool, true, false, map, option_map, slice_get, replicate}
+use Rattle.std.specs.Prelude.{◌≡◌, ◌<◌, ℕ, ℤ, pos, ◌-ℤ◌, List, length, Option, Some, None, Bool, true, false, map, slice_get, replicate}
 use Rattle.std.specs.List.{All}
 use Rattle.av_types.specs.Water.{is_source}
 use Rattle.av_types.specs.Places.{IsInLimits, chunk_at}

@@ -1,24 +1,17 @@
 -- What was read of regions, as a world and a rest. Working definitions.
-use Rattle.std.specs.Prelude.{◌≡◌, ℕ, ◌+◌, ◌<◌, ℤ, List, [], ◌∷◌, ◌++◌, length, Option, Some, None, Bool, true, false, map, slice_get, slice_index_or, if◌then◌else◌, codes}
-use Rattle.std.specs.List.{flat_map}
-use Rattle.av_types.specs.Places.{chunk_at, region_of, index_of, chunk_of_section}
+use Rattle.std.specs.Prelude.{◌≡◌, ℕ, ◌+◌, List, [], ◌∷◌, ◌++◌, Option, Some, None, true, false, map, if◌then◌else◌}
+use Rattle.av_types.specs.Places.{chunk_at, chunk_of_section}
 use Rattle.av_types.specs.declared.place.Height.{Height}
 use Rattle.av_types.specs.declared.place.ChunkPos.{ChunkPos}
 use Rattle.av_types.specs.declared.place.SectionPos.{SectionPos}
 use Rattle.av_types.specs.declared.place.RegionPos.{RegionPos}
-use Rattle.av_types.specs.declared.place.Pos.{Pos}
 use Rattle.av_ticks.specs.Ticks.{entries}
-use Rattle.av_document.specs.Chunk.{Rest as ChunkRest}
 use Rattle.av_chunk.specs.declared.chunk.Chunk.{Chunk}
-use Rattle.av_chunk.specs.Views.{rest_of}
 use Rattle.av_cells.specs.Positions.{same_chunk}
-use Rattle.av_cells.specs.Grid.{cells_of}
 use Rattle.av_world.specs.Inserted.{chunk_grid}
 use Rattle.av_world.specs.Views.{grid, lists}
 use Rattle.av_world.specs.declared.worlds.World.{World}
-use Rattle.av_land.specs.Land.{Land, has_chunk}
-use Rattle.av_files.specs.Files.{same_region}
-use Rattle.av_files.specs.Denotes.{Rest}
+use Rattle.av_land.specs.Land.{has_chunk}
 use Rattle.av_image.specs.declared.places.Place.{Place}
 use Rattle.av_image.specs.declared.places.Place.TheVariants.{Absent, Kept, Full}
 use Rattle.av_image.specs.declared.regions.ReadRegion.{ReadRegion}

@@ -1,5 +1,5 @@
 -- How far the reading of files has come. Working definitions of loops.
-use Rattle.std.specs.Prelude.{◌≡◌, ℕ, ◌-◌, List}
+use Rattle.std.specs.Prelude.{ℕ, ◌-◌, List}
 use Rattle.std.specs.List.{range_with_len}
 use Rattle.av_types.specs.declared.place.Height.{Height}
 use Rattle.av_types.specs.declared.fault.Fault.{Fault}

@@ -4,11 +4,11 @@ ghost use Rattle.av_types.specs.declared.fault.Fault.TheVariants.{OutOfMemory};
 ghost use Rattle.av_types.specs.Places.{IsInLimits, chunk_at};
 ghost use Rattle.av_state.specs.Table.{states};
 ghost use Rattle.av_section.specs.Reading.{OnlyGrows};
+ghost use Rattle.av_chunk.specs.Payload.{IsPayloadFault};
 ghost use Rattle.av_files.specs.FirstFault.{IsPlaceFault};
-ghost use Rattle.av_image.specs.Placed.{IsPlaceRead, IsPayloadRead, IsPayloadRefused};
+ghost use Rattle.av_image.specs.Placed.{IsPlaceRead, IsPayloadRead};
 
-use av_chunk::{Chunk, ChunkRest, Reading};
-use av_nbt::decode;
+use av_chunk::{Chunk, ChunkRest, Reading, read_payload};
 use av_region::Region;
 use av_state::StateTable;
 use av_types::{ChunkPos, Fault, Height, RegionPos};
@@ -25,8 +25,8 @@ pub enum Place {
     Full { chunk: Chunk, rest: ChunkRest },
 }
 
-/// A payload, read.
-fn read_payload(
+/// What a payload is read as. That of a chunk that is not full is copied.
+fn held(
     alloc: Global,
     payload: &[u8],
     at: ChunkPos,
@@ -35,11 +35,10 @@ fn read_payload(
 ) -> Result<Place, Fault>
     requires { length payload.now ≤ 1044475 }
     ensures ok { IfOk result (IsPayloadRead height (states table.old) (states table.new) payload.now at) }
-    ensures err { IfErr result (λ e. e ≢ OutOfMemory → IsPayloadRefused height (states table.old) payload.now at e) }
+    ensures err { IfErr result (λ e. e ≢ OutOfMemory → IsPayloadFault at height payload.now (states table.old) e) }
     ensures table { OnlyGrows (states table.old) (states table.new) }
 {
-    let root = decode(alloc, payload)?;
-    match Chunk::read(alloc, root, at, height, table)? {
+    match read_payload(alloc, payload, at, height, table)? {
         Reading::Kept => Ok(Place::Kept(Vec::from_slice(alloc, payload)?)),
         Reading::Full { chunk, rest } => Ok(Place::Full { chunk, rest }),
     }
@@ -62,6 +61,6 @@ pub(crate) fn read_place(
 {
     match region.payload(index)? {
         None => Ok(Place::Absent),
-        Some(payload) => read_payload(alloc, payload, pos.chunk_at(index), height, table),
+        Some(payload) => held(alloc, payload, pos.chunk_at(index), height, table),
     }
 }

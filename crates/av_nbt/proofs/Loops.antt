@@ -88,6 +88,6 @@ written_more f old new xs i x d whole more is wrote so_far =
     ap (λ n. n ++ flat_map f (drop (i + 1) xs)) wrote ∙ append_assoc old (f x) (flat_map f (drop (i + 1) xs)) ∙ ap (λ ys. old ++ flat_map f ys) (sym next) ∙ so_far
 
 -- bytes written after others that were written
-pub writes_after : (r : Result (Unit {0}) Fault) (a b old mid new : List ℕ) → mid ≡ old ++ a → Writes r b mid new → Writes r (a ++ b) old new
+pub writes_after : {E : Type 0} (r : Result (Unit {0}) E) (a b old mid new : List ℕ) → mid ≡ old ++ a → Writes r b mid new → Writes r (a ++ b) old new
 writes_after (Ok done) a b old mid new e h = h ∙ ap (λ m. m ++ b) e ∙ append_assoc old a b
-writes_after (Err fault) a b old mid new e h = h
+writes_after (Err lack) a b old mid new e h = tt

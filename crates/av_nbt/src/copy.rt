@@ -5,13 +5,12 @@ ghost use Rattle.av_nbt.specs.View.{view, views, named_view, named_views};
 
 use crate::tag::{Named, Tag};
 use av_types::Fault;
-use std::alloc::Global;
+use std::alloc::{AllocError, Global};
 
 /// A copy of the tags of a List.
 #[cycle(copying)]
-fn copy_items(alloc: Global, items: &[Tag]) -> Result<Vec<Tag>, Fault>
-    ensures copied { IfOk result (λ copies. views copies.items ≡ views items.now) }
-    ensures err { IfErr result (λ e. e ≡ OutOfMemory) }
+fn copy_items(alloc: Global, items: &[Tag]) -> Result<Vec<Tag>, AllocError>
+    ensures { IfOk result (λ copies. views copies.items ≡ views items.now) }
 {
     let mut copies = Vec::with_capacity(alloc, items.len())?;
     for item in items {
@@ -22,20 +21,18 @@ fn copy_items(alloc: Global, items: &[Tag]) -> Result<Vec<Tag>, Fault>
 
 /// A copy of a tag under its name.
 #[cycle(copying)]
-fn copy_named(alloc: Global, named: &Named) -> Result<Named, Fault>
-    ensures copied { IfOk result (λ copy. named_view copy ≡ named_view named.now) }
-    ensures err { IfErr result (λ e. e ≡ OutOfMemory) }
+fn copy_named(alloc: Global, named: &Named) -> Result<Named, AllocError>
+    ensures { IfOk result (λ copy. named_view copy ≡ named_view named.now) }
 {
     let name = Vec::from_slice(alloc, named.name.as_slice())?;
     let tag = copy_tag(alloc, &named.tag)?;
     Ok(Named::new(name, tag))
 }
 
-/// A copy of the tags of a Compound, names and all. The only fault is `OutOfMemory`, where a growth was refused.
+/// A copy of the tags of a Compound.
 #[cycle(copying)]
-pub fn copy_tags(alloc: Global, tags: &[Named]) -> Result<Vec<Named>, Fault>
-    ensures copied { IfOk result (λ copies. named_views copies.items ≡ named_views tags.now) }
-    ensures err { IfErr result (λ e. e ≡ OutOfMemory) }
+fn copy_members(alloc: Global, tags: &[Named]) -> Result<Vec<Named>, AllocError>
+    ensures { IfOk result (λ copies. named_views copies.items ≡ named_views tags.now) }
 {
     let mut copies = Vec::with_capacity(alloc, tags.len())?;
     for named in tags {
@@ -46,9 +43,8 @@ pub fn copy_tags(alloc: Global, tags: &[Named]) -> Result<Vec<Named>, Fault>
 
 /// A copy of a tag.
 #[cycle(copying)]
-fn copy_tag(alloc: Global, tag: &Tag) -> Result<Tag, Fault>
-    ensures copied { IfOk result (λ copy. view copy ≡ view tag.now) }
-    ensures err { IfErr result (λ e. e ≡ OutOfMemory) }
+fn copy_tag(alloc: Global, tag: &Tag) -> Result<Tag, AllocError>
+    ensures { IfOk result (λ copy. view copy ≡ view tag.now) }
 {
     match tag {
         Tag::Byte(value) => Ok(Tag::Byte(*value)),
@@ -60,8 +56,16 @@ fn copy_tag(alloc: Global, tag: &Tag) -> Result<Tag, Fault>
         Tag::ByteArray(bytes) => Ok(Tag::ByteArray(Vec::from_slice(alloc, bytes.as_slice())?)),
         Tag::Text(bytes) => Ok(Tag::Text(Vec::from_slice(alloc, bytes.as_slice())?)),
         Tag::List(kind, items) => Ok(Tag::List(*kind, copy_items(alloc, items.as_slice())?)),
-        Tag::Compound(tags) => Ok(Tag::Compound(copy_tags(alloc, tags.as_slice())?)),
+        Tag::Compound(tags) => Ok(Tag::Compound(copy_members(alloc, tags.as_slice())?)),
         Tag::IntArray(ints) => Ok(Tag::IntArray(Vec::from_slice(alloc, ints.as_slice())?)),
         Tag::LongArray(longs) => Ok(Tag::LongArray(Vec::from_slice(alloc, longs.as_slice())?)),
     }
+}
+
+/// A copy of the tags of a Compound, names and all. The only fault is `OutOfMemory`, where a growth was refused.
+pub fn copy_tags(alloc: Global, tags: &[Named]) -> Result<Vec<Named>, Fault>
+    ensures copied { IfOk result (λ copies. named_views copies.items ≡ named_views tags.now) }
+    ensures err { IfErr result (λ e. e ≡ OutOfMemory) }
+{
+    Ok(copy_members(alloc, tags)?)
 }

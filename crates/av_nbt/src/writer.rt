@@ -12,20 +12,19 @@ ghost use Rattle.av_nbt.specs.Writing.{signed_bytes, text_bytes, written, writte
 
 use crate::tag::{Kind, Named, Root, Tag};
 use av_types::Fault;
-use std::alloc::Global;
+use std::alloc::{AllocError, Global};
 
 /// Some bytes.
 #[inline]
-fn write_bytes(out: &mut Vec<u8>, bytes: &[u8]) -> Result<(), Fault>
+fn write_bytes(out: &mut Vec<u8>, bytes: &[u8]) -> Result<(), AllocError>
     ensures { Writes result bytes.now out.old.items out.new.items }
 {
-    out.extend_from_slice(bytes)?;
-    Ok(())
+    out.extend_from_slice(bytes)
 }
 
 /// The length of a List or an array.
 #[inline]
-fn write_length(out: &mut Vec<u8>, length: usize) -> Result<(), Fault>
+fn write_length(out: &mut Vec<u8>, length: usize) -> Result<(), AllocError>
     requires { length < 2 ^ 31 }
     ensures { Writes result (to_be_bytes w32 length) out.old.items out.new.items }
 {
@@ -34,7 +33,7 @@ fn write_length(out: &mut Vec<u8>, length: usize) -> Result<(), Fault>
 
 /// A text, after its length.
 #[inline]
-fn write_text(out: &mut Vec<u8>, text: &[u8]) -> Result<(), Fault>
+fn write_text(out: &mut Vec<u8>, text: &[u8]) -> Result<(), AllocError>
     requires { length text.now < 2 ^ 16 }
     ensures { Writes result (text_bytes text.now) out.old.items out.new.items }
 {
@@ -43,7 +42,7 @@ fn write_text(out: &mut Vec<u8>, text: &[u8]) -> Result<(), Fault>
 }
 
 /// The bytes of a Byte Array, after their number.
-fn write_byte_array(out: &mut Vec<u8>, bytes: &[u8]) -> Result<(), Fault>
+fn write_byte_array(out: &mut Vec<u8>, bytes: &[u8]) -> Result<(), AllocError>
     requires { length bytes.now < 2 ^ 31 }
     ensures { Writes result (to_be_bytes w32 (length bytes.now) ++ bytes.now) out.old.items out.new.items }
 {
@@ -52,7 +51,7 @@ fn write_byte_array(out: &mut Vec<u8>, bytes: &[u8]) -> Result<(), Fault>
 }
 
 /// The numbers of an Int Array.
-fn write_ints(out: &mut Vec<u8>, ints: &[i32]) -> Result<(), Fault>
+fn write_ints(out: &mut Vec<u8>, ints: &[i32]) -> Result<(), AllocError>
     ensures { Writes result (flat_map (signed_bytes w32) ints.now) out.old.items out.new.items }
 {
     for int in ints {
@@ -62,7 +61,7 @@ fn write_ints(out: &mut Vec<u8>, ints: &[i32]) -> Result<(), Fault>
 }
 
 /// The numbers of a Long Array.
-fn write_longs(out: &mut Vec<u8>, longs: &[i64]) -> Result<(), Fault>
+fn write_longs(out: &mut Vec<u8>, longs: &[i64]) -> Result<(), AllocError>
     ensures { Writes result (flat_map (signed_bytes w64) longs.now) out.old.items out.new.items }
 {
     for long in longs {
@@ -72,7 +71,7 @@ fn write_longs(out: &mut Vec<u8>, longs: &[i64]) -> Result<(), Fault>
 }
 
 /// The numbers of an Int Array, after their count.
-fn write_int_array(out: &mut Vec<u8>, ints: &[i32]) -> Result<(), Fault>
+fn write_int_array(out: &mut Vec<u8>, ints: &[i32]) -> Result<(), AllocError>
     requires { length ints.now < 2 ^ 31 }
     ensures { Writes result (to_be_bytes w32 (length ints.now) ++ flat_map (signed_bytes w32) ints.now) out.old.items out.new.items }
 {
@@ -81,7 +80,7 @@ fn write_int_array(out: &mut Vec<u8>, ints: &[i32]) -> Result<(), Fault>
 }
 
 /// The numbers of a Long Array, after their count.
-fn write_long_array(out: &mut Vec<u8>, longs: &[i64]) -> Result<(), Fault>
+fn write_long_array(out: &mut Vec<u8>, longs: &[i64]) -> Result<(), AllocError>
     requires { length longs.now < 2 ^ 31 }
     ensures { Writes result (to_be_bytes w32 (length longs.now) ++ flat_map (signed_bytes w64) longs.now) out.old.items out.new.items }
 {
@@ -91,7 +90,7 @@ fn write_long_array(out: &mut Vec<u8>, longs: &[i64]) -> Result<(), Fault>
 
 /// The tags of a List, one after the other.
 #[cycle(writing)]
-fn write_items(out: &mut Vec<u8>, items: &[Tag]) -> Result<(), Fault>
+fn write_items(out: &mut Vec<u8>, items: &[Tag]) -> Result<(), AllocError>
     requires { FitItems (items_of (views items.now)) }
     ensures { Writes result (written_items (items_of (views items.now))) out.old.items out.new.items }
 {
@@ -104,7 +103,7 @@ fn write_items(out: &mut Vec<u8>, items: &[Tag]) -> Result<(), Fault>
 /// A List's kind, its length and its tags.
 #[cycle(writing)]
 #[tactic(auto, using(crate::proofs::Written::item_count_views))]
-fn write_list(out: &mut Vec<u8>, kind: Kind, items: &[Tag]) -> Result<(), Fault>
+fn write_list(out: &mut Vec<u8>, kind: Kind, items: &[Tag]) -> Result<(), AllocError>
     requires { Fits (list kind (items_of (views items.now))) }
     ensures { Writes result (written (list kind (items_of (views items.now)))) out.old.items out.new.items }
 {
@@ -115,7 +114,7 @@ fn write_list(out: &mut Vec<u8>, kind: Kind, items: &[Tag]) -> Result<(), Fault>
 
 /// A tag's kind, its name and the tag.
 #[cycle(writing)]
-fn write_named(out: &mut Vec<u8>, named: &Named) -> Result<(), Fault>
+fn write_named(out: &mut Vec<u8>, named: &Named) -> Result<(), AllocError>
     requires name { length (named_view named.now).name < 2 ^ 16 }
     requires tag { Fits (named_view named.now).tag }
     ensures { Writes result (written_named (named_view named.now)) out.old.items out.new.items }
@@ -127,7 +126,7 @@ fn write_named(out: &mut Vec<u8>, named: &Named) -> Result<(), Fault>
 
 /// The tags of a Compound, and its end.
 #[cycle(writing)]
-fn write_members(out: &mut Vec<u8>, members: &[Named]) -> Result<(), Fault>
+fn write_members(out: &mut Vec<u8>, members: &[Named]) -> Result<(), AllocError>
     requires { FitMembers (members_of (named_views members.now)) }
     ensures { Writes result (written_members (members_of (named_views members.now))) out.old.items out.new.items }
 {
@@ -140,7 +139,7 @@ fn write_members(out: &mut Vec<u8>, members: &[Named]) -> Result<(), Fault>
 
 /// A tag.
 #[cycle(writing)]
-fn write_tag(out: &mut Vec<u8>, tag: &Tag) -> Result<(), Fault>
+fn write_tag(out: &mut Vec<u8>, tag: &Tag) -> Result<(), AllocError>
     requires { Fits (view tag.now) }
     ensures { Writes result (written (view tag.now)) out.old.items out.new.items }
 {
@@ -161,7 +160,7 @@ fn write_tag(out: &mut Vec<u8>, tag: &Tag) -> Result<(), Fault>
 }
 
 /// A document, whose lengths fit their places.
-fn write_root(out: &mut Vec<u8>, root: &Root) -> Result<(), Fault>
+fn write_root(out: &mut Vec<u8>, root: &Root) -> Result<(), AllocError>
     requires name { length root.now.name.items < 2 ^ 16 }
     requires tags { FitMembers (members_of (named_views root.now.tags.items)) }
     ensures { Writes result (written_document (document root.now)) out.old.items out.new.items }

@@ -122,6 +122,7 @@ fn slot_of(bits: u32, place: Place) -> Slot
 }
 
 /// So many bits of a long, from bit `shift` on.
+#[inline(always)]
 #[tactic(auto, using(crate::proofs::Fields::field_is))]
 fn field(long: u64, shift: u32, bits: u32) -> u16
     requires low { 4 ≤ bits }
@@ -172,6 +173,7 @@ pub fn set_at(longs: &mut [i64], bits: u32, place: Place, value: u16)
 }
 
 /// How many entries a long holds, of 4 to 16 bits each.
+#[inline(always)]
 #[tactic(auto, using(crate::proofs::Slots::few_in_long))]
 fn entries_in_long(bits: u32) -> usize
     requires low { 4 ≤ bits }
@@ -183,6 +185,7 @@ fn entries_in_long(bits: u32) -> usize
 }
 
 /// All entries of a long, in front of places that are left.
+#[inline(always)]
 fn entries_of(long: u64, bits: u32) -> [u16; 16]
     requires low { 4 ≤ bits }
     requires high { bits ≤ 16 }
@@ -196,6 +199,7 @@ fn entries_of(long: u64, bits: u32) -> [u16; 16]
 }
 
 /// Appends all entries of a long.
+#[inline(always)]
 fn push_entries(values: &mut Vec<u16>, long: u64, bits: u32) -> Result<(), AllocError>
     requires low { 4 ≤ bits }
     requires high { bits ≤ 16 }
@@ -205,9 +209,9 @@ fn push_entries(values: &mut Vec<u16>, long: u64, bits: u32) -> Result<(), Alloc
     values.extend_from_slice(&entries[..entries_in_long(bits)])
 }
 
-/// The 4,096 entries of the longs, or `BadPacked` where the longs are not as many as `longs_for`
-/// says. The bits that hold no entry are not looked at.
-pub fn unpack(alloc: Global, longs: &[i64], bits: u32) -> Result<Vec<u16>, Fault>
+/// The 4,096 entries of the longs, as `unpack` gives them.
+#[inline(always)]
+fn unpack_by(alloc: Global, longs: &[i64], bits: u32) -> Result<Vec<u16>, Fault>
     requires low { 4 ≤ bits }
     requires high { bits ≤ 16 }
     ensures ok { IfOk result (λ values. values.items ≡ unpacked bits longs.now) }
@@ -226,6 +230,23 @@ pub fn unpack(alloc: Global, longs: &[i64], bits: u32) -> Result<Vec<u16>, Fault
     Ok(values)
 }
 
+/// The 4,096 entries of the longs, or `BadPacked` where the longs are not as many as `longs_for`
+/// says. The bits that hold no entry are not looked at. Most sections have entries of 4 bits, so these
+/// have a loop of their own.
+pub fn unpack(alloc: Global, longs: &[i64], bits: u32) -> Result<Vec<u16>, Fault>
+    requires low { 4 ≤ bits }
+    requires high { bits ≤ 16 }
+    ensures ok { IfOk result (λ values. values.items ≡ unpacked bits longs.now) }
+    ensures bad_packed { (result ≡ Err BadPacked) ↔ (length longs.now ≢ longs_for bits) }
+    ensures others { IfErr result (λ e. (e ≡ BadPacked) ⊎ (e ≡ OutOfMemory)) }
+{
+    if bits == 4 {
+        unpack_by(alloc, longs, 4)
+    } else {
+        unpack_by(alloc, longs, bits)
+    }
+}
+
 /// The long that holds values, the first one in its lowest bits.
 fn long_of(values: &[u16], bits: u32) -> i64
     requires low { 4 ≤ bits }
@@ -240,8 +261,41 @@ fn long_of(values: &[u16], bits: u32) -> i64
     long.cast_signed()
 }
 
-/// The longs that hold 4,096 values, each below 2^`bits`. The bits that hold no value are 0.
-pub fn pack(alloc: Global, values: &[u16], bits: u32) -> Result<Vec<i64>, Fault>
+/// The long that as many values fill as it holds, the first one in its lowest bits.
+#[inline(always)]
+fn full_long(values: &[u16], bits: u32) -> i64
+    requires low { 4 ≤ bits }
+    requires high { bits ≤ 16 }
+    requires count { length values.now ≡ 64 / bits }
+    requires fit { All (λ value. value < 2 ^ bits) values.now }
+    ensures { result ≡ cast_signed w64 (low_first bits values.now) }
+{
+    let mut long = 0;
+    for i in 0..entries_in_long(bits) {
+        long |= u64::from(values[i]) << (bits * i as u32);
+    }
+    long.cast_signed()
+}
+
+/// The long that holds values, the first one in its lowest bits. Most longs are full.
+#[inline(always)]
+fn packed_long(values: &[u16], bits: u32) -> i64
+    requires low { 4 ≤ bits }
+    requires high { bits ≤ 16 }
+    requires room { bits * length values.now ≤ 64 }
+    requires fit { All (λ value. value < 2 ^ bits) values.now }
+    ensures { result ≡ cast_signed w64 (low_first bits values.now) }
+{
+    if values.len() == entries_in_long(bits) {
+        full_long(values, bits)
+    } else {
+        long_of(values, bits)
+    }
+}
+
+/// The longs that hold 4,096 values, as `pack` gives them.
+#[inline(always)]
+fn pack_by(alloc: Global, values: &[u16], bits: u32) -> Result<Vec<i64>, Fault>
     requires low { 4 ≤ bits }
     requires high { bits ≤ 16 }
     requires count { length values.now ≡ 4096 }
@@ -256,8 +310,28 @@ pub fn pack(alloc: Global, values: &[u16], bits: u32) -> Result<Vec<i64>, Fault>
     let mut rest = values;
     for _ in 0..count {
         let (first, others) = rest.split_at(per_long.min(rest.len()));
-        longs.push(long_of(first, bits))?;
+        longs.push(packed_long(first, bits))?;
         rest = others;
     }
     Ok(longs)
+}
+
+/// The longs that hold 4,096 values, each below 2^`bits`. The bits that hold no value are 0. Entries of 4 and of 5 bits,
+/// which most sections have, have loops of their own.
+pub fn pack(alloc: Global, values: &[u16], bits: u32) -> Result<Vec<i64>, Fault>
+    requires low { 4 ≤ bits }
+    requires high { bits ≤ 16 }
+    requires count { length values.now ≡ 4096 }
+    requires fit { All (λ value. value < 2 ^ bits) values.now }
+    ensures layout { IfOk result (λ longs. longs.items ≡ packed bits values.now) }
+    ensures meaning { IfOk result (λ longs. IsPacked bits values.now longs.items) }
+    ensures err { IfErr result (λ e. e ≡ OutOfMemory) }
+{
+    if bits == 4 {
+        pack_by(alloc, values, 4)
+    } else if bits == 5 {
+        pack_by(alloc, values, 5)
+    } else {
+        pack_by(alloc, values, bits)
+    }
 }

@@ -1,5 +1,5 @@
 //! The indices of a section's places into its palette.
-ghost use Rattle.std.specs.Prelude.{◌≡◌, ◌<◌, ◌≤◌, ◌+◌, ℕ, nat_eq, Some, map, option_map, length, slice_index, All, Contains, IfOk, IfErr, OnOk};
+ghost use Rattle.std.specs.Prelude.{◌≡◌, ◌<◌, ◌≤◌, ◌+◌, ◌⊎◌, ℕ, nat_eq, Some, true, false, map, option_map, length, slice_index, slice_index_or, All, Contains, IfOk, IfErr, OnOk};
 ghost use Rattle.indexmap.specs.IndexSet.{insert_key};
 ghost use Rattle.std.specs.Option.{option_copied};
 ghost use Rattle.av_types.specs.declared.fault.Fault.TheVariants.{OutOfMemory};
@@ -91,6 +91,46 @@ pub(crate) fn index_of(palette: &[u16], number: u16) -> usize
     ensures value { slice_index palette.now result ≡ number }
 {
     palette.iter().position(|known| *known == number).unwrap()
+}
+
+/// Marks a number, if it is one of those that are marked.
+fn mark(marks: &mut [bool; 16], number: u16)
+    ensures { (i : ℕ) → slice_index_or marks.new i false ≡ true → (slice_index_or marks.old i false ≡ true) ⊎ (i ≡ number) }
+{
+    if number < 16 {
+        marks[usize::from(number)] = true;
+    }
+}
+
+/// Which of the numbers below 16 are in a palette.
+fn marks_of(palette: &[u16]) -> [bool; 16]
+    ensures { (i : ℕ) → slice_index_or result i false ≡ true → Contains palette.now i }
+{
+    let mut marks = [false; 16];
+    for number in palette {
+        mark(&mut marks, *number);
+    }
+    marks
+}
+
+/// Whether a number is marked.
+fn is_marked(marks: &[bool; 16], number: u16) -> bool
+    ensures { result ≡ true → slice_index_or marks.now number false ≡ true }
+{
+    number < 16 && marks[usize::from(number)]
+}
+
+/// Whether numbers below 16 are in a palette, which is gone through once. Of others it says no.
+pub(crate) fn has_marked(palette: &[u16], numbers: &[u16]) -> bool
+    ensures { result ≡ true → All (Contains palette.now) numbers.now }
+{
+    let marks = marks_of(palette);
+    for number in numbers {
+        if !is_marked(&marks, *number) {
+            return false;
+        }
+    }
+    true
 }
 
 /// Where each number stands in a palette that has it.

@@ -10,8 +10,6 @@ mod order;
 mod palette;
 pub mod places;
 pub mod section;
-#[cfg(test)]
-mod tests;
 mod writing;
 
 pub use section::Section;

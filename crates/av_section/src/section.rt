@@ -5,7 +5,9 @@ ghost use Rattle.av_pack.specs.Packing.{bits_for, longs_for, packed_at};
 ghost use Rattle.av_section.specs.Packed.{IsPackedSection, IsRepacked};
 ghost use Rattle.std.proofs.Props.{props};
 
-use crate::indices::{data_longs, distinct, index_of, longs_indices, mapped, places_in};
+use crate::indices::{
+    data_longs, distinct, has_marked, index_of, longs_indices, mapped, places_in,
+};
 use crate::numbering::number_states;
 use crate::order::written_order;
 use crate::palette::palette_states;
@@ -15,7 +17,7 @@ use av_nbt::Tag;
 use av_pack::{bits_for, get_at, longs_for, pack, set_at, unpack};
 use av_state::{State, StateTable};
 use av_types::{Fault, Place};
-use std::alloc::Global;
+use std::alloc::{AllocError, Global};
 
 /// A section: the number of a block state at each of its 4,096 places, and the set of the places that are pending.
 ///
@@ -38,9 +40,8 @@ fn has_number(palette: &[u16], number: u16) -> bool
 }
 
 /// Puts a number at the end of the palette, which stays as it is where memory runs out.
-fn push_number(palette: &mut Vec<u16>, number: u16) -> Result<(), Fault>
+fn push_number(palette: &mut Vec<u16>, number: u16) -> Result<(), AllocError>
     ensures items { palette.new.items ≡ (if is_ok result then palette.old.items ++ number ∷ [] else palette.old.items) }
-    ensures err { IfErr result (λ e. e ≡ OutOfMemory) }
 {
     palette.push(number)?;
     Ok(())
@@ -262,6 +263,19 @@ impl Section {
         // Numbers that can be set already take no memory.
         ensures succeeds { All (CanSet self.old) numbers.now → IsOk result }
     {
+        if has_marked(self.palette.as_slice(), numbers) {
+            return Ok(());
+        }
+        self.prepare_each(numbers)
+    }
+
+    /// Makes room for numbers, one after the other.
+    fn prepare_each(&mut self, numbers: &[u16]) -> Result<(), Fault>
+        ensures same { KeepsPlaces self.old self.new }
+        ensures ok { OnOk result (All (CanSet self.new) numbers.now) }
+        ensures err { IfErr result (λ e. e ≡ OutOfMemory) }
+        ensures succeeds { All (CanSet self.old) numbers.now → IsOk result }
+    {
         for number in numbers {
             self.prepare_one(*number)?;
         }
@@ -281,18 +295,17 @@ impl Section {
         self.add_longs()?;
         let bits = bits_for(self.palette.len() + 1);
         if bits == self.bits {
-            return self.append(number);
+            return Ok(self.append(number)?);
         }
         self.widen(number, bits)
     }
 
     /// Makes the longs of a section of one number.
-    fn add_longs(&mut self) -> Result<(), Fault>
+    fn add_longs(&mut self) -> Result<(), AllocError>
         ensures same { KeepsPlaces self.old self.new }
         ensures palette { self.new.palette ≡ self.old.palette }
         ensures bits { self.new.bits ≡ self.old.bits }
         ensures count { OnOk result (length self.new.longs.items ≡ longs_for self.new.bits) }
-        ensures err { IfErr result (λ e. e ≡ OutOfMemory) }
     {
         if !self.longs.is_empty() {
             return Ok(());
@@ -303,17 +316,15 @@ impl Section {
     }
 
     /// Appends a new number to the palette, where the indices stay as wide as they are.
-    fn append(&mut self, number: u16) -> Result<(), Fault>
+    fn append(&mut self, number: u16) -> Result<(), AllocError>
         requires new { CanSet self.old number → ⊥ }
         requires room { length self.old.palette.items < 65536 }
         requires bits { bits_for (length self.old.palette.items + 1) ≡ self.old.bits }
         requires count { length self.old.longs.items ≡ longs_for self.old.bits }
         ensures same { KeepsPlaces self.old self.new }
         ensures ok { OnOk result (CanSet self.new number) }
-        ensures err { IfErr result (λ e. e ≡ OutOfMemory) }
     {
-        push_number(&mut self.palette, number)?;
-        Ok(())
+        push_number(&mut self.palette, number)
     }
 
     /// Appends a new number to the palette, with which the indices have so many bits.

@@ -15,12 +15,11 @@ use av_nbt::{Kind, Named, Tag};
 use av_pack::{bits_for, pack};
 use av_state::{Property, State, StateTable};
 use av_types::Fault;
-use std::alloc::Global;
+use std::alloc::{AllocError, Global};
 
 /// A property as a named text.
-fn property_tag(alloc: Global, property: &Property) -> Result<Named, Fault>
-    ensures ok { IfOk result (λ tag. named_view tag ≡ property_tag (property_of property.now)) }
-    ensures err { IfErr result (λ e. e ≡ OutOfMemory) }
+fn property_tag(alloc: Global, property: &Property) -> Result<Named, AllocError>
+    ensures { IfOk result (λ tag. named_view tag ≡ property_tag (property_of property.now)) }
 {
     let key = Vec::from_slice(alloc, property.key.as_slice())?;
     let value = Vec::from_slice(alloc, property.value.as_slice())?;
@@ -28,9 +27,8 @@ fn property_tag(alloc: Global, property: &Property) -> Result<Named, Fault>
 }
 
 /// Properties as named texts, in order.
-fn property_tags(alloc: Global, properties: &[Property]) -> Result<Vec<Named>, Fault>
-    ensures ok { IfOk result (λ tags. named_views tags.items ≡ map property_tag (properties_of properties.now)) }
-    ensures err { IfErr result (λ e. e ≡ OutOfMemory) }
+fn property_tags(alloc: Global, properties: &[Property]) -> Result<Vec<Named>, AllocError>
+    ensures { IfOk result (λ tags. named_views tags.items ≡ map property_tag (properties_of properties.now)) }
 {
     let mut tags = Vec::new(alloc);
     for property in properties {
@@ -40,9 +38,8 @@ fn property_tags(alloc: Global, properties: &[Property]) -> Result<Vec<Named>, F
 }
 
 /// The name of a state as a named text.
-fn name_member(alloc: Global, state: &State) -> Result<Named, Fault>
-    ensures ok { IfOk result (λ tag. named_view tag ≡ record { name = name_key; tag = text (state_of state.now).name }) }
-    ensures err { IfErr result (λ e. e ≡ OutOfMemory) }
+fn name_member(alloc: Global, state: &State) -> Result<Named, AllocError>
+    ensures { IfOk result (λ tag. named_view tag ≡ record { name = name_key; tag = text (state_of state.now).name }) }
 {
     let key = Vec::from_slice(alloc, NAME)?;
     let name = Vec::from_slice(alloc, state.name.as_slice())?;
@@ -50,12 +47,11 @@ fn name_member(alloc: Global, state: &State) -> Result<Named, Fault>
 }
 
 /// Properties as a named Compound.
-fn properties_member(alloc: Global, properties: &[Property]) -> Result<Named, Fault>
-    ensures ok { IfOk result (λ tag. named_view tag ≡ record {
+fn properties_member(alloc: Global, properties: &[Property]) -> Result<Named, AllocError>
+    ensures { IfOk result (λ tag. named_view tag ≡ record {
       name = properties_key;
       tag = compound (members_of (map property_tag (properties_of properties.now)));
     }) }
-    ensures err { IfErr result (λ e. e ≡ OutOfMemory) }
 {
     let key = Vec::from_slice(alloc, PROPERTIES)?;
     let tags = property_tags(alloc, properties)?;
@@ -63,9 +59,8 @@ fn properties_member(alloc: Global, properties: &[Property]) -> Result<Named, Fa
 }
 
 /// The members of a state's palette entry: its name, and its properties where it has some.
-fn state_members(alloc: Global, state: &State) -> Result<Vec<Named>, Fault>
-    ensures ok { IfOk result (λ tags. named_views tags.items ≡ record { name = name_key; tag = text (state_of state.now).name } ∷ properties_tags (state_of state.now).properties) }
-    ensures err { IfErr result (λ e. e ≡ OutOfMemory) }
+fn state_members(alloc: Global, state: &State) -> Result<Vec<Named>, AllocError>
+    ensures { IfOk result (λ tags. named_views tags.items ≡ record { name = name_key; tag = text (state_of state.now).name } ∷ properties_tags (state_of state.now).properties) }
 {
     let mut members = Vec::new(alloc);
     members.push(name_member(alloc, state)?)?;
@@ -77,19 +72,17 @@ fn state_members(alloc: Global, state: &State) -> Result<Vec<Named>, Fault>
 }
 
 /// The palette entry of a state.
-fn state_tag(alloc: Global, state: &State) -> Result<Tag, Fault>
-    ensures ok { IfOk result (λ tag. view tag ≡ state_tag (state_of state.now)) }
-    ensures err { IfErr result (λ e. e ≡ OutOfMemory) }
+fn state_tag(alloc: Global, state: &State) -> Result<Tag, AllocError>
+    ensures { IfOk result (λ tag. view tag ≡ state_tag (state_of state.now)) }
 {
     let members = state_members(alloc, state)?;
     Ok(Tag::compound(members))
 }
 
 /// The palette entries of numbers that the table has.
-fn state_tags(alloc: Global, table: &StateTable, numbers: &[u16]) -> Result<Vec<Tag>, Fault>
+fn state_tags(alloc: Global, table: &StateTable, numbers: &[u16]) -> Result<Vec<Tag>, AllocError>
     requires { All (λ number. number < length (states table.now)) numbers.now }
-    ensures ok { IfOk result (λ tags. views tags.items ≡ map (λ n. state_tag (slice_index_or (states table.now) n air)) numbers.now) }
-    ensures err { IfErr result (λ e. e ≡ OutOfMemory) }
+    ensures { IfOk result (λ tags. views tags.items ≡ map (λ n. state_tag (slice_index_or (states table.now) n air)) numbers.now) }
 {
     let mut tags = Vec::new(alloc);
     for number in numbers {
@@ -99,10 +92,13 @@ fn state_tags(alloc: Global, table: &StateTable, numbers: &[u16]) -> Result<Vec<
 }
 
 /// The palette tag of numbers that the table has.
-pub(crate) fn palette_tag(alloc: Global, table: &StateTable, numbers: &[u16]) -> Result<Tag, Fault>
+pub(crate) fn palette_tag(
+    alloc: Global,
+    table: &StateTable,
+    numbers: &[u16],
+) -> Result<Tag, AllocError>
     requires { All (λ number. number < length (states table.now)) numbers.now }
-    ensures ok { IfOk result (λ tag. view tag ≡ states_tag (map (λ n. slice_index_or (states table.now) n air) numbers.now)) }
-    ensures err { IfErr result (λ e. e ≡ OutOfMemory) }
+    ensures { IfOk result (λ tag. view tag ≡ states_tag (map (λ n. slice_index_or (states table.now) n air) numbers.now)) }
 {
     let tags = state_tags(alloc, table, numbers)?;
     Ok(Tag::list(Kind::Compound, tags))

@@ -1,5 +1,5 @@
 -- What is wrong with region files.
-use Rattle.std.specs.Prelude.{◌≡◌, ◌+◌, ℕ, zero, suc, List, [], ◌∷◌, ◌++◌, Option, Some, None}
+use Rattle.std.specs.Prelude.{◌≡◌, ℕ, zero, suc, List, [], ◌∷◌, ◌++◌, Option, Some, None}
 use Rattle.av_types.specs.Faults.{fault_number}
 use Rattle.av_types.specs.Places.{chunk_at}
 use Rattle.av_types.specs.declared.place.ChunkPos.{ChunkPos}
@@ -13,6 +13,7 @@ use Rattle.av_nbt.specs.Outcome.{SpellsNone}
 use Rattle.av_region.specs.Region.{IsShort, IsAbsent, Holds, IsChunkFault}
 use Rattle.av_state.specs.StateList.{first_states}
 use Rattle.av_document.specs.Chunk.{root_tags, first_fault}
+use Rattle.av_chunk.specs.Payload.{IsPayloadFault}
 use Rattle.av_sink.specs.declared.files.RegionFile.{RegionFile}
 use Rattle.av_survey.specs.declared.finding.Finding.{Finding}
 use Rattle.av_survey.specs.Listing.{IsList, in_order}
@@ -61,10 +62,6 @@ pub record IsSurvey (h : Height) (files : List RegionFile) (found : List Finding
 
 -- ---- working definitions of one payload
 
-pub data IsPayloadFault (h : Height) (payload : List ℕ) (c : ChunkPos) (e : Fault) : Type 0 where
-  no_document : SpellsNone payload → e ≡ BadNbt → IsPayloadFault h payload c e
-  bad_document : (d : Document) → SpellsDocument d payload → first_fault h c first_states (root_tags d) ≡ Some (fault_number e) → IsPayloadFault h payload c e
-
 pub record IsPayloadGood (h : Height) (payload : List ℕ) (c : ChunkPos) : Type 0 where
   pub document : Document
   pub spelled : SpellsDocument document payload
@@ -72,4 +69,4 @@ pub record IsPayloadGood (h : Height) (payload : List ℕ) (c : ChunkPos) : Type
 
 abbrev pub IsFirstIn : Height → List ℕ → ChunkPos → Option Fault → Type 0
 IsFirstIn h payload c None = IsPayloadGood h payload c
-IsFirstIn h payload c (Some e) = IsPayloadFault h payload c e
+IsFirstIn h payload c (Some e) = IsPayloadFault c h payload first_states e

@@ -4,8 +4,7 @@ ghost use Rattle.av_types.specs.declared.fault.Fault.TheVariants.{OutOfMemory};
 ghost use Rattle.av_types.specs.Places.{IsInLimits, chunk_at};
 ghost use Rattle.av_survey.specs.Survey.{IsFirstAt, IsFirstIn};
 
-use av_chunk::Chunk;
-use av_nbt::decode;
+use av_chunk::read_payload;
 use av_region::Region;
 use av_state::StateTable;
 use av_types::{ChunkPos, Fault, Height, RegionPos};
@@ -34,11 +33,7 @@ fn fault_in(
     ensures err { IfErr result (λ e. e ≡ OutOfMemory) }
 {
     let mut table = StateTable::new(alloc)?;
-    let root = match decode(alloc, payload) {
-        Ok(root) => root,
-        Err(fault) => return found(fault),
-    };
-    match Chunk::read(alloc, root, at, height, &mut table) {
+    match read_payload(alloc, payload, at, height, &mut table) {
         Ok(_) => Ok(None),
         Err(fault) => found(fault),
     }

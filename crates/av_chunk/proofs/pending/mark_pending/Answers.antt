@@ -1,4 +1,4 @@
-use Rattle.std.proofs.Common.{◌≡◌, ◌<◌, pos, None, length, take, get_or, sym, ◌∙◌, arith, rules, w32, FitsSigned, to_z-of_z, add-one, drop-cons, length-set}
+use Rattle.std.proofs.Common.{◌≡◌, ◌<◌, pos, None, length, take, get_or, sym, ap, ◌∙◌, arith, rules, w32, FitsSigned, to_z-of_z, add-one, drop-cons, length-set}
 use Rattle.std.proofs.Math.Seq.{take-suc}
 use Rattle.av_types.specs.Division.{divided}
 use Rattle.av_types.specs.Places.{place_of}
@@ -15,12 +15,13 @@ loop-entry-preserved c =
     let h = c.args.height in
     let es = c.args.entries.now in
     let n = c.loop-entry.entry-index in
-    let k = c.index_of_block-index.result in
+    let k = c.offset_of-index.result in
     let xs = c.loop-entry.sections.items in
     let none : Entry = record { pos = record { x = pos 0; y = pos 0; z = pos 0 }; due = pos 0; priority = pos 0 } in
     let e : Entry = get_or es n none in
-    let fits : FitsSigned w32 e.pos.y = search rules in
-    let is : offset_of h (divided e.pos.y 16) ≡ k = sym (rw (to_z-of_z fits) at c.index_of_block-index.ensures.value) in
+    let fits : FitsSigned w32 c.section.result.y = search rules in
+    let y : c.section.result.y ≡ divided e.pos.y 16 = ap (λ s. s.y) c.section.ensures in
+    let is : offset_of h (divided e.pos.y 16) ≡ k = sym (c.offset_of-index.ensures.value ∙ ap (offset_of h) (to_z-of_z fits ∙ y)) in
     let within : n < length es = omega arith in
     let bound : k < length xs = omega arith in
     let value : get_or xs k None ≡ c.index_mut.result.now = same_default xs k None c.index_mut.result.now bound ∙ sym c.index_mut.ensures.value in

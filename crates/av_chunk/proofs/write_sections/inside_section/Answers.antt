@@ -19,7 +19,7 @@ section_tags-requires c =
     let same : c.from.result ≡ c.args.y = search rules in
     let same_wide : to_z w32 (of_z w32 c.from.result) ≡ c.from.result = to_z-of_z wide_fits in
     let same_number : to_z w8 (of_z w8 c.args.y) ≡ c.args.y = to_z-of_z fits in
-    let index : c.offset_of-index.result ≡ offset_of c.args.rest.now.height c.args.y = c.offset_of-index.ensures ∙ ap (offset_of c.args.rest.now.height) same_wide ∙ ap (offset_of c.args.rest.now.height) same in
+    let index : c.offset_of-index.result ≡ offset_of c.args.rest.now.height c.args.y = c.offset_of-index.ensures.value ∙ ap (offset_of c.args.rest.now.height) same_wide ∙ ap (offset_of c.args.rest.now.height) same in
     let there : section_in c.args.rest.now.height c.args.chunk.now c.args.y ≡ Some c.in-Some.section.now =
     ap (λ n. slice_index_or c.args.chunk.now.sections.items n None) (sym index) ∙ sym c.in-Some.ensures in
     rw c.table.ensures (numbers-of_section (states_of_kinds c.args.kinds.now) c.args.rest.now.place c.args.rest.now.height c.args.chunk.now c.args.y c.in-Some.section.now c.requires.inside there c.requires.can.numbered)
@@ -31,7 +31,7 @@ returns-clause-ok c =
     let same : c.from.result ≡ c.args.y = search rules in
     let same_wide : to_z w32 (of_z w32 c.from.result) ≡ c.from.result = to_z-of_z wide_fits in
     let same_number : to_z w8 (of_z w8 c.args.y) ≡ c.args.y = to_z-of_z fits in
-    let index : c.offset_of-index.result ≡ offset_of c.args.rest.now.height c.args.y = c.offset_of-index.ensures ∙ ap (offset_of c.args.rest.now.height) same_wide ∙ ap (offset_of c.args.rest.now.height) same in
+    let index : c.offset_of-index.result ≡ offset_of c.args.rest.now.height c.args.y = c.offset_of-index.ensures.value ∙ ap (offset_of c.args.rest.now.height) same_wide ∙ ap (offset_of c.args.rest.now.height) same in
     let there : section_in c.args.rest.now.height c.args.chunk.now c.args.y ≡ Some c.in-Some.section.now =
     ap (λ n. slice_index_or c.args.chunk.now.sections.items n None) (sym index) ∙ sym c.in-Some.ensures in
     let kept : tags_of c.in_ok-kept.kept ≡ section_or_missing c.args.y (slice_index_or c.args.rest.now.sections.items c.offset_of-index.result None) =

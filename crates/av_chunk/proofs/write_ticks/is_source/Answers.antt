@@ -15,7 +15,7 @@ wet-requires c =
     let fits : FitsSigned w32 c.section.result.y = search rules in
     let y : c.section.result.y ≡ divided c.args.pos.y 16 = ap (λ s. s.y) c.section.ensures in
     let wide : to_z w32 (of_z w32 c.section.result.y) ≡ c.section.result.y = to_z-of_z fits in
-    let index : c.offset_of-index.result ≡ offset_of c.args.height (divided c.args.pos.y 16) = c.offset_of-index.ensures ∙ ap (offset_of c.args.height) (wide ∙ y) in
+    let index : c.offset_of-index.result ≡ offset_of c.args.height (divided c.args.pos.y 16) = c.offset_of-index.ensures.value ∙ ap (offset_of c.args.height) (wide ∙ y) in
     let there : section_in c.args.height c.args.chunk.now (divided c.args.pos.y 16) ≡ Some c.in-Some.section.now =
     ap (λ n. slice_index_or c.args.chunk.now.sections.items n None) (sym index) ∙ sym c.in-Some.ensures in
     let number : number_in c.args.height c.args.chunk.now c.args.pos ≡ Some c.get.result =
@@ -28,7 +28,7 @@ returns-in-Some c =
     let fits : FitsSigned w32 c.section.result.y = search rules in
     let y : c.section.result.y ≡ divided c.args.pos.y 16 = ap (λ s. s.y) c.section.ensures in
     let wide : to_z w32 (of_z w32 c.section.result.y) ≡ c.section.result.y = to_z-of_z fits in
-    let index : c.offset_of-index.result ≡ offset_of c.args.height (divided c.args.pos.y 16) = c.offset_of-index.ensures ∙ ap (offset_of c.args.height) (wide ∙ y) in
+    let index : c.offset_of-index.result ≡ offset_of c.args.height (divided c.args.pos.y 16) = c.offset_of-index.ensures.value ∙ ap (offset_of c.args.height) (wide ∙ y) in
     let there : section_in c.args.height c.args.chunk.now (divided c.args.pos.y 16) ≡ Some c.in-Some.section.now =
     ap (λ n. slice_index_or c.args.chunk.now.sections.items n None) (sym index) ∙ sym c.in-Some.ensures in
     let number : number_in c.args.height c.args.chunk.now c.args.pos ≡ Some c.get.result =

@@ -1,6 +1,5 @@
 use Rattle.std.proofs.Common.{◌≡◌, ℤ, rules, ◌∙◌, ap, map}
 use Rattle.std.proofs.lemmas.Fn.{always_returns_same}
-use Rattle.av_ticks.specs.Order.{ordered}
 use Rattle.av_ticks.proofs.OrderLemmas.{sorted_is_ordered}
 use Rattle.av_sink.specs.declared.files.RegionFile.{RegionFile}
 use Rattle.av_image.specs.Loading.{file_in}

@@ -1,4 +1,4 @@
-use Rattle.std.proofs.Common.{◌≡◌, ◌∙◌, ◌≢◌, subst, map, IfOk, IfErr}
+use Rattle.std.proofs.Common.{◌≢◌, subst, map, IfOk, IfErr}
 use Rattle.av_types.specs.declared.place.Height.{Height}
 use Rattle.av_types.specs.declared.fault.Fault.TheVariants.{OutOfMemory}
 use Rattle.av_types.proofs.HeightNumbers.{height_is}

@@ -1,4 +1,4 @@
-use Rattle.std.proofs.Common.{◌≡◌, ◌∙◌, refl, ap, sym, subst, List, map, All, take, [], ◌∷◌, length, ◌<◌, arith, true, ◌++◌}
+use Rattle.std.proofs.Common.{◌≡◌, ◌∙◌, ap, sym, subst, List, map, All, take, [], ◌∷◌, length, ◌<◌, arith, true, ◌++◌}
 use Rattle.std.specs.List.{flat_map}
 use Rattle.av_types.specs.Places.{IsInLimits, region_of}
 use Rattle.av_state.specs.Table.{states}

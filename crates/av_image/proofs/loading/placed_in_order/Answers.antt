@@ -1,4 +1,4 @@
-use Rattle.std.proofs.Common.{◌≡◌, ℤ, rules, ◌∙◌, ap}
+use Rattle.std.proofs.Common.{◌≡◌, ℤ, rules}
 use Rattle.std.proofs.lemmas.Fn.{always_returns_same}
 use Rattle.av_ticks.proofs.OrderLemmas.{sorted_is_ordered}
 use Rattle.av_image.specs.declared.splits.Placed.{Placed}

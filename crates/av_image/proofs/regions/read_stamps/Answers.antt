@@ -1,6 +1,6 @@
 use Rattle.std.specs.List.{All}
 use Rattle.std.proofs.lemmas.List.Elements.{All-push}
-use Rattle.std.proofs.Common.{◌≡◌, ◌∙◌, ◌<◌, ◌^◌, subst, ap, sym, refl, arith, ◌∷◌, [], ◌++◌, ◌+◌, ◌≤◌, List, ℕ}
+use Rattle.std.proofs.Common.{◌≡◌, ◌∙◌, ◌<◌, ◌^◌, subst, ap, sym, arith, ◌∷◌, [], ◌++◌, ◌+◌, ◌≤◌, List, ℕ}
 use Rattle.std.proofs.lemmas.List.FromFn.{map-range_with_len_more}
 use Rattle.av_region.specs.Region.{stamp_of}
 use Rattle.av_image.specs.Placed.{are_stamps}

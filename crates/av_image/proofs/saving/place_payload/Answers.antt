@@ -1,4 +1,4 @@
-use Rattle.std.proofs.Common.{◌≡◌, ◌∙◌, Some, ap, sym}
+use Rattle.std.proofs.Common.{◌∙◌, Some, ap, sym}
 use Rattle.av_image.specs.SavingSteps.{slot_payload}
 use Rattle.av_image.proofs.saving.place_payload.Goals as goal
 

@@ -9,6 +9,6 @@ use Rattle.av_section.specs.Palette.{state_tag}
 use Rattle.av_section.proofs.Written.{map_map}
 use Rattle.av_section.proofs.writing.palette_tag.Goals as goal
 
-pub returns-clause-ok : goal.returns-clause-ok
-returns-clause-ok c =
-    c.list.ensures ∙ ap (λ ts. list kind.Compound (items_of ts)) (c.in_ok-tags.ensures.ok ∙ sym (map_map state_tag (λ n. slice_index_or (states c.args.table.now) n air) c.args.numbers.now))
+pub returns : goal.returns
+returns c =
+    c.list.ensures ∙ ap (λ ts. list kind.Compound (items_of ts)) (c.in_ok-tags.ensures ∙ sym (map_map state_tag (λ n. slice_index_or (states c.args.table.now) n air) c.args.numbers.now))

@@ -13,4 +13,4 @@ loop-number-preserved c =
     let all = states c.args.table.now in
     let i = c.loop-number.number-index in
     let state = got all (get_or c.args.numbers.now i 0) _ air c.state.ensures.there in
-    rw (c.in_ok-push.ensures.items, map-append, map_more (λ n. state_tag (slice_index_or all n air)) c.args.numbers.now i 0 c.loop-number-test.true, c.in_ok-state_tag.ensures.ok, c.loop-number.invariant, state) refl
+    rw (c.in_ok-push.ensures.items, map-append, map_more (λ n. state_tag (slice_index_or all n air)) c.args.numbers.now i 0 c.loop-number-test.true, c.in_ok-state_tag.ensures, c.loop-number.invariant, state) refl

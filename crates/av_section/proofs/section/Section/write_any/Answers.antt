@@ -62,7 +62,7 @@ returns-clause-palette c =
     let written = rw (values, c.as_slice-2.ensures.value) at c.in_ok-order.ensures in
     let all = writes_section (states c.args.table.now) s c.in_ok-order.order.numbers.items c.in_ok-order.order.indices.items c.args.table.now.numbered c.requires.below written in
     let numbers = ap (λ ns. states_tag (map (λ n. slice_index_or (states c.args.table.now) n air) ns)) c.as_slice-4.ensures.value in
-    c.in_ok-palette.ensures.ok ∙ numbers ∙ sym all.palette
+    c.in_ok-palette.ensures ∙ numbers ∙ sym all.palette
 
 pub returns-clause-longs : goal.returns-clause-longs
 returns-clause-longs c =

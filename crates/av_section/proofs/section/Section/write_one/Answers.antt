@@ -14,7 +14,7 @@ pub returns-clause-palette : goal.returns-clause-palette
 returns-clause-palette c =
     let all = writes_one (states c.args.table.now) c.args.self.now c.args.table.now.numbered c.requires.below c.requires.one in
     let numbers = ap (λ ns. states_tag (map (λ n. slice_index_or (states c.args.table.now) n air) ns)) c.as_slice.ensures.value in
-    c.in_ok-palette.ensures.ok ∙ numbers ∙ sym all.palette
+    c.in_ok-palette.ensures ∙ numbers ∙ sym all.palette
 
 pub returns-clause-longs : goal.returns-clause-longs
 returns-clause-longs c = sym (writes_one (states c.args.table.now) c.args.self.now c.args.table.now.numbered c.requires.below c.requires.one).indices

@@ -1,0 +1,53 @@
+//! Payloads by hand, read as chunks.
+use av_chunk::{Reading, read_payload};
+use av_state::StateTable;
+use av_types::{ChunkPos, Fault, Height};
+use std::alloc::Global;
+use std::test::Fail;
+
+/// A full chunk at (-1, 2) with no section and no tick.
+const FULL: &[u8] = b"\x0a\x00\x00\x03\x00\x04xPos\xff\xff\xff\xff\x03\x00\x04zPos\x00\x00\x00\x02\
+\x08\x00\x06Status\x00\x04full\x09\x00\x08sections\x0a\x00\x00\x00\x00\x00";
+
+/// A chunk whose making has begun, with nothing else.
+const BEGUN: &[u8] = b"\x0a\x00\x00\x08\x00\x06Status\x00\x05empty\x00";
+
+/// How many sections the chunk of a payload has, or None where it is kept as it is.
+fn sections_of(alloc: Global, payload: &[u8], x: i32, z: i32) -> Result<Option<usize>, Fault> {
+    if payload.len() > 1_044_475 {
+        return Err(Fault::BadNbt);
+    }
+    let mut table = StateTable::new(alloc)?;
+    match read_payload(
+        alloc,
+        payload,
+        ChunkPos { x, z },
+        Height::game(),
+        &mut table,
+    )? {
+        Reading::Full { chunk, rest: _ } => Ok(Some(chunk.sections.len())),
+        Reading::Kept => Ok(None),
+    }
+}
+
+#[test]
+fn payloads_are_read_as_their_documents(rt: HostRuntime) -> Result<(), Fail> {
+    let alloc = rt.alloc();
+    // The game's height has 24 sections, whichever of them the payload names.
+    assert_eq!(rt; sections_of(alloc, FULL, -1, 2), Ok(Some(24)));
+    assert_eq!(rt; sections_of(alloc, BEGUN, -1, 2), Ok(None));
+    // x before z: (2, -1) is another chunk.
+    assert_eq!(rt; sections_of(alloc, FULL, 2, -1), Err(Fault::WrongPlace));
+    // A chunk that is kept is at no place.
+    assert_eq!(rt; sections_of(alloc, BEGUN, 2, -1), Ok(None));
+    // Bytes before any of the document's faults: an end too few, and a byte too many.
+    let (short, _) = FULL.split_at(FULL.len() - 1);
+    assert_eq!(rt; sections_of(alloc, short, 2, -1), Err(Fault::BadNbt));
+    let mut long = Vec::from_slice(alloc, BEGUN)?;
+    long.push(0)?;
+    assert_eq!(rt;
+        sections_of(alloc, long.as_slice(), -1, 2),
+        Err(Fault::BadNbt)
+    );
+    Ok(())
+}

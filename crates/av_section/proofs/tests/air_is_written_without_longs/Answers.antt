@@ -1,6 +1,0 @@
--- Air is one of the ten first states.
-use Rattle.std.proofs.Common.{arith}
-use Rattle.av_section.proofs.tests.air_is_written_without_longs.Goals as goal
-
-pub write-requires : goal.write-requires
-write-requires g c i low = rw (c.in_ok-section.ensures.ok.numbers i low, c.in_ok-table.ensures.ok) (omega arith)
