@@ -9,12 +9,12 @@ use Rattle.av_types.specs.declared.place.Pos.{Pos}
 use Rattle.av_types.specs.declared.place.ChunkPos.{ChunkPos}
 use Rattle.av_types.specs.declared.place.Height.{Height}
 use Rattle.av_types.specs.Division.{divided}
-use Rattle.av_types.specs.Places.{chunk_of}
+use Rattle.av_types.specs.Places.{chunk_of, same_pos}
+use Rattle.av_types.proofs.SamePlaces.{same_pos_is, same_pos-refl}
 use Rattle.av_flood.specs.Offsets.{is_within, offset, IsNth, IsBeyond}
 use Rattle.av_flood.specs.Board.{corner, is_on, index_of, IsOff, IsPlace}
-use Rattle.av_flood.specs.Blocks.{IsNear, IsInner, IsNearOrigin, column_at}
-use Rattle.av_flood.specs.Flooding.{same_pos, Matters, IsNearAlong}
-use Rattle.av_flood.proofs.Same.{same_pos_is, same_pos_self}
+use Rattle.av_flood.specs.Blocks.{IsNear, IsInner, MayBeLoaded, column_at}
+use Rattle.av_flood.specs.Flooding.{Matters, IsNearAlong}
 
 and_false_left : (a b : Bool) → a ≡ false → (a && b) ≡ false
 and_false_left true b e = grind arith
@@ -118,7 +118,7 @@ light_set c h p xs n i place less q = cases (same_pos q p) refl (is_on c h q) re
       → cond d (get_or (set xs i n) (index_of c h q) 0) 0 ≡ cond b n (cond d (get_or xs (index_of c h q) 0) 0)
   cases true e true f = ap (λ j. get_or (set xs i n) j 0) (ap (index_of c h) (same_pos_is q p e) ∙ sym place.is) ∙ get_or-set_same xs i n 0 less
   cases true e false f = absurd (false≢true (sym f ∙ ap (is_on c h) (same_pos_is q p e) ∙ place.on))
-  cases false e true f = get_or-set_other xs i (index_of c h q) n 0 (λ j. false≢true (sym e ∙ ap (same_pos q) (same_index c h p q place.on f (sym place.is ∙ sym j)) ∙ same_pos_self q))
+  cases false e true f = get_or-set_other xs i (index_of c h q) n 0 (λ j. false≢true (sym e ∙ ap (same_pos q) (same_index c h p q place.on f (sym place.is ∙ sym j)) ∙ same_pos-refl q))
   cases false e false f = refl
 
 -- and what that makes of lights, and of which blocks have theirs
@@ -217,7 +217,7 @@ far_end : (x : ℤ) → x ≤ℤ pos 30720511 → divided x 16 ≤ℤ pos 192003
 far_end (pos n) h = omega (arith, ints)
 far_end (negsuc n) h = omega (arith, ints)
 
-pub near_chunk : (h : Height) (p : Pos) → IsNear h p → IsNearOrigin (chunk_of p)
+pub near_chunk : (h : Height) (p : Pos) → IsNear h p → MayBeLoaded (chunk_of p)
 near_chunk h p near = record { west = near_end p.x near.west; east = far_end p.x near.east; north = near_end p.z near.north; south = far_end p.z near.south }
 
 -- the chunk's own blocks

@@ -3,11 +3,12 @@ use Rattle.std.proofs.Common.{◌≡◌, ℕ, ◌+◌, ◌-◌, ◌<◌, ◌≤�
 use Rattle.std.specs.Prelude.{Contains, nat_le}
 use Rattle.av_types.specs.declared.place.Pos.{Pos}
 use Rattle.av_types.specs.declared.place.ChunkPos.{ChunkPos}
+use Rattle.av_types.specs.Places.{same_pos}
+use Rattle.av_types.proofs.SamePlaces.{same_pos_is, same_pos-refl}
 use Rattle.av_flood.specs.Light.{Terrain, sides, IsAdjacent, cost, HasLight, IsLight}
-use Rattle.av_flood.specs.Flooding.{same_pos, Matters, Levels, Has, IsMarked, IsSoundAt, IsFlooding, IsPushed, IsPopped, IsNone, IsGrown, IsOffered, IsReady, IsStarted, IsSettled}
+use Rattle.av_flood.specs.Flooding.{Matters, Levels, Has, IsMarked, IsSoundAt, IsFlooding, IsPushed, IsPopped, IsNone, IsGrown, IsOffered, IsReady, IsStarted, IsSettled}
 use Rattle.std.proofs.lemmas.Bool.{false≢true, cases_lt}
 use Rattle.std.proofs.lemmas.Bool.Decides.{eqb_tells, nat_tests}
-use Rattle.av_flood.proofs.Same.{same_pos_is, same_pos_self}
 use Rattle.av_flood.proofs.Queues.{IsPushed-kept, IsPushed-only, IsPushed-there, IsPopped-back}
 use Rattle.av_flood.proofs.Paths.{IsLight-closed, Matters-more, HasLight-next, HasLight-emitted}
 
@@ -19,7 +20,7 @@ settled_cases old new p n h q = on (same_pos q p) refl (h q) where
   on false e is = inr is
 
 settled_at : (old new : Pos → ℕ) (p : Pos) (n : ℕ) → IsSettled old new p n → new p ≡ n
-settled_at old new p n h = on (same_pos p p) (same_pos_self p) (h p) where
+settled_at old new p n h = on (same_pos p p) (same_pos-refl p) (h p) where
   on : (b : Bool) → b ≡ true → new p ≡ cond b n (old p) → new p ≡ n
   on true e is = is
   on false e is = grind arith

@@ -1,6 +1,5 @@
 pub mod Paths
 pub mod Queues
-pub mod Same
 pub mod Floods
 pub mod Boards
 pub mod Halves

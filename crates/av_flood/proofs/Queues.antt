@@ -1,9 +1,11 @@
 -- What waits in each level.
-use Rattle.std.proofs.Common.{◌≡◌, ◌≢◌, ℕ, ◌<◌, ◌⊎◌, inl, inr, ⊎_elim, List, [], ◌∷◌, ◌++◌, length, get_or, set, refl, sym, ap, ◌∙◌, subst, arith}
+use Rattle.std.proofs.Common.{◌≡◌, ◌≢◌, ℕ, ◌+◌, ◌<◌, ◌≤◌, ◌⊎◌, inl, inr, ⊎_elim, List, [], ◌∷◌, ◌++◌, length, get_or, set, refl, sym, ap, ◌∙◌, subst, below_more, arith}
 use Rattle.std.specs.Prelude.{Contains, map, MatchOption, Option, Some, None}
 use Rattle.std.specs.Option.{option_to_list}
 use Rattle.std.proofs.lemmas.List.{map-set, get_or-map, get_or-set_same, get_or-set_other, length-map}
 use Rattle.std.proofs.lemmas.List.Elements.{Contains-append_left, Contains-push, Contains-push_cases}
+use Rattle.std.proofs.Math.ListN.{get_or-eq_default}
+use Rattle.std.proofs.lemmas.Bool.{cases_lt}
 use Rattle.std.proofs.lemmas.Bool.Decides.{eqb_tells}
 use Rattle.av_types.specs.declared.place.Pos.{Pos}
 use Rattle.av_flood.specs.Flooding.{Levels, IsPushed, IsPopped, IsNone}
@@ -38,6 +40,14 @@ module _ {X : Type 0} (f : X → List Pos) (xs : List X) (i : ℕ) where
         here = was_at d l ∙ ap f (sym is) ∙ e ∙ ap (λ ys. ys ++ []) none;
         same = λ n. ⊎_elim (λ h. subst (λ m. get_or (map f (set xs i x)) m [] ≡ get_or (map f xs) m []) (sym h.1) (at_set x l ∙ none ∙ sym (was_at d l ∙ ap f (sym is) ∙ e ∙ ap (λ ys. ys ++ []) none))) (λ h. beside_set x n h.1) (eqb_tells n i);
       }
+
+  -- one list more is empty
+  pub emptied_more : (x : X) → i < length xs → f x ≡ [] → ((n : ℕ) → n < i → get_or (map f xs) n [] ≡ []) → (n : ℕ) → n < i + 1 → get_or (map f (set xs i x)) n [] ≡ []
+  emptied_more x l none before = below_more (λ n. get_or (map f (set xs i x)) n [] ≡ []) i (λ n m. let other : n ≢ i = omega arith in beside_set x n other ∙ before n m) (at_set x l ∙ none)
+
+  -- and beyond the last there is none
+  pub emptied_all : length xs ≤ i → ((n : ℕ) → n < i → get_or (map f xs) n [] ≡ []) → (n : ℕ) → get_or (map f xs) n [] ≡ []
+  emptied_all long before n = ⊎_elim (λ m. before n m) (λ m. let past : length xs ≤ n = omega (arith, long, m) in get_or-eq_default (map f xs) [] (simp length-map past)) (cases_lt n i)
 
 -- what a push and a pop change, block by block
 pub IsPushed-kept : (old new : Levels) (n : ℕ) (p : Pos) → IsPushed old new n p → (v : ℕ) (q : Pos) → Contains (old v) q → Contains (new v) q

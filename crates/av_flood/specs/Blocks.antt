@@ -25,7 +25,7 @@ pub record IsInner (p : Pos) : Type 0 where
   pub high : p.y ≤ℤ pos 2147483646
 
 -- the chunks in which loaded blocks can lie, and some more
-pub record IsNearOrigin (c : ChunkPos) : Type 0 where
+pub record MayBeLoaded (c : ChunkPos) : Type 0 where
   pub west : negsuc 1920030 ≤ℤ c.x
   pub east : c.x ≤ℤ pos 1920031
   pub north : negsuc 1920030 ≤ℤ c.z

@@ -1,14 +1,10 @@
 -- Working definitions: a flood from the brightest level down. No public clause cites them.
-use Rattle.std.specs.Prelude.{ℤ, ◌≡◌, ℕ, ◌+◌, ◌≤◌, ◌<◌, pos, ◌+ℤ◌, ◌*ℤ◌, ◌≤ℤ◌, List, [], ◌∷◌, Bool, IsTrue, Contains, ◌⊎◌, if◌then◌else◌, ◌&&◌, ◌++◌, ◌≢◌, map, length, slice_index_or}
+use Rattle.std.specs.Prelude.{ℤ, ◌≡◌, ℕ, ◌+◌, ◌≤◌, ◌<◌, pos, ◌+ℤ◌, ◌*ℤ◌, ◌≤ℤ◌, List, [], ◌∷◌, IsTrue, Contains, ◌⊎◌, if◌then◌else◌, ◌++◌, ◌≢◌, map, length, slice_index_or}
 use Rattle.av_flood.specs.declared.buckets.Buckets.{Buckets}
-use Rattle.std.specs.Ordering.{int_eq}
+use Rattle.av_types.specs.Places.{same_pos}
 use Rattle.av_types.specs.declared.place.Pos.{Pos}
 use Rattle.av_types.specs.declared.place.ChunkPos.{ChunkPos}
 use Rattle.av_flood.specs.Light.{Terrain, IsAdjacent, cost, HasLight}
-
--- the same block
-abbrev pub same_pos : Pos → Pos → Bool
-same_pos p q = int_eq p.x q.x && int_eq p.y q.y && int_eq p.z q.z
 
 -- a coordinate is at most n from the chunk's sixteen
 pub record IsNearAlong (from : ℤ) (n : ℕ) (x : ℤ) : Type 0 where

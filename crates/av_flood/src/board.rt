@@ -5,6 +5,7 @@ ghost use Rattle.av_types.specs.declared.place.Pos.{Pos};
 ghost use Rattle.av_flood.specs.Offsets.{IsNth, IsBeyond};
 ghost use Rattle.av_flood.specs.Quiet.{IsQuiet};
 
+use crate::buckets::Buckets;
 use crate::bytes::{PART, clear, push_dark, two_halves};
 use av_types::{ChunkPos, Height, Pos};
 use std::alloc::{AllocError, Global};
@@ -23,6 +24,8 @@ pub struct Flood {
     count: u32,
     /// For each section of the height, whether any of its bytes was set.
     touched: Vec<bool>,
+    /// The lists of blocks that waited in an earlier flood.
+    pub(crate) waiting: Option<Buckets>,
     ghost long: { vec_len light ≡ 30976 * height.sections },
     ghost parts: { vec_len touched ≡ height.sections },
     ghost quiet: { IsQuiet touched.items light.items } by { Prim.hlevel props },
@@ -41,7 +44,8 @@ fn natural(number: i64) -> u32
 
 impl Flood {
     ghost use Rattle.av_flood.specs.Board.{corner, is_on, byte_of, light_of, is_settled, settled_count, light_at, HasLightSoFar, IsOff, IsPlace};
-    ghost use Rattle.av_flood.specs.Flooding.{IsSettled, same_pos};
+    ghost use Rattle.av_types.specs.Places.{same_pos};
+    ghost use Rattle.av_flood.specs.Flooding.{IsSettled};
 
     /// A board on which no block has light yet.
     ///
@@ -59,6 +63,7 @@ impl Flood {
             light: vec![in alloc; 0; PART * height.sections as usize]?,
             count: 0,
             touched: vec![in alloc; false; height.sections as usize]?,
+            waiting: None,
         })
     }
 
@@ -72,6 +77,7 @@ impl Flood {
             height,
             mut light,
             mut touched,
+            waiting,
             ..
         } = self;
         for section in 0..touched.len() {
@@ -83,6 +89,7 @@ impl Flood {
             light,
             count: 0,
             touched,
+            waiting,
         }
     }
 

@@ -26,6 +26,28 @@ impl Buckets {
         Ok(Buckets { levels })
     }
 
+    /// The same lists, in which none waits any more.
+    fn emptied(self) -> Buckets
+        ensures { (n : ℕ) → todo_of result n ≡ [] }
+    {
+        let Buckets { mut levels } = self;
+        for level in 0..16 {
+            let bucket = &mut levels[level];
+            bucket.clear();
+        }
+        Buckets { levels }
+    }
+
+    /// Lists in which none waits, over the memory of others if some are given.
+    pub fn empty(alloc: Global, used: Option<Buckets>) -> Result<Buckets, AllocError>
+        ensures { IfOk result (λ b. (n : ℕ) → todo_of b n ≡ []) }
+    {
+        let Some(used) = used else {
+            return Buckets::new(alloc);
+        };
+        Ok(used.emptied())
+    }
+
     /// Adds a block.
     pub fn push(&mut self, level: u8, pos: Pos) -> Result<(), AllocError>
         requires { level < 16 }

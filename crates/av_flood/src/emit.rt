@@ -1,7 +1,7 @@
 //! The blocks from which a flood starts: those that emit light that may come to the chunk.
 ghost use Rattle.std.specs.Prelude.{◌≡◌, ◌≤◌, ◌<◌, ℕ, pos, negsuc, ◌+ℤ◌, ◌-ℤ◌, ◌≤ℤ◌, OnOk, [], Contains};
 ghost use Rattle.av_types.specs.declared.place.Pos.{Pos};
-ghost use Rattle.av_flood.specs.Blocks.{IsNearOrigin, AreKnown, column_at};
+ghost use Rattle.av_flood.specs.Blocks.{MayBeLoaded, AreKnown, column_at};
 ghost use Rattle.av_flood.specs.Flooding.{todo_of, IsGrown, IsStarted, IsReady};
 
 use crate::blocks::Blocks;
@@ -51,7 +51,7 @@ fn emit_all<B: Blocks>(
 
 /// One of the nine chunks that a board lies in.
 fn column_at(chunk: ChunkPos, number: u32) -> ChunkPos
-    requires near { IsNearOrigin chunk }
+    requires near { MayBeLoaded chunk }
     requires number { number < 9 }
     ensures { result ≡ column_at chunk number }
 {
@@ -77,7 +77,7 @@ pub(crate) fn start<B: Blocks>(
     blocks: &B,
     buckets: &mut Buckets,
 ) -> Result<(), AllocError>
-    requires near { IsNearOrigin chunk }
+    requires near { MayBeLoaded chunk }
     requires known { AreKnown (B.terrain blocks.now) (B.lamps blocks.now) chunk }
     requires none { (n : ℕ) → todo_of buckets.old n ≡ [] }
     ensures { OnOk result (IsStarted (B.terrain blocks.now) chunk (todo_of buckets.new)) }

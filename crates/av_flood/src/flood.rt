@@ -1,17 +1,17 @@
 //! A flood of light, from the brightest level down.
-ghost use Rattle.std.specs.Prelude.{◌≡◌, ◌≤◌, ◌<◌, ◌-◌, pos, negsuc, ◌≤ℤ◌, IsTrue, ◌↔◌, OnOk, IfOk};
+ghost use Rattle.std.specs.Prelude.{◌≡◌, ◌≤◌, ◌<◌, ◌-◌, ℕ, [], pos, negsuc, ◌≤ℤ◌, IsTrue, ◌↔◌, OnOk, IfOk};
 ghost use Rattle.av_types.specs.Places.{chunk_of};
 ghost use Rattle.av_types.specs.declared.place.Pos.{Pos};
 ghost use Rattle.av_flood.specs.Light.{IsAdjacent, HasLight, IsLight};
 ghost use Rattle.av_flood.specs.Board.{light_of, byte_of};
-ghost use Rattle.av_flood.specs.Blocks.{IsInner, IsNearOrigin, AreKnown};
+ghost use Rattle.av_flood.specs.Blocks.{IsInner, MayBeLoaded, AreKnown};
 ghost use Rattle.av_flood.specs.Flooding.{todo_of, IsMarked, IsGrown, IsOffered, IsFlooding};
 
 use crate::blocks::Blocks;
 use crate::board::Flood;
 use crate::buckets::Buckets;
 use crate::emit::start;
-use crate::near::{is_near_origin, matters};
+use crate::near::{matters, may_be_loaded};
 use crate::sides::sides;
 use av_types::{ChunkPos, Pos};
 use std::alloc::{AllocError, Global};
@@ -113,19 +113,19 @@ fn settle_level<B: Blocks>(
 }
 
 /// Lets light flow over a dark board.
-fn fill<B: Blocks>(alloc: Global, blocks: &B, flood: &mut Flood) -> Result<(), AllocError>
-    requires near { IsNearOrigin flood.old.chunk }
+fn fill<B: Blocks>(blocks: &B, flood: &mut Flood, buckets: &mut Buckets) -> Result<(), AllocError>
+    requires near { MayBeLoaded flood.old.chunk }
     requires height { flood.old.height ≡ B.tall blocks.now }
     requires known { AreKnown (B.terrain blocks.now) (B.lamps blocks.now) flood.old.chunk }
     requires dark { (p : Pos) → byte_of flood.old p ≡ 0 }
+    requires none { (n : ℕ) → todo_of buckets.old n ≡ [] }
     ensures chunk { flood.new.chunk ≡ flood.old.chunk }
     ensures height { flood.new.height ≡ flood.old.height }
     ensures light { OnOk result ((p : Pos) → chunk_of p ≡ flood.old.chunk → IsLight (B.terrain blocks.now) p (light_of flood.new p)) }
 {
-    let mut buckets = Buckets::new(alloc)?;
-    start(flood.chunk, blocks, &mut buckets)?;
+    start(flood.chunk, blocks, buckets)?;
     for step in 0..15 {
-        settle_level(flood, blocks, 15 - step, &mut buckets)?;
+        settle_level(flood, blocks, 15 - step, buckets)?;
     }
     Ok(())
 }
@@ -147,9 +147,11 @@ pub fn flooded<B: Blocks>(
     ensures light { IfOk result (λ f. (p : Pos) → chunk_of p ≡ chunk → IsLight (B.terrain blocks.now) p (light_of f p)) }
 {
     let mut flood = Flood::dark(alloc, chunk, blocks.height(), used)?;
-    if !is_near_origin(chunk) {
+    if !may_be_loaded(chunk) {
         return Ok(flood);
     }
-    fill(alloc, blocks, &mut flood)?;
+    let mut buckets = Buckets::empty(alloc, flood.waiting.take())?;
+    fill(blocks, &mut flood, &mut buckets)?;
+    flood.waiting = Some(buckets);
     Ok(flood)
 }

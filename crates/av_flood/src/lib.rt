@@ -16,4 +16,4 @@ mod sides;
 pub use blocks::Blocks;
 pub use board::Flood;
 pub use flood::flooded;
-pub use near::is_near_origin;
+pub use near::may_be_loaded;

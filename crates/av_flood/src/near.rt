@@ -1,6 +1,6 @@
 //! From where light can come to a chunk.
 ghost use Rattle.std.specs.Prelude.{◌≡◌, ◌≤◌, ℕ, pos, negsuc, ◌-ℤ◌, ◌*ℤ◌, ◌≤ℤ◌, IsTrue, ◌↔◌};
-ghost use Rattle.av_flood.specs.Blocks.{IsNearOrigin};
+ghost use Rattle.av_flood.specs.Blocks.{MayBeLoaded};
 ghost use Rattle.av_flood.specs.Flooding.{Matters, IsNearAlong};
 
 use av_types::{ChunkPos, Pos};
@@ -71,8 +71,8 @@ pub(crate) fn matters(chunk: ChunkPos, pos: Pos, level: u8) -> bool
 }
 
 /// Whether loaded blocks can lie in a chunk.
-pub fn is_near_origin(chunk: ChunkPos) -> bool
-    ensures { IsTrue result ↔ IsNearOrigin chunk }
+pub fn may_be_loaded(chunk: ChunkPos) -> bool
+    ensures { IsTrue result ↔ MayBeLoaded chunk }
 {
     -1920031 <= chunk.x && chunk.x <= 1920031 && -1920031 <= chunk.z && chunk.z <= 1920031
 }

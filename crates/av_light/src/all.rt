@@ -4,22 +4,24 @@ ghost use Rattle.std.specs.List.{All, AllZip};
 ghost use Rattle.av_types.specs.declared.fault.Fault.TheVariants.{OutOfMemory, Broken};
 ghost use Rattle.av_chunk.specs.Light.{section_count};
 ghost use Rattle.av_world.specs.Views.{height_of, positions_of, blocks, is_broken};
-ghost use Rattle.av_section_light.specs.Light.{IsChunkLight, IsAnswer};
+ghost use Rattle.av_section_light.specs.Light.{IsChunkLight};
+ghost use Rattle.av_light.specs.Placed.{IsTaken};
 ghost use Rattle.av_light.specs.Lights.{AreLit};
 
-use crate::chunk_light::light_at;
+use crate::dealt::{PlacedLight, gathered, lights_taken};
 use crate::lamps::Lamps;
 use av_chunk::ChunkLight;
-use av_flood::Flood;
 use av_rules::Kinds;
-use av_types::{ChunkPos, Fault};
+use av_types::Fault;
 use av_world::World;
+use rayon::current_num_threads;
 use rayon::prelude::*;
 use std::alloc::Global;
+use std::sync::atomic::AtomicU64;
 use std::thread::Threads;
 
-/// The light of each chunk of a world, by as many threads as there are processors. Each piece of the work uses one board
-/// for all its chunks.
+/// The light of each chunk of a world, by as many threads as there are processors. Each takes the next chunk that none
+/// has taken, since chunks differ in their work and processors in their speed.
 fn lights_by(
     rt: &(impl Threads + Sync),
     alloc: Global,
@@ -28,19 +30,18 @@ fn lights_by(
     ensures each { IfOk result (λ lights. AllZip (IsChunkLight lamps.now.kinds.now (blocks lamps.now.world.now) (height_of lamps.now.world.now)) (positions_of lamps.now.world.now) lights.items) }
     ensures fault { IfErr result (λ e. e ≡ OutOfMemory) }
 {
-    let lights = lamps
-        .world
-        .positions()
-        .par_iter()
+    let next = AtomicU64::new(0);
+    let count = current_num_threads(rt).min(lamps.world.positions().len());
+    let taken = (0..count)
+        .into_par_iter()
         .with_min_len(1)
-        .map_init(
-            || -> Option<Flood> { None },
-            |board: &mut Option<Flood>, chunk: &ChunkPos| -> Result<ChunkLight, Fault>
-                ensures { IsAnswer lamps.entry.now.kinds.now (blocks lamps.entry.now.world.now) (height_of lamps.entry.now.world.now) chunk.now result }
-            { light_at(alloc, lamps, *chunk, board) },
+        .map(
+            |_thread: usize| -> Result<Vec<PlacedLight>, Fault>
+                ensures { IsTaken lamps.entry.now.kinds.now lamps.entry.now.world.now result }
+            { lights_taken(alloc, lamps, &next) },
         )
-        .collect::<Result<Vec<ChunkLight>, Fault>>(rt, alloc)?;
-    lights
+        .collect::<Vec<Result<Vec<PlacedLight>, Fault>>>(rt, alloc)?;
+    gathered(alloc, lamps, taken)
 }
 
 /// The light of each chunk of a world, broken or not.
@@ -53,7 +54,7 @@ fn lights(
     ensures each { IfOk result (λ lights. AllZip (IsChunkLight kinds.now (blocks world.now) (height_of world.now)) (positions_of world.now) lights.items) }
     ensures fault { IfErr result (λ e. e ≡ OutOfMemory) }
 {
-    let lamps = Lamps::new(alloc, world, kinds)?;
+    let lamps = Lamps::new(rt, alloc, world, kinds)?;
     lights_by(rt, alloc, &lamps)
 }
 

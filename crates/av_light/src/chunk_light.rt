@@ -10,6 +10,7 @@ ghost use Rattle.av_section_light.specs.Light.{terrain_of, IsChunkLight, IsAnswe
 
 use crate::around::Around;
 use crate::lamps::Lamps;
+use crate::near::lists_beside;
 use av_chunk::ChunkLight;
 use av_flood::Flood;
 use av_rules::Kinds;
@@ -18,8 +19,8 @@ use av_types::{ChunkPos, Fault};
 use av_world::World;
 use std::alloc::Global;
 
-/// A board on which each block of a chunk has its light: that of its brightest path in the whole world. Every chunk is
-/// looked through for what gives light; for the light of many chunks, that is done once by `light_all`.
+/// A board on which each block of a chunk has its light: that of its brightest path in the whole world. The nine
+/// chunks around it are looked through for what gives light; for the light of many chunks, `light_all` does that once.
 ///
 /// # Errors
 /// `Broken` of a broken world, and else `OutOfMemory`.
@@ -34,8 +35,8 @@ pub fn flood(alloc: Global, world: &World, kinds: &Kinds, chunk: ChunkPos) -> Re
     if world.broken() {
         return Err(Fault::Broken);
     }
-    let lamps = Lamps::new(alloc, world, kinds)?;
-    let around = Around::new(world, lamps.lists.as_slice(), chunk);
+    let lists = lists_beside(alloc, world, kinds, chunk)?;
+    let around = Around::new(world, lists.as_slice(), chunk);
     flood_in(alloc, &around, kinds, chunk, None)
 }
 
@@ -70,6 +71,7 @@ pub fn light_of_chunk(
     if world.broken() {
         return Err(Fault::Broken);
     }
-    let lamps = Lamps::new(alloc, world, kinds)?;
-    light_at(alloc, &lamps, chunk, &mut None)
+    let lists = lists_beside(alloc, world, kinds, chunk)?;
+    let around = Around::new(world, lists.as_slice(), chunk);
+    light_in(alloc, &around, kinds, chunk, &mut None)
 }

@@ -4,8 +4,10 @@
 mod all;
 mod around;
 mod chunk_light;
+mod dealt;
 mod finding;
 mod lamps;
+mod near;
 
 pub use all::light_all;
 pub use av_flood::Flood;

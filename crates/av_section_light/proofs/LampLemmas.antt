@@ -15,14 +15,14 @@ use Rattle.av_section.specs.Section.{number_at}
 use Rattle.av_rules.specs.declared.kinds.Kinds.{Kinds}
 use Rattle.av_rules.specs.Kinds.{row_at}
 use Rattle.av_cells.specs.Grid.{Grid, cells_of}
-use Rattle.av_flood.specs.Blocks.{IsNear, IsNearOrigin}
+use Rattle.av_flood.specs.Blocks.{IsNear, MayBeLoaded}
 use Rattle.av_section_light.specs.Light.{terrain_of}
 use Rattle.av_section_light.specs.Sections.{filling_of}
 use Rattle.av_section_light.specs.Lamps.{IsNearSection, section_at}
 use Rattle.av_section_light.proofs.Reading.{number_here}
 
 -- a section of the height in a chunk near the origin
-pub near_section : (c : ChunkPos) (h : Height) (n : ℕ) → n < h.sections → IsNearOrigin c → (s : SectionPos) → s ≡ section_at c h n → IsNearSection s
+pub near_section : (c : ChunkPos) (h : Height) (n : ℕ) → n < h.sections → MayBeLoaded c → (s : SectionPos) → s ≡ section_at c h n → IsNearSection s
 near_section c h n less near s e =
     let i = h.lowest in let j = h.highest in
     subst IsNearSection (sym e) (record { west = near.west; east = near.east; low = omega (arith, ints); high = omega (arith, ints); north = near.north; south = near.south })

@@ -5,13 +5,13 @@ ghost use Rattle.av_types.specs.declared.place.Pos.{Pos};
 ghost use Rattle.av_rules.specs.Kinds.{row_at};
 ghost use Rattle.av_section.specs.Section.{number_at};
 ghost use Rattle.av_cells.specs.Grid.{cells_of};
-ghost use Rattle.av_flood.specs.Blocks.{IsNearOrigin};
+ghost use Rattle.av_flood.specs.Blocks.{MayBeLoaded};
 ghost use Rattle.av_section_light.specs.Light.{terrain_of};
 ghost use Rattle.av_section_light.specs.Lamps.{IsNearSection, section_at, HasLamps};
 
 use crate::rows::{emission, is_dark};
 use crate::sections::Sections;
-use av_flood::is_near_origin;
+use av_flood::may_be_loaded;
 use av_rules::Kinds;
 use av_section::Section;
 use av_types::{ChunkPos, Height, Place, Pos, SectionPos};
@@ -112,7 +112,7 @@ pub fn lamps_in<S: Sections>(
     ensures { IfOk result (λ lamps. HasLamps (terrain_of kinds.now (cells_of (S.grid sections.now))) chunk lamps.items) }
 {
     let mut lamps = Vec::new(alloc);
-    if !is_near_origin(chunk) {
+    if !may_be_loaded(chunk) {
         return Ok(lamps);
     }
     let height = sections.height();

@@ -1,17 +1,17 @@
 use Rattle.std.proofs.Common.{arith, below_more, refl, sym, subst, ◌∙◌}
 use Rattle.std.specs.Prelude.{Contains}
 use Rattle.std.proofs.lemmas.Bool.{false≢true}
-use Rattle.av_flood.specs.Blocks.{IsNear, IsNearOrigin}
+use Rattle.av_flood.specs.Blocks.{IsNear, MayBeLoaded}
 use Rattle.av_flood.proofs.Boards.{near_chunk}
 use Rattle.av_section_light.proofs.LampLemmas.{near_section, in_layer}
 use Rattle.av_section_light.proofs.lamps.lamps_in.Goals as goal
 
-pub returns-then-not-is_near_origin : goal.returns-then-not-is_near_origin
-returns-then-not-is_near_origin g c =
-    record { lit = λ p e l shines. absurd (false≢true (c.if-not-is_near_origin.ensures.1 (subst IsNearOrigin e (near_chunk _ p (g.met.S.Sections.near c.args.sections.now p l))))) }
+pub returns-then-not-may_be_loaded : goal.returns-then-not-may_be_loaded
+returns-then-not-may_be_loaded g c =
+    record { lit = λ p e l shines. absurd (false≢true (c.if-not-may_be_loaded.ensures.1 (subst MayBeLoaded e (near_chunk _ p (g.met.S.Sections.near c.args.sections.now p l))))) }
 
 pub push_lamps_at-requires : goal.push_lamps_at-requires
-push_lamps_at-requires g c = near_section c.args.chunk c.height-height.result c.loop-number.number c.loop-number-test.true (c.if-not-is_near_origin.ensures.0 refl) _ c.section_at.ensures
+push_lamps_at-requires g c = near_section c.args.chunk c.height-height.result c.loop-number.number c.loop-number-test.true (c.if-not-may_be_loaded.ensures.0 refl) _ c.section_at.ensures
 
 pub loop-number-preserved : goal.loop-number-preserved
 loop-number-preserved g c =
