@@ -1,5 +1,5 @@
 //! The blocks of a world, or of a part of one.
-ghost use Rattle.std.specs.Prelude.{◌≡◌, ◌≤◌, ◌<◌, ◌+◌, ℕ, IsTrue, IsOk, OnOk, IfErr, not};
+ghost use Rattle.std.specs.Prelude.{◌≡◌, ◌≤◌, ◌<◌, ◌+◌, ℕ, IsTrue, IsOk, OnOk, IfErr, IfSome, is_some, not};
 ghost use Rattle.av_types.specs.declared.fault.Fault.TheVariants.{OutOfMemory};
 ghost use Rattle.av_cells.specs.Positions.{InReach, ForAround, ForTurned, IsNearOrigin};
 ghost use Rattle.av_cells.specs.World.{World, Lists, Site, with_number, with_entry, listed_if};
@@ -37,6 +37,18 @@ pub trait Cells {
     fn number(&self, pos: Pos) -> u16
         requires { IsTrue ((world self.now).loaded pos) }
         ensures { result ≡ (world self.now).number pos };
+
+    /// The number of a block's state, where it is loaded: what `loaded` and `number` say, by one look-up.
+    fn number_at(&self, pos: Pos) -> Option<u16>
+        ensures loaded { is_some result ≡ (world self.now).loaded pos }
+        ensures number { IfSome result (λ n. n ≡ (world self.now).number pos) }
+    {
+        if self.loaded(pos) {
+            Some(self.number(pos))
+        } else {
+            None
+        }
+    }
 
     /// Whether an entry of a block waits, of any due time.
     fn pending(&self, pos: Pos) -> bool

@@ -44,14 +44,13 @@ pub fn kind_at<C: Cells>(cells: &C, kinds: &Kinds, pos: Pos) -> Kind
     ensures is { result ≡ kind_at (kinds_of kinds.now) (C.world cells.now) pos }
     ensures proper { IsProper result.wet }
 {
-    if cells.loaded(pos) {
-        kind_of(kinds, cells.number(pos))
-    } else {
-        Kind {
+    match cells.number_at(pos) {
+        Some(number) => kind_of(kinds, number),
+        None => Kind {
             opens: false,
             floor: true,
             wet: Wet::Dry,
-        }
+        },
     }
 }
 

@@ -1,4 +1,5 @@
 pub mod EntryOrder
 pub mod Kept
+pub mod Least
 pub mod Lookup
 pub mod OrderLemmas

@@ -1,5 +1,7 @@
 -- Entries of scheduled ticks, and the orders in which they are gone through (minecraft.wiki, "Tick", "Scheduled tick").
-use Rattle.std.specs.Prelude.{ℕ, pos, int_le, Bool, true, false, ◌&&◌, if◌then◌else◌, List, [], ◌∷◌}
+use Rattle.std.specs.Prelude.{ℕ, ℤ, pos, int_le, Bool, true, false, ◌&&◌, if◌then◌else◌, List, [], ◌∷◌}
+use Rattle.std.specs.Int.{int_min}
+use Rattle.std.specs.List.{fold}
 use Rattle.std.specs.Ordering.{int_eq, int_cmp, nat_cmp, ordering_then}
 use Rattle.std.specs.declared.cmp.Ordering.{Ordering}
 use Rattle.av_types.specs.declared.place.Pos.{Pos}
@@ -22,6 +24,10 @@ are_apart (e ∷ es) = if is_pending e.pos es then false else are_apart es
 -- due in this tick or in an earlier one
 abbrev pub is_due : ℕ → Entry → Bool
 is_due now e = int_le e.due (pos now)
+
+-- the least time of some entries, and the greatest of all times where there is none
+abbrev pub least_due : List Entry → ℤ
+least_due es = fold (λ t e. int_min t e.due) (pos 9223372036854775807) es
 
 -- an earlier entry is below a later one, and among those of one tick a lower priority
 abbrev pub due_order : Entry → Entry → Ordering

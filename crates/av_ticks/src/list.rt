@@ -3,7 +3,9 @@ ghost use Rattle.std.specs.Prelude.{◌≡◌, int_le, ◌<◌, ◌≤◌, ◌+�
 ghost use Rattle.std.specs.Map.{keys_of, values_of};
 ghost use Rattle.indexmap.specs.IndexMap.{spare};
 ghost use Rattle.av_types.specs.declared.fault.Fault.TheVariants.{OutOfMemory};
-ghost use Rattle.av_ticks.specs.Entries.{are_apart, is_due, is_pending};
+ghost use Rattle.std.specs.Int.{int_min};
+ghost use Rattle.std.specs.List.{list_any};
+ghost use Rattle.av_ticks.specs.Entries.{are_apart, is_due, is_pending, least_due};
 ghost use Rattle.av_ticks.specs.Keys.{key_of};
 
 use av_types::{Entry, Fault, Pos};
@@ -16,8 +18,12 @@ use std::slice;
 #[derive(Drop)]
 pub struct TickList {
     by_position: IndexMap<(i32, i32, i32), Entry>,
+
+    /// The least time of an entry, and the greatest of all times where there is none.
+    soonest: i64,
     ghost keyed: { keys_of by_position.entries ≡ map key_of (values_of by_position.entries) },
     pub ghost apart: { are_apart (values_of by_position.entries) ≡ true },
+    ghost least: { soonest ≡ least_due (values_of by_position.entries) },
 }
 
 /// The key of a position.
@@ -25,6 +31,13 @@ fn key(pos: Pos) -> (i32, i32, i32)
     ensures { result ≡ (pos.x, pos.y, pos.z) }
 {
     (pos.x, pos.y, pos.z)
+}
+
+/// The entries of a map, in order.
+fn values(by_position: &IndexMap<(i32, i32, i32), Entry>) -> &[Entry]
+    ensures { result.now ≡ values_of by_position.now.entries }
+{
+    by_position.values().as_slice()
 }
 
 /// Appends the entry of a position that is not pending.
@@ -38,6 +51,35 @@ fn append(by_position: &mut IndexMap<(i32, i32, i32), Entry>, entry: Entry) -> R
 {
     by_position.insert(key(entry.pos), entry)?;
     Ok(())
+}
+
+/// Appends the entry of a position that is not pending, where there is room.
+fn put(by_position: &mut IndexMap<(i32, i32, i32), Entry>, entry: Entry)
+    requires keyed { keys_of by_position.old.entries ≡ map key_of (values_of by_position.old.entries) }
+    requires new { is_pending entry.pos (values_of by_position.old.entries) ≡ false }
+    requires room { 0 < spare by_position.old }
+    ensures entries { by_position.new.entries ≡ by_position.old.entries ++ (key_of entry, entry) ∷ [] }
+    ensures spare { spare by_position.old ≤ spare by_position.new + 1 }
+{
+    let _ = append(by_position, entry);
+}
+
+/// The sooner of two times.
+fn sooner(one: i64, other: i64) -> i64
+    ensures { result ≡ int_min one other }
+{
+    if one <= other { one } else { other }
+}
+
+/// The least time of some entries, and the greatest of all times where there is none.
+fn soonest_of(entries: &[Entry]) -> i64
+    ensures { result ≡ least_due entries.now }
+{
+    let mut soonest = i64::MAX;
+    for entry in entries {
+        soonest = sooner(soonest, entry.due);
+    }
+    soonest
 }
 
 /// The entries that are due in a tick or before it, in the order in which they stand.
@@ -66,6 +108,7 @@ impl TickList {
     {
         TickList {
             by_position: IndexMap::new(alloc),
+            soonest: i64::MAX,
         }
     }
 
@@ -95,7 +138,7 @@ impl TickList {
     pub fn as_slice(&self) -> &[Entry]
         ensures { result.now ≡ entries self.now }
     {
-        self.by_position.values().as_slice()
+        values(&self.by_position)
     }
 
     /// Whether an entry of a position is there.
@@ -103,6 +146,20 @@ impl TickList {
         ensures { result ≡ is_pending pos (entries self.now) }
     {
         self.by_position.contains_key(&key(pos))
+    }
+
+    /// The least time of an entry, and the greatest of all times where there is none.
+    pub fn soonest(&self) -> i64
+        ensures { result ≡ least_due (entries self.now) }
+    {
+        self.soonest
+    }
+
+    /// Whether an entry is due in tick `now` or before it.
+    pub fn has_due(&self, now: u32) -> bool
+        ensures { result ≡ list_any (is_due now) (entries self.now) }
+    {
+        self.soonest <= i64::from(now)
     }
 
     /// Appends an entry, unless its position is pending, and answers whether it did: false leaves the list as it was.
@@ -122,7 +179,19 @@ impl TickList {
             return Ok(false);
         }
         append(&mut self.by_position, entry)?;
+        self.soonest = sooner(self.soonest, entry.due);
         Ok(true)
+    }
+
+    /// Appends an entry of a position that is not pending, where there is room. It takes no memory.
+    pub fn add_new(&mut self, entry: Entry)
+        requires new { is_pending entry.pos (entries self.old) ≡ false }
+        requires room { 0 < room self.old }
+        ensures entries { entries self.new ≡ entries self.old ++ entry ∷ [] }
+        ensures room { room self.old ≤ room self.new + 1 }
+    {
+        put(&mut self.by_position, entry);
+        self.soonest = sooner(self.soonest, entry.due);
     }
 
     /// Makes room for so many more entries, so that as many calls of `add` take no memory. The entries stay.
@@ -166,5 +235,6 @@ impl TickList {
                 ensures { (result ≡ not (int_le entry.old.due now)) × (entry.new ≡ entry.old) }
             { entry.due > now },
         );
+        self.soonest = soonest_of(values(&self.by_position));
     }
 }

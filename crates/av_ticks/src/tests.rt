@@ -48,6 +48,26 @@ fn entries_leave_by_time_priority_and_place(rt: HostRuntime) -> Result<(), Fail>
     Ok(())
 }
 
+/// The least time of no entry, of one, of two, and of the one that is left.
+#[test]
+fn the_least_time_is_known(rt: HostRuntime) -> Result<(), Fail> {
+    let mut list = TickList::new(rt.alloc());
+    assert_eq!(rt; list.soonest(), i64::MAX);
+    assert!(rt; !list.has_due(u32::MAX));
+    list.reserve(1)?;
+    list.add_new(entry(1, 9, 0));
+    assert_eq!(rt; list.as_slice(), [entry(1, 9, 0)].as_slice());
+    assert_eq!(rt; list.soonest(), 9);
+    assert!(rt; list.add(entry(2, -3, 0))?);
+    assert_eq!(rt; list.soonest(), -3);
+    assert!(rt; list.has_due(0));
+    list.drop_due(8);
+    assert_eq!(rt; list.soonest(), 9);
+    assert!(rt; !list.has_due(8));
+    assert!(rt; list.has_due(9));
+    Ok(())
+}
+
 #[test]
 fn made_entries_go_by_maker_and_number(rt: HostRuntime) -> Result<(), Fail> {
     let first = [made(2, 0), made(2, 1)].to_vec(rt.alloc())?;

@@ -1,5 +1,6 @@
 pub mod Ranks
 pub mod Plans
+pub mod Holes
 pub mod Readiness
 pub mod SameReads
 pub mod Regions

@@ -1,8 +1,9 @@
 -- What a side is to be set to.
-use Rattle.std.proofs.Common.{◌≡◌, ℕ, ◌<◌, ◌≤◌, ◌&&◌, ◌||◌, Option, Some, None, refl, sym, ap, ◌∙◌, subst, arith, Bool, true, false, cond, nat_lt, nat_eq}
+use Rattle.std.proofs.Common.{◌≡◌, ℕ, ◌<◌, ◌&&◌, ◌||◌, Option, Some, None, refl, sym, ap, ◌∙◌, subst, arith, Bool, true, false, cond, min, nat_lt, nat_eq}
 use Rattle.std.proofs.lemmas.Bool.{true≢false, and_parts}
 use Rattle.av_types.specs.declared.place.Pos.{Pos}
 use Rattle.av_types.specs.declared.water.Direction.{Direction}
+use Rattle.av_types.specs.declared.water.Direction.TheVariants.{North, South, West, East}
 use Rattle.av_cells.specs.declared.kind.Kind.{Kind}
 use Rattle.av_cells.specs.Positions.{step}
 use Rattle.av_cells.specs.World.{World}
@@ -11,7 +12,7 @@ use Rattle.av_cells.specs.Turn.{drop_of, rank_at, rank_of, is_chosen, least_rank
 use Rattle.av_cells.proofs.Loaded.{open_is_loaded}
 use Rattle.av_types.specs.Water.{is_wet}
 use Rattle.av_water.specs.Ready.{IsPlanFor}
-use Rattle.std.proofs.Common.{not, ◌≢◌}
+use Rattle.std.proofs.Common.{not}
 use Rattle.std.proofs.lemmas.Bool.Decides.{nat_tests}
 
 pub enterable_is_loaded : (k : ℕ → Kind) (w : World) (q : Pos) → can_enter k w q ≡ true → w.loaded q ≡ true
@@ -32,7 +33,7 @@ none_some A n o e f = cc
 some_is : (P : ℕ → Type 0) (m n : ℕ) → P m → Some m ≡ Some n → P n
 some_is P m n h e = subst P (let f : m ≡ n = cc in f) h
 
-no_plan : (k : ℕ → Kind) (w : World) (p : Pos) (d : Direction) → is_chosen k w p d ≡ false → IsPlanFor k w p d None
+pub no_plan : (k : ℕ → Kind) (w : World) (p : Pos) (d : Direction) → is_chosen k w p d ≡ false → IsPlanFor k w p d None
 unfolding planned
 no_plan k w p d h =
     record {
@@ -41,30 +42,27 @@ no_plan k w p d h =
       water = λ n e. none_some _ n None refl e;
     }
 
-far : (r l : ℕ) → 6 ≤ r → (nat_lt r 6 && nat_eq r l) ≡ false
-far r l h = grind (arith, nat_tests)
+chosen_is_near : (r l : ℕ) → (nat_lt r 6 && nat_eq r l) ≡ true → r < 6
+chosen_is_near r l h = grind (arith, nat_tests)
 
-other : (r l : ℕ) → r ≢ l → (nat_lt r 6 && nat_eq r l) ≡ false
-other r l h = grind (arith, nat_tests)
+pub chosen_by_ranks : (k : ℕ → Kind) (w : World) (p : Pos) (d : Direction) (r l m n o q : ℕ) → r ≡ rank_at k w p d → l ≡ min (min m n) (min o q)
+    → m ≡ rank_at k w p North → n ≡ rank_at k w p South → o ≡ rank_at k w p West → q ≡ rank_at k w p East → (nat_lt r 6 && nat_eq r l) ≡ is_chosen k w p d
+unfolding is_chosen least_rank
+chosen_by_ranks k w p d r l m n o q e f a b c h =
+    let least : l ≡ min (min (rank_at k w p North) (rank_at k w p South)) (min (rank_at k w p West) (rank_at k w p East)) = f ∙ (λ i. min (min (a i) (b i)) (min (c i) (h i))) in
+    λ i. nat_lt (e i) 6 && nat_eq (e i) (least i)
 
-near : (r l : ℕ) → r < 6 → r ≡ l → (nat_lt r 6 && nat_eq r l) ≡ true
-near r l h e = grind (arith, nat_tests)
-
-pub plan_far : (k : ℕ → Kind) (w : World) (p : Pos) (d : Direction) (r : ℕ) → r ≡ rank_at k w p d → 6 ≤ r → IsPlanFor k w p d None
+-- a chosen side is loaded
+pub chosen_is_loaded : (k : ℕ → Kind) (w : World) (p : Pos) (d : Direction) → is_chosen k w p d ≡ true → w.loaded (step p d) ≡ true
 unfolding is_chosen
-plan_far k w p d r e h = no_plan k w p d (far (rank_at k w p d) (least_rank k w p) (subst (λ n. 6 ≤ n) e h))
+chosen_is_loaded k w p d h = side_is_loaded k w p d (rank_at k w p d) refl (chosen_is_near (rank_at k w p d) (least_rank k w p) h)
 
-pub plan_other : (k : ℕ → Kind) (w : World) (p : Pos) (d : Direction) (r l : ℕ) → r ≡ rank_at k w p d → l ≡ least_rank k w p → r ≢ l → IsPlanFor k w p d None
-unfolding is_chosen
-plan_other k w p d r l e f h = no_plan k w p d (other (rank_at k w p d) (least_rank k w p) (λ s. h (e ∙ s ∙ sym f)))
-
-pub plan_some : (k : ℕ → Kind) (w : World) (p : Pos) (d : Direction) (r l n : ℕ) → r ≡ rank_at k w p d → l ≡ least_rank k w p → r < 6 → r ≡ l → n ≡ number_of_wet (incoming_at k w (step p d)) → n < 10 → IsPlanFor k w p d (Some n)
-unfolding planned is_chosen
-plan_some k w p d r l n e f h s is less =
-    let chosen : is_chosen k w p d ≡ true = near (rank_at k w p d) (least_rank k w p) (subst (λ n. n < 6) e h) (sym e ∙ s ∙ f) in
+pub plan_some : (k : ℕ → Kind) (w : World) (p : Pos) (d : Direction) (n : ℕ) → is_chosen k w p d ≡ true → n ≡ number_of_wet (incoming_at k w (step p d)) → n < 10 → IsPlanFor k w p d (Some n)
+unfolding planned
+plan_some k w p d n chosen is less =
     record {
       is = ap Some is ∙ sym (ap (λ b. cond b (Some (number_of_wet (incoming_at k w (step p d)))) None) chosen);
-      loaded = λ m g. side_is_loaded k w p d r e h;
+      loaded = λ m g. chosen_is_loaded k w p d chosen;
       water = λ m g. some_is (λ m. m < 10) n m less g;
     }
 
@@ -72,10 +70,13 @@ shut_rank : (b : Bool) (n : ℕ) → b ≡ false → cond b n 6 ≡ 6
 shut_rank true n h = absurd (true≢false h)
 shut_rank false n h = refl
 
--- a side that can't be entered is not set
-pub shut_plan : (k : ℕ → Kind) (w : World) (p : Pos) (d : Direction) → can_enter k w (step p d) ≡ false → IsPlanFor k w p d None
-unfolding rank_at
-shut_plan k w p d h = plan_far k w p d 6 (sym (shut_rank (can_enter k w (step p d)) (rank_of (drop_of k w (step p d))) h)) (omega arith)
+not_chosen : (r l : ℕ) → r ≡ 6 → (nat_lt r 6 && nat_eq r l) ≡ false
+not_chosen r l h = grind (arith, nat_tests)
+
+-- a side that can't be entered is not chosen
+pub shut_is_not_chosen : (k : ℕ → Kind) (w : World) (p : Pos) (d : Direction) → can_enter k w (step p d) ≡ false → is_chosen k w p d ≡ false
+unfolding rank_at is_chosen
+shut_is_not_chosen k w p d h = not_chosen (rank_at k w p d) (least_rank k w p) (shut_rank (can_enter k w (step p d)) (rank_of (drop_of k w (step p d))) h)
 
 pub none_of_four : (a b c d : Bool) → (a || b || c || d) ≡ false → (a ≡ false) × (b ≡ false) × (c ≡ false) × (d ≡ false)
 none_of_four true b c d h = absurd (true≢false h)

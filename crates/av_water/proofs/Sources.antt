@@ -1,6 +1,5 @@
 -- Sources stay: a turn sets no block that holds one.
-use Rattle.std.proofs.Common.{◌≡◌, ℕ, zero, suc, ◌+◌, ◌<◌, nat_le, nat_lt, nat_eq, List, [], ◌∷◌, ◌++◌, Bool, true, false, not, ◌&&◌, ◌||◌, cond, Some, None, refl, sym, ap, ◌∙◌, subst, arith}
-use Rattle.std.proofs.lemmas.Bool.{and_parts, true≢false}
+use Rattle.std.proofs.Common.{◌≡◌, ℕ, ◌<◌, nat_lt, nat_eq, List, [], ◌∷◌, Bool, true, false, not, ◌&&◌, ◌||◌, cond, Some, None, refl, sym, ap, ◌∙◌, subst, arith}
 use Rattle.std.proofs.lemmas.Bool.Decides.{nat_tests}
 use Rattle.av_types.specs.declared.place.Pos.{Pos}
 use Rattle.av_types.specs.declared.water.Direction.{Direction}
@@ -12,7 +11,7 @@ use Rattle.av_types.proofs.SamePlaces.{same_pos_is}
 use Rattle.av_cells.specs.declared.kind.Kind.{Kind}
 use Rattle.av_cells.specs.Positions.{step, below, around, same_pos}
 use Rattle.av_cells.specs.World.{World, with_number}
-use Rattle.av_cells.specs.Rule.{kind_at, unloaded, wet_at, opens_at, can_enter, has_hole, sources_beside, incoming_at}
+use Rattle.av_cells.specs.Rule.{kind_at, unloaded, wet_at, opens_at, can_enter, incoming_at}
 use Rattle.av_cells.specs.Turn.{Change, change, woken, woken_all, set_awake, rank_at, rank_of, drop_of, is_chosen, least_rank, planned, number_of_wet, set_planned, spread, onward, renewed, same_wet, turn}
 
 pub record Stays (k : ℕ → Kind) (w : World) (c : Change) : Type 0 where

@@ -1,16 +1,16 @@
 //! Which sides of a block its water spreads to.
-ghost use Rattle.std.specs.Prelude.{◌≡◌, ◌<◌, IsTrue, min, ◌||◌, if◌then◌else◌};
+ghost use Rattle.std.specs.Prelude.{◌≡◌, ◌<◌, IsTrue, min, nat_lt, nat_eq, ◌&&◌, ◌||◌, if◌then◌else◌};
 ghost use Rattle.av_rules.specs.Kinds.{kind_count};
 ghost use Rattle.av_types.specs.Water.{IsProper};
 ghost use Rattle.av_types.specs.declared.water.Direction.TheVariants.{North, South, West, East};
 ghost use Rattle.av_cells.specs.Kinds.{kinds_of};
 ghost use Rattle.av_cells.specs.Positions.{step};
-ghost use Rattle.av_cells.specs.Rule.{IsDrop, HasKinds, can_enter};
-ghost use Rattle.av_cells.specs.Turn.{number_of_wet, rank_of, rank_at, least_rank};
+ghost use Rattle.av_cells.specs.Rule.{IsDrop, HasKinds, can_enter, has_hole};
+ghost use Rattle.av_cells.specs.Turn.{number_of_wet, rank_of, rank_at, is_chosen};
 ghost use Rattle.av_water.specs.Ready.{IsPlanFor};
 
 use crate::coming::incoming;
-use av_cells::{Cells, can_enter, step};
+use av_cells::{Cells, can_enter, has_hole, step};
 use av_drop::distances_to_drop;
 use av_rules::Kinds;
 use av_types::{Direction, Pos, Wet};
@@ -136,26 +136,107 @@ impl Ranks {
     }
 }
 
-/// What the side in one direction is to be set to, by its rank and the least rank of a side.
-#[tactic(auto, using(crate::proofs::Plans::plan_far, crate::proofs::Plans::plan_other))]
+/// Whether a side can be entered and has a hole.
+fn is_way_down<C: Cells>(
+    cells: &C,
+    kinds: &Kinds,
+    pos: Pos,
+    direction: Direction,
+    is_way: bool,
+) -> bool
+    requires loaded { IsTrue ((C.world cells.now).loaded pos) }
+    requires kinds { HasKinds (kind_count kinds.now) (C.world cells.now) }
+    ensures { result ≡ (is_way && has_hole (kinds_of kinds.now) (C.world cells.now) (step pos direction)) }
+{
+    is_way && has_hole(cells, kinds, step(pos, direction))
+}
+
+/// Which sides can be entered and have a hole, of those that can be entered.
+fn ways_down<C: Cells>(cells: &C, kinds: &Kinds, pos: Pos, ways: Ways) -> Ways
+    requires loaded { IsTrue ((C.world cells.now).loaded pos) }
+    requires kinds { HasKinds (kind_count kinds.now) (C.world cells.now) }
+    requires north { ways.north ≡ can_enter (kinds_of kinds.now) (C.world cells.now) (step pos North) }
+    requires south { ways.south ≡ can_enter (kinds_of kinds.now) (C.world cells.now) (step pos South) }
+    requires west { ways.west ≡ can_enter (kinds_of kinds.now) (C.world cells.now) (step pos West) }
+    requires east { ways.east ≡ can_enter (kinds_of kinds.now) (C.world cells.now) (step pos East) }
+    ensures north { result.north ≡ (can_enter (kinds_of kinds.now) (C.world cells.now) (step pos North) && has_hole (kinds_of kinds.now) (C.world cells.now) (step pos North)) }
+    ensures south { result.south ≡ (can_enter (kinds_of kinds.now) (C.world cells.now) (step pos South) && has_hole (kinds_of kinds.now) (C.world cells.now) (step pos South)) }
+    ensures west { result.west ≡ (can_enter (kinds_of kinds.now) (C.world cells.now) (step pos West) && has_hole (kinds_of kinds.now) (C.world cells.now) (step pos West)) }
+    ensures east { result.east ≡ (can_enter (kinds_of kinds.now) (C.world cells.now) (step pos East) && has_hole (kinds_of kinds.now) (C.world cells.now) (step pos East)) }
+{
+    Ways {
+        north: is_way_down(cells, kinds, pos, Direction::North, ways.north),
+        south: is_way_down(cells, kinds, pos, Direction::South, ways.south),
+        west: is_way_down(cells, kinds, pos, Direction::West, ways.west),
+        east: is_way_down(cells, kinds, pos, Direction::East, ways.east),
+    }
+}
+
+/// Whether a side of a rank is chosen, by the least rank of a side.
+fn is_least(rank: u8, least: u8) -> bool
+    ensures { result ≡ (nat_lt rank 6 && nat_eq rank least) }
+{
+    rank < 6 && rank == least
+}
+
+/// Which sides are chosen, of those that can be entered, by how far it is to a drop.
+fn nearest_ways<C: Cells>(cells: &C, kinds: &Kinds, pos: Pos, ways: Ways) -> Ways
+    requires loaded { IsTrue ((C.world cells.now).loaded pos) }
+    requires kinds { HasKinds (kind_count kinds.now) (C.world cells.now) }
+    requires north { ways.north ≡ can_enter (kinds_of kinds.now) (C.world cells.now) (step pos North) }
+    requires south { ways.south ≡ can_enter (kinds_of kinds.now) (C.world cells.now) (step pos South) }
+    requires west { ways.west ≡ can_enter (kinds_of kinds.now) (C.world cells.now) (step pos West) }
+    requires east { ways.east ≡ can_enter (kinds_of kinds.now) (C.world cells.now) (step pos East) }
+    ensures north { result.north ≡ is_chosen (kinds_of kinds.now) (C.world cells.now) pos North }
+    ensures south { result.south ≡ is_chosen (kinds_of kinds.now) (C.world cells.now) pos South }
+    ensures west { result.west ≡ is_chosen (kinds_of kinds.now) (C.world cells.now) pos West }
+    ensures east { result.east ≡ is_chosen (kinds_of kinds.now) (C.world cells.now) pos East }
+{
+    let ranks = ranks_of(cells, kinds, pos, ways);
+    let least = ranks.least();
+    Ways {
+        north: is_least(ranks.north, least),
+        south: is_least(ranks.south, least),
+        west: is_least(ranks.west, least),
+        east: is_least(ranks.east, least),
+    }
+}
+
+/// Which sides are chosen. Where one that can be entered has a hole, all are known by their holes alone.
+fn chosen_ways<C: Cells>(cells: &C, kinds: &Kinds, pos: Pos) -> Ways
+    requires loaded { IsTrue ((C.world cells.now).loaded pos) }
+    requires kinds { HasKinds (kind_count kinds.now) (C.world cells.now) }
+    ensures north { result.north ≡ is_chosen (kinds_of kinds.now) (C.world cells.now) pos North }
+    ensures south { result.south ≡ is_chosen (kinds_of kinds.now) (C.world cells.now) pos South }
+    ensures west { result.west ≡ is_chosen (kinds_of kinds.now) (C.world cells.now) pos West }
+    ensures east { result.east ≡ is_chosen (kinds_of kinds.now) (C.world cells.now) pos East }
+{
+    let ways = ways_of(cells, kinds, pos);
+    if !ways.has_any() {
+        return ways;
+    }
+    let down = ways_down(cells, kinds, pos, ways);
+    if down.has_any() {
+        return down;
+    }
+    nearest_ways(cells, kinds, pos, ways)
+}
+
+/// What the side in one direction is to be set to, by whether it is chosen.
+#[tactic(auto, using(crate::proofs::Plans::no_plan))]
 fn planned_side<C: Cells>(
     cells: &C,
     kinds: &Kinds,
     pos: Pos,
     direction: Direction,
-    rank: u8,
-    least: u8,
+    chosen: bool,
 ) -> Option<u16>
     requires loaded { IsTrue ((C.world cells.now).loaded pos) }
     requires kinds { HasKinds (kind_count kinds.now) (C.world cells.now) }
-    requires rank { rank ≡ rank_at (kinds_of kinds.now) (C.world cells.now) pos direction }
-    requires least { least ≡ least_rank (kinds_of kinds.now) (C.world cells.now) pos }
+    requires chosen { chosen ≡ is_chosen (kinds_of kinds.now) (C.world cells.now) pos direction }
     ensures { IsPlanFor (kinds_of kinds.now) (C.world cells.now) pos direction result }
 {
-    if rank >= 6 {
-        return None;
-    }
-    if rank != least {
+    if !chosen {
         return None;
     }
     let side = step(pos, direction);
@@ -164,7 +245,6 @@ fn planned_side<C: Cells>(
 
 /// What the sides of a loaded block are to be set to: each that can be entered and has no farther drop than another
 /// such side gets what comes into it.
-#[tactic(auto, unfolding(av_cells::specs::Turn::least_rank))]
 pub(crate) fn plan_of<C: Cells>(cells: &C, kinds: &Kinds, pos: Pos) -> Plan
     requires loaded { IsTrue ((C.world cells.now).loaded pos) }
     requires kinds { HasKinds (kind_count kinds.now) (C.world cells.now) }
@@ -173,21 +253,11 @@ pub(crate) fn plan_of<C: Cells>(cells: &C, kinds: &Kinds, pos: Pos) -> Plan
     ensures west { IsPlanFor (kinds_of kinds.now) (C.world cells.now) pos West result.west }
     ensures east { IsPlanFor (kinds_of kinds.now) (C.world cells.now) pos East result.east }
 {
-    let ways = ways_of(cells, kinds, pos);
-    if !ways.has_any() {
-        return Plan {
-            north: None,
-            south: None,
-            west: None,
-            east: None,
-        };
-    }
-    let ranks = ranks_of(cells, kinds, pos, ways);
-    let least = ranks.least();
+    let chosen = chosen_ways(cells, kinds, pos);
     Plan {
-        north: planned_side(cells, kinds, pos, Direction::North, ranks.north, least),
-        south: planned_side(cells, kinds, pos, Direction::South, ranks.south, least),
-        west: planned_side(cells, kinds, pos, Direction::West, ranks.west, least),
-        east: planned_side(cells, kinds, pos, Direction::East, ranks.east, least),
+        north: planned_side(cells, kinds, pos, Direction::North, chosen.north),
+        south: planned_side(cells, kinds, pos, Direction::South, chosen.south),
+        west: planned_side(cells, kinds, pos, Direction::West, chosen.west),
+        east: planned_side(cells, kinds, pos, Direction::East, chosen.east),
     }
 }

@@ -20,6 +20,7 @@ pub mod LeftNumbers
 pub mod DueLists
 pub mod Whole
 pub mod Soonest
+pub mod Least
 pub mod ChunkReads
 pub mod Appends
 pub mod Filled

@@ -1,12 +1,13 @@
 -- Steps that keep a world.
-use Rattle.std.proofs.Common.{◌<◌, ℕ, IsTrue, IsOk, is_ok, true≢false, List, length, refl, sym, ap, subst, ◌∙◌, arith, OnOk, Ok, Err, Result, Some, ◌≡◌}
+use Rattle.std.proofs.Common.{◌<◌, ℕ, IsTrue, IsOk, is_ok, true≢false, List, length, refl, sym, ap, subst, ◌∙◌, arith, OnOk, Ok, Err, Result, Some, ◌≡◌, All}
 use Rattle.std.proofs.lemmas.List.Elements.{All-weaker}
 use Rattle.av_types.specs.Places.{section_of, chunk_of}
 use Rattle.av_types.specs.declared.place.Pos.{Pos}
-use Rattle.av_cells.specs.Grid.{cells_of, Grid}
+use Rattle.av_types.specs.declared.place.SectionPos.{SectionPos}
+use Rattle.av_cells.specs.Grid.{cells_of, is_here, Grid}
 use Rattle.av_world.specs.Index.{slot}
 use Rattle.av_world.specs.Near.{has_place}
-use Rattle.av_world.specs.Views.{site, IsKept, IsSamePlaces, CanSetAt, blocks}
+use Rattle.av_world.specs.Views.{site, IsKept, IsSamePlaces, CanSetAt, blocks, grid}
 use Rattle.av_world.specs.Turned.{HasRoomAt, CanSetAll}
 use Rattle.av_world.specs.declared.worlds.World.{World}
 
@@ -38,10 +39,13 @@ room_lasts v w n p k h t =
     let y = k.room_grows (chunk_of p) in
     omega arith
 
+-- what a section was prepared for, it stays prepared for
+pub ready_lasts : (v w : World) (ns : List ℕ) (s : SectionPos) → IsKept v w → (IsTrue (is_here (grid v s)) → All (CanSetAt v s) ns) → IsTrue (is_here (grid w s)) → All (CanSetAt w s) ns
+ready_lasts v w ns s k h there =
+    All-weaker (CanSetAt v s) (CanSetAt w s) (λ n g. k.prepared s n g) ns (h (subst (λ (g : Grid). IsTrue (is_here (g s))) k.grid_is there))
+
 pub numbers_last : (v w : World) (ns : List ℕ) (p : Pos) → IsKept v w → CanSetAll v ns p → CanSetAll w ns p
-numbers_last v w ns p k h loaded =
-    All-weaker (CanSetAt v (section_of p)) (CanSetAt w (section_of p)) (λ n g. k.prepared (section_of p) n g) ns
-    (h (subst (λ (g : Grid). IsTrue ((cells_of g).loaded p)) k.grid_is loaded))
+numbers_last v w ns p k h = ready_lasts v w ns (section_of p) k h
 
 pub in_ok : {A E : Type 0} (r : Result A E) (P : Type 0) → P → OnOk r P
 in_ok (Ok x) P h = h

@@ -1,17 +1,19 @@
 //! Entries appended to the lists of a world.
-ghost use Rattle.std.specs.Prelude.{◌≡◌, ◌≤◌, ◌<◌, ◌+◌, ℕ, replicate, IsTrue, false, length, nat_eq, slice_index_or, OnOk, OnErr, IfOk, IfErr, All, if◌then◌else◌};
+ghost use Rattle.std.specs.Prelude.{◌≡◌, ◌≤◌, ◌<◌, ◌+◌, ℕ, replicate, IsTrue, true, false, length, nat_eq, slice_index_or, OnOk, OnErr, IfOk, IfErr, All, if◌then◌else◌};
 ghost use Rattle.std.specs.List.{AllPairs};
 ghost use Rattle.av_types.specs.declared.fault.Fault.TheVariants.{OutOfMemory, Broken};
 ghost use Rattle.av_types.specs.declared.place.ChunkPos.{ChunkPos};
-ghost use Rattle.av_cells.specs.Positions.{same_pos};
-ghost use Rattle.av_cells.specs.World.{listed_all};
+ghost use Rattle.av_types.specs.Places.{chunk_of, chunk_of_section};
+ghost use Rattle.av_cells.specs.Positions.{same_chunk, same_pos};
+ghost use Rattle.av_cells.specs.World.{with_entry_if, listed_if, listed_all};
 ghost use Rattle.av_world.specs.Appended.{entries_made, with_entries, with_listed};
 ghost use Rattle.av_world.specs.Appending.{entered_all, CanAppend, count_at, HasRoomForAll};
+ghost use Rattle.av_world.specs.Index.{slot};
 ghost use Rattle.av_world.specs.Lands.{land_of};
 ghost use Rattle.av_world.specs.Views.{blocks, lists, room, site, positions_of, is_broken, IsKept};
 
 use crate::worlds::World;
-use av_types::{Fault, Made};
+use av_types::{Entry, Fault, Made, SectionPos};
 use std::alloc::Global;
 
 /// So many zeros.
@@ -35,6 +37,16 @@ fn count_one(counts: &mut Vec<usize>, index: usize, most: usize)
 }
 
 impl World {
+    /// Where a section's chunk stands. It is looked for first where the last one was found.
+    fn slot_from(&self, last: usize, at: SectionPos) -> usize
+        ensures { result ≡ slot (positions_of self.now) (chunk_of_section at) }
+    {
+        if last < self.positions.len() && self.positions[last] == at.chunk() {
+            return last;
+        }
+        self.slot_of(at)
+    }
+
     /// How many of these entries each chunk is to get.
     fn count_made(&self, made: &[Made]) -> Result<Vec<usize>, Fault>
         ensures count { IfOk result (λ counts. length counts.items ≡ length (positions_of self.now)) }
@@ -45,9 +57,11 @@ impl World {
         let alloc = *self.positions.allocator();
         let mut counts = zeros(alloc, self.positions.len())?;
         let most = made.len();
+        let mut last = 0;
         for one in made {
-            let index = self.slot_of(one.entry.pos.section());
+            let index = self.slot_from(last, one.entry.pos.section());
             count_one(&mut counts, index, most);
+            last = index;
         }
         Ok(counts)
     }
@@ -90,6 +104,20 @@ impl World {
         self.reserve_counts(counts.as_slice())
     }
 
+    /// Appends the entry of a loaded block that is not pending. Its chunk is then found at once.
+    fn add_near(&mut self, entry: Entry)
+        requires loaded { IsTrue ((blocks self.old).loaded entry.pos) }
+        requires room { 0 < room self.old (chunk_of entry.pos) }
+        requires new { (blocks self.old).pending entry.pos ≡ false }
+        ensures changed { blocks self.new ≡ with_entry_if true (blocks self.old) entry }
+        ensures lists { lists self.new ≡ listed_if true (lists self.old) entry }
+        ensures site { site self.new ≡ site self.old }
+        ensures room { (c : ChunkPos) → room self.old c ≤ room self.new c + (if same_chunk c (chunk_of entry.pos) then 1 else 0) }
+    {
+        self.look_near(&[entry.pos]);
+        self.add_new(entry);
+    }
+
     /// Appends entries, for which there is room.
     fn add_all(&mut self, made: &[Made])
         requires new { CanAppend (blocks self.old) (entries_made made.now) }
@@ -99,7 +127,7 @@ impl World {
         ensures site { site self.new ≡ site self.old }
     {
         for one in made {
-            self.add_new(one.entry);
+            self.add_near(one.entry);
         }
     }
 

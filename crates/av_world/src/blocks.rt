@@ -71,6 +71,13 @@ impl Cells for World {
         }
     }
 
+    fn number_at(&self, pos: Pos) -> Option<u16> {
+        match self.section(pos.section()) {
+            None => None,
+            Some(section) => Some(section.get(pos.place())),
+        }
+    }
+
     fn pending(&self, pos: Pos) -> bool {
         match self.section(pos.section()) {
             None => false,

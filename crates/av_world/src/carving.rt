@@ -26,7 +26,7 @@ fn empty_slots(alloc: Global, count: usize) -> Result<Vec<Option<Section>>, Faul
     ensures count { IfOk result (λ slots. length slots.items ≡ count) }
     ensures fault { IfErr result (λ e. e ≡ OutOfMemory) }
 {
-    let mut slots = Vec::new(alloc);
+    let mut slots = Vec::with_capacity(alloc, count)?;
     for _ in 0..count {
         slots.push(None)?;
     }

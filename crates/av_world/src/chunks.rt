@@ -90,7 +90,7 @@ pub(crate) fn append(ticks: &mut TickList, entry: Entry)
     ensures entries { entries ticks.new ≡ entries ticks.old ++ entry ∷ [] }
     ensures room { room ticks.old ≤ room ticks.new + 1 }
 {
-    let _ = ticks.add(entry);
+    ticks.add_new(entry);
 }
 
 /// Sets a place of the section at an offset.
@@ -196,14 +196,6 @@ fn clear_due(sections: &mut Vec<Option<Section>>, entries: &[Entry], height: Hei
     }
 }
 
-/// Whether one of these entries is due.
-fn has_due(entries: &[Entry], now: u32) -> bool
-    ensures { result ≡ list_any (is_due now) entries.now }
-{
-    let now = i64::from(now);
-    entries.iter().any(|entry| entry.due <= now)
-}
-
 /// Takes the entries that are due out of a chunk's list, and makes their places not pending.
 pub(crate) fn leave_in(chunk: &mut Chunk, height: Height, now: u32)
     requires count { length chunk.old.sections.items ≡ height.sections }
@@ -212,7 +204,7 @@ pub(crate) fn leave_in(chunk: &mut Chunk, height: Height, now: u32)
     ensures entries { entries chunk.new.ticks ≡ filter (λ e. not (is_due now e)) (entries chunk.old.ticks) }
     ensures room { room chunk.old.ticks ≤ room chunk.new.ticks }
 {
-    if !has_due(chunk.ticks.as_slice(), now) {
+    if !chunk.ticks.has_due(now) {
         return;
     }
     clear_due(&mut chunk.sections, chunk.ticks.as_slice(), height, now);

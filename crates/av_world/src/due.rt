@@ -14,6 +14,7 @@ ghost use Rattle.av_world.specs.Views.{sections, blocks, lists, site, is_broken,
 
 use crate::chunks::leave_in;
 use crate::worlds::World;
+use av_ticks::TickList;
 use av_types::{Entry, Fault};
 
 /// Appends the entries that are due.
@@ -30,11 +31,29 @@ fn push_due(due: &mut Vec<Entry>, entries: &[Entry], now: u32) -> Result<(), Fau
     Ok(())
 }
 
+/// Appends the entries of a list that are due. One with none is not gone through.
+fn push_due_of(due: &mut Vec<Entry>, ticks: &TickList, now: u32) -> Result<(), Fault>
+    ensures ok { OnOk result (due.new.items ≡ due.old.items ++ filter (is_due now) (entries ticks.now)) }
+    ensures fault { IfErr result (λ e. e ≡ OutOfMemory) }
+{
+    if !ticks.has_due(now) {
+        return Ok(());
+    }
+    push_due(due, ticks.as_slice(), now)
+}
+
+/// The tick of a time, 0 for one before all ticks.
+fn tick_at(due: i64) -> u64
+    ensures { result ≡ tick_of due }
+{
+    if due < 0 { 0 } else { due as u64 }
+}
+
 /// The tick in which an entry is due, 0 for one that is overdue.
 fn tick_of(entry: &Entry) -> u64
     ensures { result ≡ tick_of entry.now.due }
 {
-    if entry.due < 0 { 0 } else { entry.due as u64 }
+    tick_at(entry.due)
 }
 
 /// The sooner of two ticks.
@@ -59,6 +78,20 @@ fn soonest_in(entries: &[Entry], most: u64) -> u64
     soonest
 }
 
+/// The least tick of a list's entries, and at most this. The list is gone through only where its least time is the
+/// greatest of all, as in an empty one.
+fn soonest_of(ticks: &TickList, most: u64) -> u64
+    ensures low { result ≤ most }
+    ensures none { at_least result (entries ticks.now) ≡ true }
+    ensures reached { (nat_eq result most || is_reached result (entries ticks.now)) ≡ true }
+{
+    let soonest = ticks.soonest();
+    if soonest == i64::MAX {
+        return soonest_in(ticks.as_slice(), most);
+    }
+    sooner(most, tick_at(soonest))
+}
+
 impl World {
     /// The first tick in which an entry of some list is due, 0 for one that is overdue, and `u64::MAX` where there is none.
     pub fn soonest(&self) -> u64
@@ -68,7 +101,7 @@ impl World {
     {
         let mut soonest = u64::MAX;
         for chunk in &self.chunks {
-            soonest = soonest_in(chunk.ticks.as_slice(), soonest);
+            soonest = soonest_of(&chunk.ticks, soonest);
         }
         soonest
     }
@@ -81,7 +114,7 @@ impl World {
         let alloc = *self.positions.allocator();
         let mut due = Vec::new(alloc);
         for chunk in &self.chunks {
-            push_due(&mut due, chunk.ticks.as_slice(), now)?;
+            push_due_of(&mut due, &chunk.ticks, now)?;
         }
         Ok(due)
     }

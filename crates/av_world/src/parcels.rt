@@ -143,15 +143,37 @@ impl Parcel {
         prepare_slot(&mut self.sections[index], numbers)
     }
 
-    /// Makes room for numbers in the sections of some blocks, where they are there.
+    /// Makes room for numbers in a section, where it is there, unless it is one that has room for them.
+    fn prepare_other(
+        &mut self,
+        at: SectionPos,
+        ready: SectionPos,
+        numbers: &[u16],
+    ) -> Result<(), Fault>
+        requires ready { IsTrue (is_here (kept_grid self.old ready)) → All (CanSetAt self.old ready) numbers.now }
+        ensures kept { IsKept self.old self.new }
+        ensures prepared { OnOk result (IsTrue (is_here (kept_grid self.new at)) → All (CanSetAt self.new at) numbers.now) }
+        ensures fault { IfErr result (λ e. e ≡ OutOfMemory) }
+        ensures succeeds { (IsTrue (is_here (kept_grid self.old at)) → All (CanSetAt self.old at) numbers.now) → IsOk result }
+    {
+        if at == ready {
+            return Ok(());
+        }
+        self.prepare_section(at, numbers)
+    }
+
+    /// Makes room for numbers in the sections of some blocks, where they are there. Most are that of the first block.
     fn prepare_all(&mut self, at: &[Pos], numbers: &[u16]) -> Result<(), Fault>
+        requires { 0 < length at.now }
         ensures kept { IsKept self.old self.new }
         ensures prepared { OnOk result (All (CanSetAll self.new numbers.now) at.now) }
         ensures fault { IfErr result (λ e. e ≡ OutOfMemory) }
         ensures succeeds { All (CanSetAll self.old numbers.now) at.now → IsOk result }
     {
+        let first = at[0].section();
+        self.prepare_section(first, numbers)?;
         for pos in at {
-            self.prepare_section(pos.section(), numbers)?;
+            self.prepare_other(pos.section(), first, numbers)?;
         }
         Ok(())
     }
@@ -208,6 +230,13 @@ impl Cells for Parcel {
         match self.section(pos.section()) {
             None => 0,
             Some(section) => section.get(pos.place()),
+        }
+    }
+
+    fn number_at(&self, pos: Pos) -> Option<u16> {
+        match self.section(pos.section()) {
+            None => None,
+            Some(section) => Some(section.get(pos.place())),
         }
     }
 

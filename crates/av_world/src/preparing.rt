@@ -28,17 +28,22 @@ impl World {
         reserve_in(&mut self.chunks[chunk], count)
     }
 
-    /// Makes room for so many more entries of a block's chunk, where the block is loaded.
+    /// Makes room for so many more entries of a block's chunk, where the block is loaded. Whether it is loaded is asked only
+    /// where memory ran out.
     fn reserve_at(&mut self, at: Pos, count: usize) -> Result<(), Fault>
         ensures kept { IsKept self.old self.new }
         ensures room { OnOk result (HasRoomAt self.new count at) }
         ensures fault { IfErr result (λ e. e ≡ OutOfMemory) }
         ensures succeeds { HasRoomAt self.old count at → IsOk result }
     {
-        if self.section(at.section()).is_none() {
+        let section = at.section();
+        let Err(fault) = self.reserve_chunk(section.chunk(), count) else {
+            return Ok(());
+        };
+        if self.section(section).is_none() {
             return Ok(());
         }
-        self.reserve_chunk(at.section().chunk(), count)
+        Err(fault)
     }
 
     /// Makes room for so many more entries of the chunks of some blocks, where they are loaded.
@@ -72,15 +77,37 @@ impl World {
         prepare_in(&mut self.chunks[chunk], offset, numbers)
     }
 
-    /// Makes room for numbers in the sections of some blocks, where they are loaded.
+    /// Makes room for numbers in a section, where it is loaded, unless it is one that has room for them.
+    fn prepare_other(
+        &mut self,
+        at: SectionPos,
+        ready: SectionPos,
+        numbers: &[u16],
+    ) -> Result<(), Fault>
+        requires ready { IsTrue (is_here (grid self.old ready)) → All (CanSetAt self.old ready) numbers.now }
+        ensures kept { IsKept self.old self.new }
+        ensures prepared { OnOk result (IsTrue (is_here (grid self.new at)) → All (CanSetAt self.new at) numbers.now) }
+        ensures fault { IfErr result (λ e. e ≡ OutOfMemory) }
+        ensures succeeds { (IsTrue (is_here (grid self.old at)) → All (CanSetAt self.old at) numbers.now) → IsOk result }
+    {
+        if at == ready {
+            return Ok(());
+        }
+        self.prepare_section(at, numbers)
+    }
+
+    /// Makes room for numbers in the sections of some blocks, where they are loaded. Most are that of the first block.
     fn prepare_all(&mut self, at: &[Pos], numbers: &[u16]) -> Result<(), Fault>
+        requires { 0 < length at.now }
         ensures kept { IsKept self.old self.new }
         ensures prepared { OnOk result (All (CanSetAll self.new numbers.now) at.now) }
         ensures fault { IfErr result (λ e. e ≡ OutOfMemory) }
         ensures succeeds { All (CanSetAll self.old numbers.now) at.now → IsOk result }
     {
+        let first = at[0].section();
+        self.prepare_section(first, numbers)?;
         for pos in at {
-            self.prepare_section(pos.section(), numbers)?;
+            self.prepare_other(pos.section(), first, numbers)?;
         }
         Ok(())
     }
@@ -96,7 +123,8 @@ impl World {
             → All (CanSetAll self.old (0 ∷ 1 ∷ 2 ∷ 3 ∷ 4 ∷ 5 ∷ 6 ∷ 7 ∷ 8 ∷ 9 ∷ [])) (turned pos) → IsOk result }
     {
         let corners = corners(pos);
-        self.look_near(&corners);
+        // The lower corners are in the chunks of the upper ones.
+        self.look_near(&corners[..4]);
         self.reserve_all(&corners, 42)?;
         self.prepare_all(&turned(pos), &[0, 1, 2, 3, 4, 5, 6, 7, 8, 9])
     }
@@ -110,7 +138,9 @@ impl World {
         ensures fault { IfErr result (λ e. e ≡ OutOfMemory) }
         ensures succeeds { All (HasRoomAt self.old 7) (around pos) → CanSetAll self.old (number ∷ []) pos → IsOk result }
     {
-        self.reserve_all(&around(pos), 7)?;
+        let around = around(pos);
+        self.look_near(&around);
+        self.reserve_all(&around, 7)?;
         self.prepare_section(pos.section(), &[number])
     }
 }

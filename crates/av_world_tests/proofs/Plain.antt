@@ -1,5 +1,5 @@
 -- Flat chunks, and worlds of air, water and stone.
-use Rattle.std.proofs.Common.{◌≡◌, ℕ, zero, suc, ◌<◌, ◌≤◌, ◌==◌, ℤ, Bool, true, false, cond, IsTrue, is_some, List, [], ◌∷◌, length, get_or, Option, Some, None, refl, sym, ap, subst, ◌∙◌, All, arith, true≢false}
+use Rattle.std.proofs.Common.{◌≡◌, ℕ, zero, suc, ◌<◌, ◌≤◌, ◌==◌, ℤ, Bool, true, false, cond, IsTrue, is_some, List, [], ◌∷◌, get_or, Option, Some, None, refl, sym, ap, subst, ◌∙◌, All, arith, true≢false}
 use Rattle.std.proofs.lemmas.List.Elements.{All-tail, All-weaker}
 use Rattle.av_types.specs.Places.{chunk_of, section_of, place_of, is_section_of}
 use Rattle.av_types.specs.declared.place.Pos.{Pos}

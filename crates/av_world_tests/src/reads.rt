@@ -11,11 +11,7 @@ const BLOCKS: u32 = 196608;
 
 /// The number of a block, if it is loaded.
 pub fn number_at<C: Cells>(cells: &C, pos: Pos) -> Option<u16> {
-    if cells.loaded(pos) {
-        Some(cells.number(pos))
-    } else {
-        None
-    }
+    cells.number_at(pos)
 }
 
 /// The blocks of the chunks (0, 0) and (1, 0), by y, z and x.

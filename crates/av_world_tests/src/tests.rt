@@ -241,6 +241,8 @@ fn a_section_that_is_out_is_not_loaded(rt: HostRuntime) -> Result<(), Fail> {
     ] {
         assert_eq!(rt; world.loaded(pos), !out);
         assert_eq!(rt; parcel.loaded(pos), out);
+        assert_eq!(rt; number_at(&world, pos).is_some(), !out);
+        assert_eq!(rt; number_at(&parcel, pos).is_some(), out);
     }
     assert!(rt; !world.pending(inside.pos));
     assert!(rt; parcel.pending(inside.pos));

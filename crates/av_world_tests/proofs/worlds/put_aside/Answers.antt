@@ -1,5 +1,4 @@
 use Rattle.std.proofs.Common.{◌∙◌, ap, sym}
-use Rattle.av_types.specs.declared.place.Pos.{Pos}
 use Rattle.av_cells.specs.World as cells
 use Rattle.av_world.specs.ParcelViews.{blocks, lists}
 use Rattle.av_world_tests.proofs.Staying.{stays_by_add}

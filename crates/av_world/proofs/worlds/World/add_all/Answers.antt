@@ -14,14 +14,14 @@ use Rattle.av_world.proofs.worlds.World.add_all.Goals as goal
 abbrev zero_made : Made
 zero_made = record { maker = 0; number = 0; entry = record { pos = record { x = pos 0; y = pos 0; z = pos 0 }; due = pos 0; priority = pos 0 } }
 
-pub add_new-requires-clause-loaded : goal.add_new-requires-clause-loaded
-add_new-requires-clause-loaded c =
+pub add_near-requires-clause-loaded : goal.add_near-requires-clause-loaded
+add_near-requires-clause-loaded c =
     let ms = c.args.made.now in let i = c.loop-one.one-index in let old = c.loop-one.self in
     let can = subst (CanAppend (blocks old)) (next_made ms i zero_made c.loop-one-test.true) c.loop-one.invariant.new in
     can.0
 
-pub add_new-requires-clause-room : goal.add_new-requires-clause-room
-add_new-requires-clause-room c =
+pub add_near-requires-clause-room : goal.add_near-requires-clause-room
+add_near-requires-clause-room c =
     let ms = c.args.made.now in let i = c.loop-one.one-index in let old = c.loop-one.self in let e = (get_or ms i zero_made).entry in
     let here = next_made ms i zero_made c.loop-one-test.true in
     let can = subst (CanAppend (blocks old)) here c.loop-one.invariant.new in
@@ -29,29 +29,29 @@ add_new-requires-clause-room c =
     let one = own_counts (chunk_of e.pos) (count_in (chunk_of e.pos) (entries_made (drop (i + 1) ms))) in
     omega (arith, has, one)
 
-pub add_new-requires-clause-new : goal.add_new-requires-clause-new
-add_new-requires-clause-new c =
+pub add_near-requires-clause-new : goal.add_near-requires-clause-new
+add_near-requires-clause-new c =
     let ms = c.args.made.now in let i = c.loop-one.one-index in let old = c.loop-one.self in
     let can = subst (CanAppend (blocks old)) (next_made ms i zero_made c.loop-one-test.true) c.loop-one.invariant.new in
     can.1
 
 pub loop-one-preserved : goal.loop-one-preserved
 loop-one-preserved c =
-    let ms = c.args.made.now in let i = c.loop-one.one-index in let old = c.loop-one.self in let new = c.add_new.new.self in let e = (get_or ms i zero_made).entry in
+    let ms = c.args.made.now in let i = c.loop-one.one-index in let old = c.loop-one.self in let new = c.add_near.new.self in let e = (get_or ms i zero_made).entry in
     let rest = entries_made (drop (i + 1) ms) in
     let here = next_made ms i zero_made c.loop-one-test.true in
     let can = subst (CanAppend (blocks old)) here c.loop-one.invariant.new in
-    let changed : blocks new ≡ with_entry_if true (blocks old) e = c.add_new.ensures.changed in
+    let changed : blocks new ≡ with_entry_if true (blocks old) e = c.add_near.ensures.changed in
     record {
       new = subst (λ (w : cells.World). CanAppend w rest) (sym changed) can.2;
       room = λ p t.
           let was = subst (λ (w : cells.World). IsTrue (w.loaded p)) changed t in
           let has = subst (λ (es : List Entry). count_in (chunk_of p) es ≤ room old (chunk_of p)) here (c.loop-one.invariant.room p was) in
-          let less = c.add_new.ensures.room (chunk_of p) in
+          let less = c.add_near.ensures.room (chunk_of p) in
           omega (arith, has, less);
       blocks_are = ap (λ (w : cells.World). entered_all w rest) changed ∙ (sym (ap (entered_all (blocks old)) here) ∙ c.loop-one.invariant.blocks_are);
-      lists_are = ap (λ l. listed_all l rest) c.add_new.ensures.lists ∙ (sym (ap (listed_all (lists old)) here) ∙ c.loop-one.invariant.lists_are);
-      site_is = c.add_new.ensures.site ∙ c.loop-one.invariant.site_is;
+      lists_are = ap (λ l. listed_all l rest) c.add_near.ensures.lists ∙ (sym (ap (listed_all (lists old)) here) ∙ c.loop-one.invariant.lists_are);
+      site_is = c.add_near.ensures.site ∙ c.loop-one.invariant.site_is;
     }
 
 pub returns-clause-blocks : goal.returns-clause-blocks

@@ -15,10 +15,10 @@ zero_made = record { maker = 0; number = 0; entry = record { pos = record { x = 
 
 pub count_one-requires : goal.count_one-requires
 count_one-requires c =
-    let ms = c.args.made.now in let i = c.loop-one.one-index in let ps = positions_of c.args.self.now in let k = c.slot_of-index.result in
+    let ms = c.args.made.now in let i = c.loop-one.one-index in let ps = positions_of c.args.self.now in let k = c.slot_from-index.result in
     let e = (get_or ms i zero_made).entry in let rest = entries_made (drop (i + 1) ms) in
     let here = next_made ms i zero_made c.loop-one-test.true in
-    let is : k ≡ slot ps (chunk_of e.pos) = c.slot_of-index.ensures ∙ ap (λ s. slot ps (chunk_of_section s)) c.section.ensures in
+    let is : k ≡ slot ps (chunk_of e.pos) = c.slot_from-index.ensures ∙ ap (λ s. slot ps (chunk_of_section s)) c.section.ensures in
     let one = index_counts (slot ps (chunk_of e.pos)) k (count_at ps k rest) (sym is) in
     let most : count_at ps k (entries_made ms) ≤ length ms = count_at_most ps k ms in
     λ below.
@@ -36,10 +36,10 @@ loop-one-init c =
 
 pub loop-one-preserved : goal.loop-one-preserved
 loop-one-preserved c =
-    let ms = c.args.made.now in let i = c.loop-one.one-index in let ps = positions_of c.args.self.now in let j = c.slot_of-index.result in
+    let ms = c.args.made.now in let i = c.loop-one.one-index in let ps = positions_of c.args.self.now in let j = c.slot_from-index.result in
     let e = (get_or ms i zero_made).entry in let rest = entries_made (drop (i + 1) ms) in
     let here = next_made ms i zero_made c.loop-one-test.true in
-    let is : j ≡ slot ps (chunk_of e.pos) = c.slot_of-index.ensures ∙ ap (λ s. slot ps (chunk_of_section s)) c.section.ensures in
+    let is : j ≡ slot ps (chunk_of e.pos) = c.slot_from-index.ensures ∙ ap (λ s. slot ps (chunk_of_section s)) c.section.ensures in
     record {
       count = c.count_one.ensures.count ∙ c.loop-one.invariant.count;
       each = λ k below.

@@ -6,7 +6,7 @@ use Rattle.av_cells.specs.Grid.{is_here}
 use Rattle.av_cells.specs.Positions.{around}
 use Rattle.av_world.specs.Views.{grid, CanSetAt}
 use Rattle.av_world.specs.Turned.{HasRoomAt}
-use Rattle.av_world.proofs.Steps.{not_refused, numbers_last, room_lasts, in_ok, on_ok}
+use Rattle.av_world.proofs.Steps.{not_refused, IsKept-trans, numbers_last, room_lasts, in_ok, on_ok}
 use Rattle.av_world.proofs.worlds.World.prepare_one.Goals as goal
 
 pub returns-clause-room : goal.returns-clause-room
@@ -14,7 +14,7 @@ returns-clause-room c =
     let old = c.reserve_all.new.self in let new = c.prepare_section.new.self in
     in_ok c.prepare_section.result _
     (All-weaker (HasRoomAt old 7) (HasRoomAt new 7) (λ p h. room_lasts old new 7 p c.prepare_section.ensures.kept h) (around c.args.pos)
-    (subst (λ (xs : List Pos). All (HasRoomAt old 7) xs) c.around.ensures c.in_ok-reserve_all.ensures.room))
+    (subst (λ (xs : List Pos). All (HasRoomAt old 7) xs) c.around-around.ensures c.in_ok-reserve_all.ensures.room))
 
 pub returns-clause-prepared : goal.returns-clause-prepared
 returns-clause-prepared c =
@@ -24,13 +24,16 @@ returns-clause-prepared c =
 
 pub returns-in_err-reserve_all-clause-succeeds : goal.returns-in_err-reserve_all-clause-succeeds
 returns-in_err-reserve_all-clause-succeeds c =
-    let w = c.args.self.now in
+    let w = c.args.self.now in let mid = c.look_near.new.self in
     λ room numbers. not_refused c.reserve_all.result _ _ c.in_err-reserve_all.was
-    (c.reserve_all.ensures.succeeds (subst (λ (xs : List Pos). All (HasRoomAt w 7) xs) (sym c.around.ensures) room))
+    (c.reserve_all.ensures.succeeds
+    (subst (λ (xs : List Pos). All (HasRoomAt mid 7) xs) (sym c.around-around.ensures)
+    (All-weaker (HasRoomAt w 7) (HasRoomAt mid 7) (λ p h. room_lasts w mid 7 p c.look_near.ensures h) (around c.args.pos) room)))
 
 pub returns-clause-succeeds : goal.returns-clause-succeeds
 returns-clause-succeeds c =
-    let w = c.args.self.now in let old = c.reserve_all.new.self in let ns : List ℕ = c.args.number ∷ [] in
+    let w = c.args.self.now in let mid = c.look_near.new.self in let old = c.reserve_all.new.self in let ns : List ℕ = c.args.number ∷ [] in
+    let kept = IsKept-trans w mid old c.look_near.ensures c.reserve_all.ensures.kept in
     λ room numbers. c.prepare_section.ensures.succeeds
     (subst (λ (s : SectionPos). IsTrue (is_here (grid old s)) → All (CanSetAt old s) ns) (sym c.section.ensures)
-    (numbers_last w old ns c.args.pos c.reserve_all.ensures.kept numbers))
+    (numbers_last w old ns c.args.pos kept numbers))

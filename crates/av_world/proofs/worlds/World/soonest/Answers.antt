@@ -8,15 +8,15 @@ use Rattle.av_world.proofs.worlds.World.soonest.Goals as goal
 
 pub loop-chunk-preserved : goal.loop-chunk-preserved
 loop-chunk-preserved c =
-    let r = c.soonest_in-soonest.result in
+    let r = c.soonest_of-soonest.result in
     let value = c.deref-chunk-items.ensures.value in
     let long = ap length value in
     let is : c.chunk-item.result ≡ get_or c.args.self.now.chunks.items c.loop-chunk.chunk-index c.chunk-item.result = c.chunk-item.is ∙ ap (λ (xs : List Chunk). get_or xs c.loop-chunk.chunk-index c.chunk-item.result) value in
     let below : c.loop-chunk.chunk-index < length c.args.self.now.chunks.items = omega (arith, c.loop-chunk-test.true, long) in
     let lists : Chunk → List Entry = λ (x : Chunk). entries x.ticks in
     record {
-      none = at_least_flat lists r c.loop-chunk.soonest c.args.self.now.chunks.items c.loop-chunk.chunk-index c.chunk-item.result below c.soonest_in-soonest.ensures.low
-          (sym (ap (λ (x : Chunk). at_least r (entries x.ticks)) is) ∙ (ap (at_least r) (sym c.as_slice.ensures) ∙ c.soonest_in-soonest.ensures.none)) c.loop-chunk.invariant.none;
+      none = at_least_flat lists r c.loop-chunk.soonest c.args.self.now.chunks.items c.loop-chunk.chunk-index c.chunk-item.result below c.soonest_of-soonest.ensures.low
+          (sym (ap (λ (x : Chunk). at_least r (entries x.ticks)) is) ∙ c.soonest_of-soonest.ensures.none) c.loop-chunk.invariant.none;
       reached = reached_flat lists 18446744073709551615 c.loop-chunk.soonest r c.args.self.now.chunks.items c.loop-chunk.chunk-index c.chunk-item.result below
-          (sym (ap (λ (x : Chunk). nat_eq r c.loop-chunk.soonest || is_reached r (entries x.ticks)) is) ∙ (ap (λ es. nat_eq r c.loop-chunk.soonest || is_reached r es) (sym c.as_slice.ensures) ∙ c.soonest_in-soonest.ensures.reached)) c.loop-chunk.invariant.reached;
+          (sym (ap (λ (x : Chunk). nat_eq r c.loop-chunk.soonest || is_reached r (entries x.ticks)) is) ∙ c.soonest_of-soonest.ensures.reached) c.loop-chunk.invariant.reached;
     }
