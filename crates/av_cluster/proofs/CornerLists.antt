@@ -12,7 +12,7 @@ use Rattle.av_cells.specs.Grid.{Grid, is_here, cells_of}
 use Rattle.av_play.specs.Parts.{InTerritory}
 use Rattle.av_play.specs.Corners.{corner}
 use Rattle.av_play.proofs.Lists.{none_contained}
-use Rattle.av_cluster.specs.Territory.{is_new, one_if, at_corner, at_column, at_side, territory_list, corner_if, column_if, side_if, corner_list, sections_there}
+use Rattle.av_cluster.specs.Territory.{is_new, one_if, at_column, at_side, territory_list, corner_if, column_if, side_if, corner_list, sections_there}
 use Rattle.av_cluster.specs.Joining.{Owners, Touches, IsTouchedIf, IsNoted, IsBefore}
 use Rattle.av_cluster.proofs.Sides.{territory_exact}
 use Rattle.av_cluster.proofs.Joinings.{IsWithin, within_more, within_all, taken_more, taken_all}

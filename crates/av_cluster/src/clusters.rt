@@ -10,7 +10,7 @@ ghost use Rattle.av_cluster.specs.Forest.{first, IsFalling, AreSame};
 ghost use Rattle.av_cluster.specs.Gathering.{IsGathered, AreAlone};
 ghost use Rattle.av_cluster.specs.Clusters.{parts_of, sections_of, IsGiven, AreBare, AreShared, AreOnce, ArePlanned};
 ghost use Rattle.av_types.specs.declared.place.SectionPos.{SectionPos};
-ghost use Rattle.av_types.specs.Places.{section_of};
+ghost use Rattle.av_types.specs.Places.{section_of, is_section_of};
 ghost use Rattle.av_cluster.specs.Joining.{key_of, owner_in, IsTouchedIf, IsNoted, IsBefore, Touches};
 
 use crate::cluster_part::Cluster;
@@ -18,7 +18,7 @@ use crate::forest::{find, join};
 use crate::territories::corners;
 use av_cells::Cells;
 use av_play::Placed;
-use av_types::{Entry, Fault, Pos, SectionPos};
+use av_types::{Entry, Fault, Height, Pos, SectionPos};
 use av_world::World;
 use indexmap::IndexMap;
 use std::alloc::Global;
@@ -36,8 +36,15 @@ fn key(section: SectionPos) -> (i32, i32, i32)
     (section.x, section.y, section.z)
 }
 
-/// Notes that the entry at a place touches the section of a block of its reach, where that is loaded. A section with an
-/// owner is loaded, and only one without is asked for.
+/// Whether a section's number is in the height.
+fn is_high(height: Height, section: SectionPos) -> bool
+    ensures { result ≡ is_section_of height section.y }
+{
+    height.min_section <= section.y && section.y < height.min_section + height.sections as i32
+}
+
+/// Notes that the entry at a place touches the section of a block of its reach, where that is loaded. One out of the
+/// height is not. A section with an owner is loaded, and only one without is asked for.
 fn touch(
     world: &World,
     owners: &mut Owners,
@@ -53,6 +60,9 @@ fn touch(
     ensures fault { IfErr result (λ e. e ≡ OutOfMemory) }
 {
     let section = block.section();
+    if !is_high(world.height(), section) {
+        return Ok(());
+    }
     if let Some(owner) = owners.get(&key(section)) {
         let owner = *owner;
         join(parents, owner, place);

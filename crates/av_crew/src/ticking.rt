@@ -42,7 +42,7 @@ pub fn turn_parts<R: Threads + Wait + Sync, G: Gate + Sync>(
     ensures fault { IfErr result (λ e. e ≡ OutOfMemory) }
 {
     let alloc = *clusters.allocator();
-    let mut jobs = Vec::new(alloc);
+    let mut jobs = Vec::with_capacity(alloc, clusters.len())?;
     carve_all(world, clusters, &mut jobs)?;
     let dones = work_all(rt, jobs, kinds, now, workers, gate)?;
     let mut made = Vec::with_capacity(alloc, dones.len())?;

@@ -6,6 +6,7 @@ pub mod crews;
 mod drawn_tests;
 #[cfg(test)]
 mod gate_tests;
-pub mod gates;
+#[cfg(test)]
+mod gates;
 #[cfg(test)]
 mod tests;

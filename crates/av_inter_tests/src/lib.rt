@@ -1,11 +1,13 @@
 //! Ticks in parts, for the tests of plans and of the machine, which cross crates.
 #![tactic(auto)]
 
-pub mod drawn;
+#[cfg(test)]
+mod drawn;
 #[cfg(test)]
 mod drawn_tests;
 #[cfg(test)]
 mod machine_tests;
-pub mod parts;
+#[cfg(test)]
+mod parts;
 #[cfg(test)]
 mod plan_tests;

@@ -5,4 +5,5 @@
 mod sweeps;
 #[cfg(test)]
 mod tests;
-pub mod worlds;
+#[cfg(test)]
+mod worlds;

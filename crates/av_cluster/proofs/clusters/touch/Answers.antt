@@ -1,5 +1,11 @@
-use Rattle.std.proofs.Common.{◌≡◌, ◌∙◌, Some, sym, ap, subst, refl, inl, inr}
-use Rattle.av_types.specs.Places.{section_of}
+use Rattle.std.proofs.Common.{◌≡◌, ◌∙◌, Some, true, false, Bool, sym, ap, subst, refl, inl, inr, true≢false}
+use Rattle.av_types.specs.Places.{section_of, is_section_of}
+use Rattle.av_types.specs.declared.place.Height.{Height}
+use Rattle.av_types.specs.declared.place.SectionPos.{SectionPos}
+use Rattle.av_cells.specs.Grid.{is_here}
+use Rattle.av_world.specs.declared.worlds.World.{World}
+use Rattle.av_world.specs.Near.{has_place}
+use Rattle.av_world.specs.Views.{grid}
 use Rattle.av_cluster.specs.Joining.{key_of, owner_in, IsTouchedIf}
 use Rattle.av_cluster.proofs.clusters.touch.Goals as goal
 
@@ -29,3 +35,14 @@ returns-clause-ok c =
         λ t. (rw (c.key-2.ensures ∙ ap key_of c.section-section.ensures) at c.in_ok-insert.ensures.updates).0 (key_of t),
       );
     })
+
+not_here : (w : World) (s : SectionPos) → is_section_of w.height s.y ≡ false → (b : Bool) → is_here (grid w s) ≡ b → b ≡ false
+not_here w s low true e = absurd (true≢false (sym (has_place w.height w.positions.items w.chunks.items w.lawful.parallel s e).high ∙ low))
+not_here w s low false e = refl
+
+pub returns-then-not-is_high-clause-ok : goal.returns-then-not-is_high-clause-ok
+returns-then-not-is_high-clause-ok c =
+    let w = c.args.world.now in let s = section_of c.args.block in
+    let asked : c.is_high.result ≡ is_section_of w.height s.y = c.is_high.ensures ∙ (ap (λ (h : Height). is_section_of h c.section-section.result.y) c.height.ensures ∙ ap (λ (t : SectionPos). is_section_of w.height t.y) c.section-section.ensures) in
+    let out : is_here (grid w s) ≡ false = not_here w s (sym asked ∙ c.if-not-is_high.true) (is_here (grid w s)) refl in
+    subst (λ b. IsTouchedIf b c.args.parents.now c.args.parents.now (owner_in c.args.owners.now.entries) (owner_in c.args.owners.now.entries) s c.args.place) (sym out) (refl, refl)

@@ -1,6 +1,6 @@
 use Rattle.std.proofs.Common.{arith, ◌∙◌}
 use Rattle.av_world.specs.Near.{cells_near}
-use Rattle.av_world.specs.Views.{blocks, grid}
+use Rattle.av_world.specs.Views.{grid}
 use Rattle.av_cluster.proofs.Joinings.{within_none, taken_more, owner_inside}
 use Rattle.av_cluster.proofs.CornerLists.{corner_noted, corners_noted, item_of, owned_is_there}
 use Rattle.av_cluster.proofs.clusters.touch_all.Goals as goal

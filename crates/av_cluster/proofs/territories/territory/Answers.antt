@@ -1,14 +1,12 @@
-use Rattle.std.proofs.Common.{◌≡◌, ◌∙◌, sym, ap, subst, arith, take, length, ◌++◌, ◌↔◌}
+use Rattle.std.proofs.Common.{◌≡◌, ◌∙◌, sym, ap, subst, arith, length, ◌↔◌}
 use Rattle.std.specs.List.{Contains}
 use Rattle.av_world.specs.Near.{cells_near}
 use Rattle.av_world.specs.Views.{blocks, grid}
-use Rattle.av_types.specs.Places.{section_of}
-use Rattle.av_cells.specs.Grid.{is_here}
 use Rattle.av_play.specs.Parts.{InTerritory}
-use Rattle.av_cluster.specs.Territory.{IsRising, territory_list, sections_there, one_if}
+use Rattle.av_cluster.specs.Territory.{IsRising, territory_list, sections_there}
 use Rattle.av_cluster.proofs.Orders.{territory_rises}
 use Rattle.av_cluster.proofs.Sides.{territory_exact}
-use Rattle.av_cluster.proofs.Joinings.{taken_more, taken_all}
+use Rattle.av_cluster.proofs.Joinings.{taken_all}
 use Rattle.av_cluster.proofs.CornerLists.{there_more, there_list}
 use Rattle.av_cluster.proofs.territories.territory.Goals as goal
 
