@@ -1,6 +1,6 @@
 -- The headline, from what the layers answer.
-use Rattle.std.proofs.Common.{◌≡◌, ◌∙◌, ℕ, zero, suc, ◌+◌, ◌<◌, ◌≤◌, List, [], ◌∷◌, ◌++◌, length, length-append, take, min, Bool, true, false, cond, Option, Some, None, refl, ap, sym, subst, arith}
-use Rattle.std.specs.Prelude.{map, slice_index_or}
+use Rattle.std.proofs.Common.{◌≡◌, ◌∙◌, ℕ, zero, suc, ◌+◌, ◌<◌, ◌≤◌, List, [], ◌∷◌, ◌++◌, length, length-append, take, min, Bool, true, false, cond, None, refl, ap, sym, subst, arith}
+use Rattle.std.specs.Prelude.{slice_index_or}
 use Rattle.std.specs.List.{AllByRecursion}
 use Rattle.av_types.specs.Places.{is_section_of}
 use Rattle.av_types.specs.declared.place.Height.{Height}
@@ -10,18 +10,16 @@ use Rattle.av_state.specs.BlockState.{BlockState, air}
 use Rattle.av_rules.specs.Rows.{BlockTable}
 use Rattle.av_cells.specs.declared.kind.Kind.{Kind}
 use Rattle.av_land.specs.Land.{Land, is_loaded}
-use Rattle.av_land.specs.Tick.{Set, set_in, turned, edited, turned_all, ticked, run_after, run, run_count, due_entries, without_due}
+use Rattle.av_land.specs.Tick.{Set, set_in, turned, edited, turned_all, run_after, run, run_count, due_entries, without_due}
 use Rattle.av_files.specs.Files.{File}
 use Rattle.av_files.specs.Denotes.{Rest, Denotes}
 use Rattle.av_files.specs.Layout.{Lights, layout, too_large}
 use Rattle.av_files.specs.Lawful.{IsLawfulLand}
-use Rattle.av_land.specs.Resumed.{shifted}
 use Rattle.av_files.specs.Light.{IsLit}
-use Rattle.av_edits.specs.Edits.{edits_of}
-use Rattle.av_files.specs.FirstFault.{AreCountsGood, IsTable, IsAccepted}
-use Rattle.av_files.specs.Run.{stated, stated_set, kinds_in, IsRun}
+use Rattle.av_files.specs.FirstFault.{AreCountsGood, IsTable}
+use Rattle.av_files.specs.Run.{stated, kinds_in}
 use Rattle.av_files.specs.Layers.{IsLoad, AreEdits}
-use Rattle.av_files.specs.Headline.{Reaches, Headline, IsTooLarge}
+use Rattle.av_files.specs.Headline.{Reaches, Headline}
 use Rattle.av_files.proofs.Layouts.{layout_is_denoted}
 use Rattle.av_files.proofs.Lawfuls.{read_is_good, read_has_ints, good_is_lawful}
 use Rattle.av_land.specs.Good.{IsSetOf}

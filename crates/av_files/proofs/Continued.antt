@@ -1,17 +1,15 @@
 -- A run over states that is stopped and resumed.
-use Rattle.std.proofs.Common.{◌≡◌, ◌∙◌, ℕ, zero, suc, ◌+◌, ◌<◌, ◌≤◌, nat_le, nat_lt, List, [], ◌∷◌, length, take, min, Bool, true, false, cond, refl, ap, sym, subst, arith}
+use Rattle.std.proofs.Common.{◌≡◌, ◌∙◌, ℕ, ◌+◌, ◌<◌, ◌≤◌, nat_le, nat_lt, List, [], ◌∷◌, length, take, min, Bool, true, false, cond, refl, ap, sym, arith}
 use Rattle.std.specs.Prelude.{map}
 use Rattle.std.specs.List.{AllByRecursion, filter}
 use Rattle.std.proofs.lemmas.List.{length-take}
 use Rattle.av_state.specs.BlockState.{BlockState}
 use Rattle.av_state.specs.StateList.{first_states}
-use Rattle.av_rules.specs.Rows.{BlockTable}
-use Rattle.av_land.specs.Land.{Land}
 use Rattle.av_land.specs.Tick.{Set, run, run_count}
 use Rattle.av_land.specs.Resumed.{shifted, early, earlier, late}
 use Rattle.av_land.proofs.Resumed.{run_resumes}
 use Rattle.av_land.proofs.Numbers.{run_below}
-use Rattle.av_files.specs.Run.{stated, stated_set, kinds_in, AreNumbered, IsRun, Continues, RunContinues}
+use Rattle.av_files.specs.Run.{stated, stated_set, kinds_in, IsRun, RunContinues}
 use Rattle.av_files.proofs.Once.{one_run}
 
 kept_if : {X : Type 0} (P : X → Type 0) (b : Bool) (x : X) (xs : List X) → P x → AllByRecursion P xs → AllByRecursion P (cond b (x ∷ xs) xs)

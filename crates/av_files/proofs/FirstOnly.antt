@@ -1,5 +1,5 @@
 -- An input has one first fault at most.
-use Rattle.std.proofs.Common.{◌≡◌, ◌∙◌, ℕ, ◌+◌, ◌*◌, ◌<◌, ◌≤◌, ◌/◌, ◌%◌, ◌⊎◌, inl, inr, List, [], ◌∷◌, ◌++◌, length, Bool, true, false, Option, Some, None, refl, ap, sym, subst, arith}
+use Rattle.std.proofs.Common.{◌≡◌, ◌∙◌, ℕ, ◌+◌, ◌*◌, ◌<◌, ◌≤◌, ◌/◌, ◌⊎◌, inl, inr, List, [], ◌∷◌, Some, refl, ap, sym, subst, arith}
 use Rattle.std.proofs.lemmas.Option.{none-some}
 use Rattle.std.proofs.lemmas.Bool.{true≢false}
 use Rattle.av_types.specs.Faults.{fault_number}
@@ -7,11 +7,10 @@ use Rattle.av_types.specs.Places.{chunk_at}
 use Rattle.av_types.specs.declared.place.Height.{Height}
 use Rattle.av_types.specs.declared.place.ChunkPos.{ChunkPos}
 use Rattle.av_types.specs.declared.fault.Fault.{Fault}
-use Rattle.av_types.specs.declared.fault.Fault.TheVariants.{BadLocation, TruncatedChunk, BadLength, ExternalChunk, Compression, BadNbt}
+use Rattle.av_types.specs.declared.fault.Fault.TheVariants.{BadLocation, TruncatedChunk, BadLength, ExternalChunk, Compression}
 use Rattle.av_types.proofs.HeightNumbers.{height_is}
-use Rattle.av_nbt.specs.Nbt.{Document}
 use Rattle.av_nbt.specs.Spelling.{SpellsDocument}
-use Rattle.av_region.specs.Region.{IsShort, IsChunkFault, IsBadLocation, IsLocated, IsTruncated, IsWhole, IsBadLength, IsMeasured, Holds, IsAbsent, location_of, offset_of, count_of, length_of, type_of}
+use Rattle.av_region.specs.Region.{IsChunkFault, IsBadLocation, IsLocated, IsTruncated, IsWhole, IsBadLength, IsMeasured, Holds, IsAbsent, location_of, offset_of, count_of, length_of, type_of}
 use Rattle.av_state.specs.BlockState.{BlockState}
 use Rattle.av_state.specs.StateList.{first_states, with_states}
 use Rattle.av_rules.specs.Rows.{BlockTable}
@@ -21,7 +20,7 @@ use Rattle.av_files.specs.Files.{File, in_order}
 use Rattle.av_files.specs.Denotes.{Rest, Denotes}
 use Rattle.av_files.specs.Layout.{indices}
 use Rattle.av_edits.specs.Edits.{first_in_edits}
-use Rattle.av_files.specs.FirstFault.{IsPlaceFault, sectors, spelling, document, IsPlaceGood, nothing, chunk, states_read, ArePlacesGood, IsFirstOfPlaces, IsFileGood, IsFirstOfFile, header, place, AreFilesGood, IsFirstOfFiles, IsTable, AreRead, IsFilesFault, range, repeated, region, IsFirstFault, counts, rules, file, edit, IsAccepted, OneFault, OneFirstFault}
+use Rattle.av_files.specs.FirstFault.{IsPlaceFault, sectors, spelling, document, IsPlaceGood, nothing, chunk, states_read, ArePlacesGood, IsFirstOfPlaces, IsFileGood, IsFirstOfFile, header, place, AreFilesGood, IsFirstOfFiles, IsTable, AreRead, IsFilesFault, range, repeated, region, IsFirstFault, counts, rules, file, edit, IsAccepted, OneFirstFault}
 use Rattle.av_files.proofs.Unique.{same_document, some_location, denote_one}
 use Rattle.av_files.proofs.OneFault.{document_fault}
 

@@ -1,5 +1,5 @@
 -- What is read can be written, and so can what ticks lead to.
-use Rattle.std.proofs.Common.{◌≡◌, ◌∙◌, ℕ, zero, suc, ◌+◌, ◌<◌, ◌≤◌, ℤ, pos, negsuc, ◌+ℤ◌, ◌-ℤ◌, ◌*ℤ◌, ◌≤ℤ◌, ◌<ℤ◌, List, [], ◌∷◌, length, take, Bool, true, false, ◌&&◌, cond, Option, Some, None, refl, ap, sym, subst, arith}
+use Rattle.std.proofs.Common.{◌≡◌, ◌∙◌, ℕ, zero, suc, ◌<◌, ℤ, pos, negsuc, ◌+ℤ◌, ◌-ℤ◌, ◌≤ℤ◌, ◌<ℤ◌, List, [], ◌∷◌, length, take, Bool, true, false, ◌&&◌, Some, refl, ap, sym, subst, arith}
 use Rattle.std.specs.Int.{w32}
 use Rattle.std.specs.Int.RustNames.{FitsSigned}
 use Rattle.std.specs.Prelude.{map, option_map, ◌||◌, slice_get, slice_index_or, int_le, int_lt}
@@ -8,7 +8,7 @@ use Rattle.std.specs.Ordering.{int_eq}
 use Rattle.std.proofs.lemmas.Int.{ints}
 use Rattle.std.proofs.lemmas.Bool.{and_parts, and_from, true≢false, false≢true}
 use Rattle.std.proofs.lemmas.Bool.Decides.{Decides-int_eq}
-use Rattle.std.proofs.lemmas.Option.{none-some, slice_get-map}
+use Rattle.std.proofs.lemmas.Option.{slice_get-map}
 use Rattle.av_types.specs.Division.{divided}
 use Rattle.av_types.specs.Places.{chunk_of, region_of, index_of, chunk_at, is_block_of, is_section_of, IsInLimits}
 use Rattle.av_types.specs.declared.place.Pos.{Pos}
@@ -18,18 +18,15 @@ use Rattle.av_types.specs.declared.place.Height.{Height}
 use Rattle.av_types.specs.declared.tick.Entry.{Entry}
 use Rattle.av_types.proofs.Coordinates.{index_less, chunk_back}
 use Rattle.av_types.proofs.SamePlaces.{same_chunk_is}
-use Rattle.av_nbt.specs.Writing.{IsWellFormed}
-use Rattle.av_state.specs.BlockState.{BlockState, air, meant, is_storable}
+use Rattle.av_state.specs.BlockState.{BlockState, air, meant}
 use Rattle.av_state.specs.StateList.{IsStateList, first_states}
 use Rattle.av_cells.specs.Positions.{same_chunk}
 use Rattle.av_ticks.specs.Entries.{are_apart}
 use Rattle.av_document.specs.Ticks.{lies_in}
-use Rattle.av_document.specs.Chunk.{DenotesChunk}
 use Rattle.av_document.specs.Law.{IsMeant, IsLawful, HasInts}
 use Rattle.av_document.proofs.Lawful.{read_is_lawful}
 use Rattle.av_document.proofs.Ints.{ints_read, less_nothing}
 use Rattle.av_land.specs.Land.{Land, has_chunk, is_loaded}
-use Rattle.av_land.specs.Good as good
 use Rattle.av_land.specs.Good.{Good, IsEntryOf, IsTimely}
 use Rattle.av_files.specs.Files.{File, in_order, region_order, same_region}
 use Rattle.av_files.specs.Denotes.{Rest, IsSlot, absent, kept, full, DenotesFile, Denotes}

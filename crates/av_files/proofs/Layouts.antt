@@ -1,24 +1,23 @@
 -- Files that are written.
-use Rattle.std.proofs.Common.{◌≡◌, ◌∙◌, ℕ, ◌<◌, ◌≤◌, ◌^◌, List, [], ◌∷◌, length, Bool, true, false, cond, Option, Some, None, get_or, refl, ap, sym, subst, arith}
-use Rattle.std.specs.Prelude.{map, option_map, slice_get}
-use Rattle.std.specs.List.{AllByRecursion, All, range_with_len}
+use Rattle.std.proofs.Common.{◌≡◌, ◌∙◌, ℕ, ◌<◌, ◌^◌, List, [], ◌∷◌, true, Option, Some, None, refl, ap, sym, subst, arith}
+use Rattle.std.specs.Prelude.{map, option_map}
+use Rattle.std.specs.List.{AllByRecursion}
 use Rattle.std.proofs.lemmas.List.FromFn.{length-map-range_with_len}
 use Rattle.std.proofs.lemmas.Option.{none-some}
 use Rattle.std.proofs.lemmas.List.Elements.{All-from_recursion}
-use Rattle.av_types.specs.Places.{chunk_at, IsInLimits}
+use Rattle.av_types.specs.Places.{chunk_at}
 use Rattle.av_types.specs.declared.place.Height.{Height}
 use Rattle.av_types.specs.declared.place.ChunkPos.{ChunkPos}
 use Rattle.av_types.specs.declared.place.RegionPos.{RegionPos}
-use Rattle.av_region.specs.Region.{IsShort, stamp_of}
 use Rattle.av_region.specs.Layout.{HoldsAll, region_bytes, first_too_large}
 use Rattle.av_region.proofs.Law.{holds_all}
 use Rattle.av_state.specs.BlockState.{BlockState}
 use Rattle.av_rules.specs.Rows.{BlockTable}
 use Rattle.av_land.specs.Land.{Land, has_chunk}
 use Rattle.av_document.specs.Law.{sooner}
-use Rattle.av_files.specs.Files.{File, in_order, regions_rise, chunks_rise, region_order}
-use Rattle.av_files.specs.Denotes.{Rest, IsSlot, DenotesFile, Denotes}
-use Rattle.av_files.specs.Layout.{Lights, sources_of, payload_of, indices, payloads, stamps, file_layout, layout, first_or, too_large_in, too_large}
+use Rattle.av_files.specs.Files.{in_order, regions_rise, chunks_rise, region_order}
+use Rattle.av_files.specs.Denotes.{Rest, DenotesFile, Denotes}
+use Rattle.av_files.specs.Layout.{Lights, sources_of, payload_of, indices, payloads, stamps, file_layout, layout, first_or, too_large_in}
 use Rattle.av_files.specs.Lawful.{IsLawfulLand, AreLights}
 use Rattle.av_land.specs.Resumed.{shifted}
 use Rattle.av_files.specs.Laws.{StampsFit, LayoutDenotes}

@@ -1,5 +1,5 @@
 -- A run over states does not depend on the table that gives the numbers.
-use Rattle.std.proofs.Common.{◌≡◌, ◌∙◌, ℕ, zero, suc, ◌+◌, ◌<◌, ◌≤◌, ℤ, pos, negsuc, ◌+ℤ◌, List, [], ◌∷◌, ◌++◌, length, length-append, take, drop, Bool, true, false, cond, Option, Some, None, refl, ap, sym, subst, arith}
+use Rattle.std.proofs.Common.{◌≡◌, ◌∙◌, ℕ, zero, suc, ◌+◌, ◌<◌, pos, ◌+ℤ◌, List, [], ◌∷◌, ◌++◌, length, drop, Bool, true, false, cond, Option, Some, None, refl, ap, sym, arith}
 use Rattle.std.specs.Prelude.{map, option_map, slice_get, slice_index_or}
 use Rattle.std.specs.List.{AllByRecursion}
 use Rattle.std.proofs.lemmas.Int.{ints}
@@ -7,18 +7,16 @@ use Rattle.std.proofs.lemmas.Bool.{true≢false, false≢true}
 use Rattle.std.proofs.lemmas.Option.{slice_get_past, none-some}
 use Rattle.av_nbt.specs.Shape.{or_else}
 use Rattle.av_types.specs.declared.place.Pos.{Pos}
-use Rattle.av_types.specs.declared.place.ChunkPos.{ChunkPos}
 use Rattle.av_types.specs.declared.tick.Entry.{Entry}
 use Rattle.av_state.specs.BlockState.{BlockState, air, index_where}
 use Rattle.av_state.specs.StateList.{IsStateList, first_states, number_in, same_state}
 use Rattle.av_state.proofs.Numbering.{number_in-there, number_in-append, number_in-first, list-begins, slice_get-append, same_state-refl, first_state}
 use Rattle.av_rules.specs.Rows.{BlockTable}
-use Rattle.av_cells.specs.declared.kind.Kind.{Kind}
 use Rattle.av_land.specs.Land.{Land}
 use Rattle.av_land.specs.Tick.{Set, run, run_after, run_count, count_after}
 use Rattle.av_land.specs.Moved.{later, moved, moved_set, KeepsFirst}
 use Rattle.av_land.proofs.Runs.{run_moved, count_moved}
-use Rattle.av_files.specs.Run.{kind_or_shut, kinds_in, stated, stated_set, AreNumbered, IsRun, OneRun}
+use Rattle.av_files.specs.Run.{kind_or_shut, kinds_in, stated, stated_set, OneRun}
 
 -- the number of a state in another table, past its end for none
 abbrev place : List BlockState → Option BlockState → ℕ

@@ -1,26 +1,20 @@
 -- Of the faults of files only one is the first.
-use Rattle.std.proofs.Common.{◌≡◌, ◌∙◌, ℕ, zero, suc, ◌+◌, ◌*◌, ◌<◌, ◌≤◌, ◌/◌, ◌%◌, ◌⊎◌, inl, inr, min, List, [], ◌∷◌, ◌++◌, length, Bool, true, false, cond, Option, Some, None, refl, ap, sym, subst, arith}
+use Rattle.std.proofs.Common.{◌≡◌, ◌∙◌, ℕ, ◌≤◌, min, List, [], ◌∷◌, ◌++◌, length, Bool, true, false, cond, Option, Some, None, refl, sym, subst, arith}
 use Rattle.std.specs.List.{AllByRecursion, flat_map, list_any}
 use Rattle.std.proofs.lemmas.Option.{none-some}
 use Rattle.av_types.specs.Faults.{fault_number, least, lesser}
-use Rattle.av_types.specs.Places.{chunk_at}
 use Rattle.av_types.specs.declared.place.Height.{Height}
 use Rattle.av_types.specs.declared.place.ChunkPos.{ChunkPos}
 use Rattle.av_types.specs.declared.fault.Fault.{Fault}
-use Rattle.av_types.specs.declared.fault.Fault.TheVariants.{OutOfMemory, RegionRange, RepeatedRegion, ShortHeader, BadLocation, TruncatedChunk, BadLength, ExternalChunk, Compression, BadNbt, OldLayout, BadChunk, WrongPlace, BadPalette, BadPacked, BadTick, BadWaterLevel, TooManyStates, BadTable, BadEdit, EditTick, EditOutside, BadCount, ChunkTooLarge, Device, Broken}
-use Rattle.av_nbt.specs.Nbt.{Document, NamedTag}
+use Rattle.av_types.specs.declared.fault.Fault.TheVariants.{OldLayout, BadChunk, WrongPlace, BadPalette, BadPacked, BadTick, BadWaterLevel, TooManyStates}
+use Rattle.av_nbt.specs.Nbt.{NamedTag}
 use Rattle.av_nbt.specs.Shape.{lacks, or_else, each}
 use Rattle.av_document.specs.Ticks.{is_bad_tick}
 use Rattle.av_section.specs.Palette.{palette_of}
 use Rattle.av_state.specs.BlockState.{meant}
-use Rattle.av_region.specs.Region.{IsChunkFault, Holds, IsAbsent, location_of, length_of, count_of, offset_of, type_of}
 use Rattle.av_state.specs.BlockState.{BlockState}
-use Rattle.av_state.specs.StateList.{with_states}
-use Rattle.av_section.specs.BlockStates.{when, states_faults, indices_of}
-use Rattle.av_document.specs.Chunk.{root_tags, is_full, faults, loaded_faults, section_faults, block_faults, first_fault, is_in_height, section_number, block_states_of, sections, palette_tag_of, data_tag_of, has_level, status_of, is_bad_chunk, is_elsewhere, ticks, has_too_many}
-use Rattle.av_files.specs.Files.{File}
-use Rattle.av_files.specs.FirstFault.{IsPlaceFault, sectors, spelling, document, IsPlaceGood, nothing, chunk, states_read, ArePlacesGood, IsFirstOfPlaces}
-use Rattle.av_files.proofs.Unique.{same_document, some_location}
+use Rattle.av_section.specs.BlockStates.{when, indices_of}
+use Rattle.av_document.specs.Chunk.{is_full, faults, section_faults, block_faults, first_fault, is_in_height, section_number, block_states_of, sections, palette_tag_of, data_tag_of, has_level, status_of, is_bad_chunk, is_elsewhere, ticks, has_too_many}
 
 -- ---- a chunk's own faults are 11 to 18
 

@@ -1,15 +1,10 @@
 -- The same files are written.
-use Rattle.std.proofs.Common.{◌≡◌, ◌∙◌, ℕ, zero, suc, ◌+◌, ◌-◌, ◌*◌, ◌<◌, ◌≤◌, ◌/◌, ◌%◌, ℤ, pos, ◌+ℤ◌, ◌-ℤ◌, ◌*ℤ◌, List, [], ◌∷◌, ◌++◌, Bool, true, false, ◌&&◌, ◌||◌, cond, Option, Some, None, refl, ap, sym, subst, arith}
-use Rattle.std.specs.Prelude.{map, codes, negsuc, max, ◌⊎◌}
-use Rattle.std.proofs.Common.{inl, inr}
+use Rattle.std.proofs.Common.{◌≡◌, ◌∙◌, ℕ, zero, suc, ◌+◌, ◌<◌, ℤ, pos, ◌-ℤ◌, List, [], ◌∷◌, ◌++◌, Bool, true, false, ◌||◌, cond, Option, Some, refl, ap, sym, subst, arith}
+use Rattle.std.specs.Prelude.{map, codes}
 use Rattle.av_land.specs.Tick.{Set}
 use Rattle.std.specs.List.{AllByRecursion, list_any, range_with_len}
-use Rattle.std.specs.Ordering.{int_eq}
 use Rattle.std.proofs.lemmas.Int.{ints}
-use Rattle.std.proofs.lemmas.Bool.{and_from}
-use Rattle.std.proofs.lemmas.Bool.Decides.{Decides-int_eq}
-use Rattle.av_types.specs.Division.{divided}
-use Rattle.av_types.specs.Places.{chunk_at, region_of, is_section_of}
+use Rattle.av_types.specs.Places.{chunk_at, is_section_of}
 use Rattle.av_types.specs.declared.place.Pos.{Pos}
 use Rattle.av_types.specs.declared.place.ChunkPos.{ChunkPos}
 use Rattle.av_types.specs.declared.place.RegionPos.{RegionPos}
@@ -22,19 +17,19 @@ use Rattle.av_nbt.specs.Place.{place}
 use Rattle.av_nbt.specs.Writing.{written_document}
 use Rattle.av_region.specs.Layout.{region_bytes}
 use Rattle.av_state.specs.BlockState.{BlockState}
-use Rattle.av_rules.specs.Rows.{BlockTable, row_of}
+use Rattle.av_rules.specs.Rows.{BlockTable}
 use Rattle.av_document.specs.Chunk.{Rest as ChunkRest}
 use Rattle.av_document.specs.Law.{IsSameChunk}
-use Rattle.av_document.specs.Layout.{chunk_layout, section_at, section_layout, section_numbers, all_of, kept_section, compounds, ticks_layout, entry_layout, fluid_name, block_at}
+use Rattle.av_document.specs.Layout.{chunk_layout, section_at, section_layout, section_numbers, all_of, compounds, entry_layout, fluid_name, block_at}
 use Rattle.av_land.specs.Land.{Land, has_chunk}
 use Rattle.av_land.specs.Resumed.{sooner, shifted, early, late}
-use Rattle.av_files.specs.Files.{File, same_region}
-use Rattle.av_files.specs.Denotes.{Rest, Denotes}
-use Rattle.av_files.specs.Layout.{Lights, sources_of, chunk_bytes, payload_of, indices, payloads, stamps, file_layout, layout}
+use Rattle.av_files.specs.Files.{same_region}
+use Rattle.av_files.specs.Denotes.{Rest}
+use Rattle.av_files.specs.Layout.{Lights, sources_of, chunk_bytes, payload_of, file_layout, layout}
 use Rattle.av_files.specs.Light.{IsLit}
 use Rattle.av_files.specs.Laws.{SameRest}
-use Rattle.av_files.specs.Run.{IsRun, stated, kinds_in}
-use Rattle.av_files.specs.Resumption.{AreRuns, SameFiles, FilesResume}
+use Rattle.av_files.specs.Run.{IsRun, kinds_in}
+use Rattle.av_files.specs.Resumption.{FilesResume}
 use Rattle.av_files.proofs.Composed.{run_stays}
 use Rattle.av_files.proofs.Continued.{run_continues}
 use Rattle.av_files.proofs.SameLight.{same_light}

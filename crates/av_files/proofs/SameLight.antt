@@ -1,8 +1,8 @@
 -- The light of a world is one.
-use Rattle.std.proofs.Common.{◌≡◌, ◌∙◌, ℕ, zero, suc, ◌+◌, ◌-◌, ◌*◌, ◌<◌, ◌≤◌, ◌/◌, ◌%◌, ◌==◌, ◌⊎◌, inl, inr, ℤ, pos, ◌*ℤ◌, ◌+ℤ◌, List, [], ◌∷◌, length, get_or, Bool, true, false, ◌&&◌, cond, refl, ap, sym, subst, arith}
+use Rattle.std.proofs.Common.{◌≡◌, ◌∙◌, ℕ, suc, ◌+◌, ◌*◌, ◌<◌, ◌≤◌, ◌/◌, ◌%◌, ◌==◌, ◌⊎◌, inl, inr, ℤ, List, [], ◌∷◌, length, true, cond, refl, ap, sym, arith}
 use Rattle.std.specs.Prelude.{slice_index}
 use Rattle.std.proofs.lemmas.Bool.{and_from}
-use Rattle.av_types.specs.Division.{divided, remainder}
+use Rattle.av_types.specs.Division.{divided}
 use Rattle.av_types.specs.Places.{chunk_of, place_of, is_section_of}
 use Rattle.av_types.specs.declared.place.Pos.{Pos}
 use Rattle.av_types.specs.declared.place.ChunkPos.{ChunkPos}
@@ -10,7 +10,7 @@ use Rattle.av_pack.specs.Nibbles.{nibble_at}
 use Rattle.av_state.specs.BlockState.{BlockState}
 use Rattle.av_rules.specs.Rows.{BlockTable}
 use Rattle.av_document.specs.Layout.{block_at}
-use Rattle.av_document.proofs.Positions.{coordinate, divided-coordinate, remainder-coordinate, place-parts}
+use Rattle.av_document.proofs.Positions.{divided-coordinate, remainder-coordinate, place-parts}
 use Rattle.av_land.specs.Land.{Land, has_chunk, is_loaded}
 use Rattle.av_files.specs.Layout.{Lights}
 use Rattle.av_flood.specs.Light.{Terrain, IsLight, HasLight}

@@ -1,19 +1,16 @@
 -- One place of a file that is written.
-use Rattle.std.proofs.Common.{◌≡◌, ◌∙◌, ℕ, suc, ◌+◌, ◌-◌, ◌*◌, ◌<◌, ◌≤◌, ◌/◌, ◌%◌, ℤ, List, [], ◌∷◌, length, take, drop, min, Bool, true, false, cond, Option, Some, None, get_or, refl, ap, sym, subst, arith}
+use Rattle.std.proofs.Common.{◌≡◌, ◌∙◌, ℕ, ◌+◌, ◌-◌, ◌*◌, ◌<◌, ◌≤◌, ◌%◌, List, length, drop, true, false, cond, Some, None, get_or, ap, arith}
 use Rattle.std.specs.Prelude.{map, slice_get, slice_range, option_map}
 use Rattle.std.specs.List.{range_with_len}
 use Rattle.std.proofs.lemmas.Option.{slice_get-map, slice_get-get_or}
 use Rattle.std.proofs.lemmas.List.{length-take}
 use Rattle.std.proofs.lemmas.List.FromFn.{length-range_with_len, get_or-range_with_len}
 use Rattle.av_types.specs.Places.{chunk_at}
-use Rattle.av_types.specs.declared.place.Height.{Height}
-use Rattle.av_types.specs.declared.place.ChunkPos.{ChunkPos}
 use Rattle.av_types.specs.declared.place.RegionPos.{RegionPos}
-use Rattle.av_region.specs.Region.{Holds, IsAbsent, start_of, end_of, length_of, count_of, location_of}
-use Rattle.av_region.specs.Layout.{HoldsAll, region_bytes}
+use Rattle.av_region.specs.Region.{Holds, start_of, end_of, length_of, location_of}
+use Rattle.av_region.specs.Layout.{HoldsAll}
 use Rattle.av_state.specs.BlockState.{BlockState}
 use Rattle.av_rules.specs.Rows.{BlockTable}
-use Rattle.av_document.specs.Law.{IsLawful, HasInts, SpellsChunk}
 use Rattle.av_document.proofs.Rewritten.{written_comes_back}
 use Rattle.av_land.specs.Land.{Land, has_chunk}
 use Rattle.av_files.specs.Denotes.{Rest, IsSlot, absent, kept, full}

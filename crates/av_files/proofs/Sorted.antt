@@ -1,5 +1,5 @@
 -- Files in order.
-use Rattle.std.proofs.Common.{◌≡◌, ◌∙◌, ℕ, ℤ, ◌<ℤ◌, List, [], ◌∷◌, Bool, true, false, ◌&&◌, cond, refl, ap, sym, subst, arith}
+use Rattle.std.proofs.Common.{◌≡◌, ◌∙◌, ℤ, ◌<ℤ◌, List, [], ◌∷◌, Bool, true, false, cond, refl, ap, arith}
 use Rattle.std.specs.Prelude.{map}
 use Rattle.std.specs.List.{AllByRecursion}
 use Rattle.std.specs.Ordering.{is_lt, int_cmp, ordering_then, MatchOrdering}
@@ -7,7 +7,7 @@ use Rattle.std.specs.Cmp.{int_ranks}
 use Rattle.std.specs.declared.cmp.Ordering.{Ordering}
 use Rattle.std.specs.declared.cmp.Ordering.TheVariants.{Less, Equal, Greater}
 use Rattle.std.proofs.lemmas.Int.{ints}
-use Rattle.std.proofs.lemmas.Bool.{and_parts, true≢false, false≢true}
+use Rattle.std.proofs.lemmas.Bool.{and_parts, false≢true}
 use Rattle.av_types.specs.declared.place.RegionPos.{RegionPos}
 use Rattle.av_ticks.specs.Order.{inserted, ordered}
 use Rattle.av_files.specs.Files.{File, region_order, in_order, region_after, regions_rise}

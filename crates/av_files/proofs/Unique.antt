@@ -1,6 +1,6 @@
 -- Files denote one world at most.
-use Rattle.std.proofs.Common.{◌≡◌, ◌∙◌, ℕ, ◌+◌, ◌<◌, ◌≤◌, ◌/◌, List, [], ◌∷◌, ◌++◌, Bool, true, false, ◌&&◌, ◌||◌, cond, Option, Some, None, refl, ap, sym, subst, arith}
-use Rattle.std.specs.Prelude.{map, slice_range}
+use Rattle.std.proofs.Common.{◌≡◌, ◌∙◌, ℕ, ◌≤◌, ◌/◌, List, [], ◌∷◌, ◌++◌, Bool, true, false, ◌&&◌, ◌||◌, Some, refl, ap, sym, subst, arith}
+use Rattle.std.specs.Prelude.{map}
 use Rattle.std.specs.List.{AllByRecursion, list_any}
 use Rattle.std.proofs.lemmas.Bool.{and_parts, and_from, true≢false, false≢true}
 use Rattle.std.proofs.lemmas.Bool.Decides.{Decides-int_eq}
@@ -14,16 +14,16 @@ use Rattle.av_types.proofs.Coordinates.{index_less, chunk_back}
 use Rattle.av_nbt.specs.Nbt.{Document}
 use Rattle.av_nbt.specs.Spelling.{SpellsDocument}
 use Rattle.av_nbt.proofs.LawProofs.{one_document}
-use Rattle.av_region.specs.Region.{IsAbsent, Holds, location_of, offset_of, start_of, end_of}
-use Rattle.av_state.specs.BlockState.{BlockState, air}
+use Rattle.av_region.specs.Region.{IsAbsent, Holds, location_of}
+use Rattle.av_state.specs.BlockState.{BlockState}
 use Rattle.av_document.specs.Ticks.{lies_in}
 use Rattle.av_document.specs.Chunk.{DenotesChunk, root_tags, is_full}
 use Rattle.av_document.specs.Law.{IsSameChunk}
 use Rattle.av_land.specs.Land.{Land, has_chunk, is_loaded}
 use Rattle.av_files.specs.Files.{File, in_order, region_order, same_region}
 use Rattle.av_files.specs.Denotes.{Rest, IsSlot, absent, kept, full, DenotesFile, Denotes}
-use Rattle.av_files.specs.Laws.{SameRest, DenoteOne}
-use Rattle.av_files.proofs.Sorted.{all_ordered, all_both}
+use Rattle.av_files.specs.Laws.{DenoteOne}
+use Rattle.av_files.proofs.Sorted.{all_ordered}
 use Rattle.av_files.proofs.Coordinates.{same_region_is}
 use Rattle.av_files.proofs.Rising.{rising_same}
 

@@ -1,5 +1,5 @@
 -- What region files say: a world of states, and the rest.
-use Rattle.std.specs.Prelude.{◌≡◌, ℕ, ◌<◌, ℤ, List, [], Option, Some, None, Bool, true, false, map}
+use Rattle.std.specs.Prelude.{◌≡◌, ℕ, ◌<◌, List, [], Option, Some, None, true, false, map}
 use Rattle.std.specs.List.{AllByRecursion, list_any}
 use Rattle.av_types.specs.Faults.{least}
 use Rattle.av_types.specs.Places.{IsInLimits, chunk_at, region_of}

@@ -1,5 +1,5 @@
 -- The first fault of a run's input, in the order in which faults are looked for.
-use Rattle.std.specs.Prelude.{◌≡◌, ◌≢◌, IsUtf8, ℕ, ◌<◌, ◌≤◌, ◌⊎◌, nat_lt, List, [], ◌∷◌, length, Option, Some, None, Bool, true, false, if◌then◌else◌}
+use Rattle.std.specs.Prelude.{◌≡◌, IsUtf8, ℕ, ◌≤◌, ◌⊎◌, List, [], ◌∷◌, length, Some, None, true, false, if◌then◌else◌}
 use Rattle.av_types.specs.Faults.{fault_number}
 use Rattle.av_types.specs.Places.{IsInLimits, chunk_at}
 use Rattle.av_types.specs.declared.place.Height.{Height}

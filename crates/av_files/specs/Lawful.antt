@@ -1,5 +1,5 @@
 -- Worlds that can be written.
-use Rattle.std.specs.Prelude.{◌≡◌, ℕ, ℤ, List, [], true, false, length, map, slice_get, Some}
+use Rattle.std.specs.Prelude.{◌≡◌, ℕ, ℤ, List, [], true, false, length, slice_get, Some}
 use Rattle.std.specs.List.{AllByRecursion}
 use Rattle.av_types.specs.Places.{is_section_of}
 use Rattle.av_types.specs.declared.place.ChunkPos.{ChunkPos}

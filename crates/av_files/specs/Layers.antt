@@ -1,21 +1,18 @@
 -- What the layers of a run answer, over what their values stand for.
-use Rattle.std.specs.Prelude.{◌≡◌, ◌≢◌, ℕ, ◌<◌, List, ◌++◌, length, map, Bool, true, false, Option, Some, None}
+use Rattle.std.specs.Prelude.{◌≡◌, ℕ, ◌<◌, List, ◌++◌, length, map, Bool, true, false, None}
 use Rattle.std.specs.List.{AllByRecursion}
 use Rattle.av_types.specs.declared.place.Height.{Height}
 use Rattle.av_types.specs.declared.place.Pos.{Pos}
-use Rattle.av_types.specs.declared.place.ChunkPos.{ChunkPos}
-use Rattle.av_state.specs.BlockState.{BlockState, is_storable}
+use Rattle.av_state.specs.BlockState.{BlockState}
 use Rattle.av_state.specs.StateList.{IsStateList, first_states}
-use Rattle.av_rules.specs.Rows.{BlockTable}
 use Rattle.av_land.specs.Land.{Land, is_loaded}
-use Rattle.av_land.specs.Tick.{Set, run, run_count}
+use Rattle.av_land.specs.Tick.{Set}
 use Rattle.av_files.specs.Files.{File}
 use Rattle.av_files.specs.Denotes.{Rest, Denotes}
-use Rattle.av_files.specs.Layout.{Lights, layout, too_large}
-use Rattle.av_files.specs.Lawful.{IsLawfulLand, AreStorable}
+use Rattle.av_files.specs.Lawful.{AreStorable}
 use Rattle.av_files.specs.Laws.{StampsFit}
 use Rattle.av_edits.specs.Edits.{first_in_edits, edits_of}
-use Rattle.av_files.specs.FirstFault.{AreRead, AreReadAfter}
+use Rattle.av_files.specs.FirstFault.{AreReadAfter}
 use Rattle.av_files.specs.Run.{stated, stated_set}
 
 -- Files as a program holds them: a world of numbers of these states, the first of which were there before, and the rest.

@@ -1,5 +1,5 @@
 -- The block light of a world: at each loaded block that of its brightest path.
-use Rattle.std.specs.Prelude.{◌≡◌, ℕ, ℤ, List, length, true}
+use Rattle.std.specs.Prelude.{◌≡◌, ℤ, length, true}
 use Rattle.av_types.specs.Division.{divided}
 use Rattle.av_types.specs.Places.{chunk_of, place_of, is_section_of}
 use Rattle.av_types.specs.declared.place.Pos.{Pos}

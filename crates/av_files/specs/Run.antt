@@ -6,7 +6,7 @@ use Rattle.av_types.specs.declared.water.Wet.TheVariants.{Dry}
 use Rattle.av_cells.specs.declared.kind.Kind.{Kind}
 use Rattle.av_state.specs.BlockState.{BlockState, air}
 use Rattle.av_state.specs.StateList.{IsStateList}
-use Rattle.av_rules.specs.Rows.{BlockTable, row_of, wet_in, shut_row}
+use Rattle.av_rules.specs.Rows.{BlockTable, row_of, wet_in}
 use Rattle.av_land.specs.Land.{Land}
 use Rattle.av_land.specs.Tick.{Set, run, run_count}
 use Rattle.av_land.specs.Resumed.{shifted, early, late}

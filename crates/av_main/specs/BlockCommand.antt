@@ -12,7 +12,7 @@ use Rattle.av_main.specs.declared.block.refusal.Refusal.{Refusal}
 use Rattle.av_main.specs.declared.block.refusal.Refusal.TheVariants as refusal
 use Rattle.av_sink.specs.Names.{region_name_of}
 use Rattle.av_main.specs.Names.{FitsRegion, IsFileNameOf}
-use Rattle.av_main.specs.Output.{answer_line}
+use Rattle.av_main.specs.Output.{HasBegun, answer_line}
 
 -- the path ends in the name of this region, whose coordinates are numbers of 32 bits
 pub record IsPathOf (path : List ℕ) (region : RegionPos) : Type 0 where
@@ -52,8 +52,9 @@ abbrev pub status_of : Refusal → ℕ
 status_of refusal.Name = 2
 status_of (refusal.Fault e) = 1
 
--- what a call has written to its output, and its status: the line, or nothing and a refusal's status, or 1 where writing failed
+-- what a call has written to its output, and its status: the line; its beginning and 1 where a write was refused; or nothing and
+-- a refusal's status
 pub data HasAnswered (path file : List ℕ) (at : Pos) (h : Height) (before after : Option (List ℕ)) (status : ℕ) : Type 0 where
   written : (text : List ℕ) → IsBlockLine path file at h text → Appends before after text → status ≡ 0 → HasAnswered path file at h before after status
-  unwritten : (text : List ℕ) → IsBlockLine path file at h text → status ≡ 1 → HasAnswered path file at h before after status
+  unwritten : (text : List ℕ) → IsBlockLine path file at h text → HasBegun before after text → status ≡ 1 → HasAnswered path file at h before after status
   refused : (r : Refusal) → IsBlockRefusal path file at h r → after ≡ before → status ≡ status_of r → HasAnswered path file at h before after status

@@ -6,7 +6,6 @@ use Rattle.av_types.specs.declared.fault.Fault.{Fault}
 use Rattle.av_types.specs.declared.fault.Fault.TheVariants.{OutOfMemory}
 use Rattle.av_sink.specs.Account.{Account, IsDevice, with_files}
 use Rattle.av_sink.specs.Saving.{IsStopped, named_file}
-use Rattle.av_sink.specs.declared.files.RegionFile.{RegionFile}
 use Rattle.av_image.specs.Loading.{file_in}
 use Rattle.av_run.specs.Answer.{IsAnswer}
 use Rattle.av_run.specs.declared.runs.Outcome.{Outcome}

@@ -5,7 +5,7 @@ ghost use Rattle.av_types.specs.Places.{IsInLimits};
 ghost use Rattle.av_main.specs.BlockCommand.{HasAnswered, IsBlockLine, IsBlockRefusal, IsPathOf, IsPathRefused, status_of};
 
 use crate::names::{file_name, region_of_name};
-use crate::output::{FAULT, REFUSED, block_line, report_fault};
+use crate::output::{FAULT, REFUSED, block_line, report_fault, write_first};
 use av_chunk::block_at;
 use av_types::{Fault, Height, Pos, RegionPos};
 use std::alloc::Global;
@@ -62,7 +62,7 @@ fn explain<E: Write>(err: &mut E, refusal: &Refusal) -> u8
 
 /// Writes the line for the block at a position of a region file, whose place is taken from what follows the last `/` of
 /// its path, or why there is none. The answer is the program's status: 0; 1 after a fault, and where the line could not
-/// be written; 2 where the file's name is not that of a region.
+/// be written, or only its beginning; 2 where the file's name is not that of a region.
 pub fn block_text<O: Write, E: Write>(
     alloc: Global,
     path: &str,
@@ -75,7 +75,7 @@ pub fn block_text<O: Write, E: Write>(
     ensures { HasAnswered path.now bytes.now pos height (O.contents out.old) (O.contents out.new) result }
 {
     match answer(alloc, path, bytes, pos, height) {
-        Ok(line) => match out.write_all(line.as_slice()) {
+        Ok(line) => match write_first(out, line.as_slice()) {
             Ok(()) => 0,
             Err(_) => FAULT,
         },

@@ -1,12 +1,14 @@
 //! Words and names. What the program answers, `scripts/check_words.sh` asks of the built one.
+use crate::block::block_text;
 use crate::checking::findings;
 use crate::command_line::commands::Words;
 use crate::command_line::words;
 use crate::names::{file_name, region_of_name};
 use av_survey::Finding;
-use av_types::{ChunkPos, Fault, Pos, RegionPos};
+use av_types::{ChunkPos, Fault, Height, Pos, RegionPos};
 use clap::error::ErrorKind;
 use std::alloc::Global;
+use std::io::Cursor;
 use std::test::Fail;
 
 #[test]
@@ -136,6 +138,28 @@ fn a_line_for_each_finding(rt: HostRuntime) -> Result<(), Fail> {
     );
     assert_eq!(rt; err.len(), 0);
     Ok(())
+}
+
+/// Of the line `unloaded` an output with room for 4 bytes has the first 4.
+#[test]
+fn a_line_that_finds_no_room(rt: HostRuntime) {
+    let alloc = rt.alloc();
+    let pos = Pos { x: 0, y: 0, z: 0 };
+    let mut room = [b' '; 4];
+    let mut out = Cursor::new(room.as_mut_slice());
+    let mut err = Vec::new(alloc);
+    let status = block_text(
+        alloc,
+        "r.0.0.mca",
+        b"",
+        pos,
+        Height::game(),
+        &mut out,
+        &mut err,
+    );
+    assert_eq!(rt; status, 1);
+    assert_eq!(rt; room.as_slice(), b"unlo".as_slice());
+    assert_eq!(rt; err.len(), 0);
 }
 
 /// Why words are refused.

@@ -1,4 +1,4 @@
--- What a run begins with. Working definitions.
+-- What a run begins with: its world, the rest, the kinds of states, and its edits.
 use Rattle.std.specs.Prelude.{◌≡◌, ℕ, ◌≤◌, List, false}
 use Rattle.std.specs.List.{AllByRecursion}
 use Rattle.av_types.specs.declared.place.Height.{Height}

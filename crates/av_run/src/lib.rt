@@ -2,9 +2,10 @@
 #![tactic(auto)]
 
 mod counts;
-mod input;
+pub mod input;
 mod runs;
 mod writing;
 
 pub use av_sink::RegionFile;
+pub use input::{Input, read_input};
 pub use runs::{Outcome, run};

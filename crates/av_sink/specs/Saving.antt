@@ -1,5 +1,5 @@
 -- What is handed to a sink for region files.
-use Rattle.std.specs.Prelude.{◌≡◌, ℕ, List, ◌∷◌, ◌++◌, string_bytes}
+use Rattle.std.specs.Prelude.{◌≡◌, List, ◌∷◌, ◌++◌, string_bytes}
 use Rattle.av_types.specs.declared.fault.Fault.{Fault}
 use Rattle.av_types.specs.declared.fault.Fault.TheVariants.{OutOfMemory}
 use Rattle.av_sink.specs.declared.files.RegionFile.{RegionFile}

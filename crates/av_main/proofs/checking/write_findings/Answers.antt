@@ -1,4 +1,4 @@
-use Rattle.std.proofs.Common.{◌≡◌, ◌<◌, ◌+◌, ◌++◌, sym, subst, arith, List, ℕ, length, take}
+use Rattle.std.proofs.Common.{◌<◌, sym, subst, arith, List, ℕ, length, take}
 use Rattle.std.specs.Io.KnownBytes.{Appends}
 use Rattle.av_types.specs.Faults.{fault_text}
 use Rattle.av_main.specs.CheckCommand.{finding_lines, written_at}

@@ -1,8 +1,8 @@
-use Rattle.std.proofs.Common.{◌≡◌, ℕ, List, Option, Result, Ok, Err, MatchResult}
+use Rattle.std.proofs.Common.{◌≡◌, ℕ, List, Option, Result, MatchResult}
 use Rattle.av_types.specs.declared.fault.Fault.{Fault}
 use Rattle.av_sink.specs.Account.{Account}
 use Rattle.av_run.specs.declared.runs.Outcome.{Outcome}
-use Rattle.av_main.specs.RunCommand.{HasCounts, HasRunInto, HasRunOver, HasRunRegions, ran, refused, stopped, unread, read, ran_all, not_run, not_written}
+use Rattle.av_main.specs.RunCommand.{HasCounts, HasRunOver, HasRunRegions, ran, refused, stopped, unread, read, ran_all, not_run, not_written}
 use Rattle.av_main.proofs.program.run_regions.Goals as goal
 
 Reports : Result Outcome Fault → Option (List ℕ) → Option (List ℕ) → ℕ → Type 0

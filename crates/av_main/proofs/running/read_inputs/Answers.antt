@@ -1,4 +1,4 @@
-use Rattle.std.proofs.Common.{inr, Err, IfErr}
+use Rattle.std.proofs.Common.{inr}
 use Rattle.std.proofs.lemmas.Result.{err_from_is_err_and}
 use Rattle.av_main.specs.RunCommand.{IsUnreadRun}
 use Rattle.av_main.proofs.running.read_inputs.Goals as goal

@@ -1,7 +1,7 @@
 use Rattle.std.proofs.Common.{◌≡◌, ℕ, List, subst, refl, map, Result, Ok, Err}
 use Rattle.std.proofs.lemmas.Result.{err_from_is_err_and}
 use Rattle.av_types.specs.declared.fault.Fault.{Fault}
-use Rattle.av_sink.specs.Account.{Account, with_files}
+use Rattle.av_sink.specs.Account.{with_files}
 use Rattle.av_sink.specs.Saving.{IsStopped, named_file}
 use Rattle.av_sink.specs.declared.files.RegionFile.{RegionFile}
 use Rattle.av_files.specs.Files.{File}
