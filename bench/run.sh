@@ -46,7 +46,7 @@ measure turn "$times" "$proved" turn 10000 -- "$work/plain" turn 10000
 mkdir "$work/dark"
 mv "$work/dark.mca" "$work/dark/r.0.0.mca"
 "$top/bench/light.py" "$top/crates/av_light_bench/out/av_light_bench" "$work/plain" \
-  "$work/r.0.0.mca" "$work/dark/r.0.0.mca" "$top/tables/blocks.toml" 10 "$times"
+  "$work/r.0.0.mca" "$work/dark/r.0.0.mca" "$top/tables/blocks.toml" 40 "$times"
 
 # 20 plans of so many entries: anywhere in 1,024 chunks, in one lake, and in pools that are parts of their own.
 for kind in spread lake pools; do
@@ -71,14 +71,8 @@ measure_run() {
 }
 measure_run run in edits.txt 20
 
-# The ticks alone: that run less one of no tick over what it wrote, which reads, lights and writes the same blocks.
-mkdir "$work/after"
-cp "$work/plain_out/r.0.0.mca" "$work/after"
-mapfile -t run < <(proved_run in edits.txt 20)
-mapfile -t other < <(plain_run in edits.txt 20)
-mapfile -t less < <(proved_run after no_edits.txt 0)
-mapfile -t other_less < <(plain_run after no_edits.txt 0)
-measure ticks "$times" "${run[@]}" -- "${other[@]}" -- "${less[@]}" -- "${other_less[@]}"
+# The ticks of that run alone.
+"$top/bench/ticks.py" "$((3 * times))" "$work/r.0.0.mca" "$work/edits.txt" "$work/plain"
 
 # Runs of no tick over 1, 4 and 16 regions, the same one at other places.
 for side in 1 2 4; do

@@ -1,9 +1,9 @@
 #!/usr/bin/env python3
 """Refuses each growth of small runs in turn, the first, the second and so on until a run ends with none refused: each run
 answers want of memory, or exactly what it answers when nothing is refused. Want of memory for the path of a file that is to be
-written counts as a write that failed.
+written counts as a write that failed. Where memory is refused in a tick, the world then answers 26 to each call.
 
-    scripts/check_memory.py PROGRAM         as crates/av_main/out/av_main
+    scripts/check_memory.py PROGRAM BENCH   as crates/av_main/out/av_main and crates/av_light_bench/out/av_light_bench
 
 A growth is a call of malloc or realloc, or the start of a thread. They are refused by refuse.c, which the C compiler makes a
 library of; where there is no such compiler nothing is asked.
@@ -20,8 +20,24 @@ from check_worlds import TABLE, WATER, edit, flat
 
 REFUSALS = [("", "fault 01: OutOfMemory", 1), ("", "fault 25: Device r.0.0.mca", 1)]
 
+# What BENCH answers where no growth is refused, where one is in a tick, and where one is before or after the ticks.
+TOLD = ("turns 2; 8 71 8 due 11 number 9; 8 72 8 due 11 number 1; 8 39 8 due 11 number 9; 8 40 8 due 11 number 1", "", 0)
+BROKEN = ("fault 1; apply 26, tick 26, crew 26, carve 26, light 26, save 26", "", 0)
+ENDED = [("", "Error: fault 01: OutOfMemory", 1), ("", "Error: out of memory", 1)]
 
-class Case:
+
+def answer_of(library, call, words, folder):
+    """What these words answer where this growth is refused, and whether there was one to refuse."""
+    told, tell = os.pipe()
+    done = subprocess.run(words, cwd=folder, capture_output=True, text=True, pass_fds=(tell,),
+                          env={"LD_PRELOAD": library, "REFUSE": str(call), "REFUSED_TO": str(tell)})
+    os.close(tell)
+    refused = os.read(told, 1) != b""
+    os.close(told)
+    return (done.stdout.strip(), done.stderr.strip(), done.returncode), refused
+
+
+class Run:
     """A run of a flat world, whose growths can be refused."""
 
     def __init__(self, program, library, work, data, edits, workers):
@@ -32,54 +48,86 @@ class Case:
             with open(os.path.join(work, name), "wb") as file:
                 file.write(content)
 
-    def run(self, call):
-        """What is answered where this growth is refused, and whether there was one to refuse."""
+    def ask(self, call):
+        """What is answered and written where this growth is refused, and whether there was one to refuse."""
         out = os.path.join(self.work, "out%d" % call)
         os.mkdir(out)
-        told, tell = os.pipe()
         words = [self.program, "run", "--in", "in", "--out", out, "--table", "table", "--edits", "edits", "--ticks", "6",
                  "--workers", str(self.workers)]
-        done = subprocess.run(words, cwd=self.work, capture_output=True, text=True, pass_fds=(tell,),
-                              env={"LD_PRELOAD": self.library, "REFUSE": str(call), "REFUSED_TO": str(tell)})
-        os.close(tell)
-        refused = os.read(told, 1) != b""
-        os.close(told)
+        answer, refused = answer_of(self.library, call, words, self.work)
         files = {name: open(os.path.join(out, name), "rb").read() for name in os.listdir(out)}
         shutil.rmtree(out)
-        return (done.stdout.strip(), done.stderr.strip(), done.returncode), files, refused
+        return (answer, files), refused
 
-    def answers(self):
-        """Each answer until nothing was left to refuse, and how many there are."""
-        with ThreadPoolExecutor(os.cpu_count()) as pool:
-            first = 1
-            while True:
-                for answer, files, refused in pool.map(self.run, range(first, first + 64)):
-                    if not refused:
-                        return
-                    yield answer, files
-                first += 64
+
+class Ticks:
+    """Ticks of a flat world, whose growths can be refused, on so many workers, or by the tick of one thread for 0."""
+
+    def __init__(self, bench, library, work, workers):
+        self.bench, self.library, self.work, self.workers = bench, library, work, workers
+
+    def ask(self, call):
+        return answer_of(self.library, call, [self.bench, "refuse", str(self.workers)], self.work)
+
+
+def answers(case):
+    """Each answer until nothing was left to refuse."""
+    with ThreadPoolExecutor(os.cpu_count()) as pool:
+        first = 1
+        while True:
+            for answer, refused in pool.map(case.ask, range(first, first + 64)):
+                if not refused:
+                    return
+                yield answer
+            first += 64
+
+
+def check_run(name, case):
+    """How many growths of a run were refused, and how many of the answers are wrong."""
+    whole, _ = case.ask(0)
+    asked = wrong = 0
+    for answer in answers(case):
+        asked += 1
+        if answer != whole and (answer[0] not in REFUSALS or answer[1]):
+            wrong += 1
+            print("growth %d of a run with %s: %s and the files %s" % (asked, name, answer[0], list(answer[1])))
+    return asked, wrong
+
+
+def check_ticks(name, case):
+    """How many growths of ticks were refused, and how many of the answers are wrong."""
+    asked = wrong = broken = 0
+    for answer in answers(case):
+        asked += 1
+        broken += answer == BROKEN
+        if answer not in (TOLD, BROKEN, *ENDED):
+            wrong += 1
+            print("growth %d of ticks with %s: %s" % (asked, name, answer))
+    whole, _ = case.ask(0)
+    if whole != TOLD or broken == 0:
+        wrong += 1
+        print("ticks with %s: %s, and %d broke the world" % (name, whole, broken))
+    return asked, wrong
 
 
 def main():
-    program = os.path.abspath(sys.argv[1])
+    program, bench = map(os.path.abspath, sys.argv[1:])
     compiler = shutil.which("cc")
     if compiler is None:
         print("0 asked of refused growths: there is no C compiler")
         return
-    asked = wrong = 0
+    counts = []
     with tempfile.TemporaryDirectory() as work:
         library = os.path.join(work, "refuse.so")
         source = os.path.join(os.path.dirname(os.path.abspath(__file__)), "refuse.c")
         subprocess.run([compiler, "-shared", "-fPIC", "-O1", source, "-o", library, "-ldl"], check=True)
         two_parts = edit(1, 8, 72, 8, WATER) + edit(1, 8, 40, 8, WATER)
         for name, edits, workers in (("one worker", edit(1, 8, 64, 8, WATER), 1), ("two workers", two_parts, 2)):
-            case = Case(program, library, os.path.join(work, name.replace(" ", "_")), flat(), edits, workers)
-            whole = case.run(0)[:2]
-            for call, (answer, files) in enumerate(case.answers(), 1):
-                asked += 1
-                if (answer, files) != whole and (answer not in REFUSALS or files):
-                    wrong += 1
-                    print("growth %d of a run with %s: %s and the files %s" % (call, name, answer, list(files)))
+            folder = os.path.join(work, name.replace(" ", "_"))
+            counts.append(check_run(name, Run(program, library, folder, flat(), edits, workers)))
+        for name, workers in (("one thread", 0), ("one worker", 1), ("two workers", 2)):
+            counts.append(check_ticks(name, Ticks(bench, library, work, workers)))
+    asked, wrong = map(sum, zip(*counts))
     print("%d asked of refused growths, %d wrong" % (asked, wrong))
     sys.exit(wrong > 0)
 

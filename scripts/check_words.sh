@@ -73,6 +73,15 @@ expect 2 "error: unexpected argument '-1' found" block samples/r.0.0.mca 0 -1 0
 expect 2 "error: 'anvilwater' requires a subcommand but one was not provided"
 expect 2 "Reads Minecraft region files, and runs water and light over them" --help
 expect 2 "error: unrecognized subcommand 'blocks'" blocks
+expect 2 "error: the words are no text in UTF-8" block $'\377' 0 0 0
+
+# A coordinate is a number of 32 bits.
+expect 0 unloaded block -- samples/r.0.0.mca 2147483647 -2147483648 2147483647
+expect 0 unloaded block -- samples/r.0.0.mca -2147483648 2147483647 -2147483648
+for number in 2147483648 -2147483649; do
+  expect 2 "error: invalid value '$number' for '<Y>': $number is not in -2147483648..=2147483647" \
+    block -- samples/r.0.0.mca 0 $number 0
+done
 
 # The file is read before its name is, and the name before the region.
 for name in r.60001.0 r.0.60001 r.-60001.0 r.2147483647.0 r.2147483648.0 r.-2147483649.0 r.00.0 r.-0.0; do
@@ -91,14 +100,21 @@ mkdir "$work/r.1.1.mca"
 expect 1 "fault 25: Device $work/r.1.1.mca" block "$work/r.1.1.mca" 0 0 0
 
 # Writing that fails is no success.
-if [ -c /dev/full ]; then
-  answered=0
-  "$program" block samples/r.0.0.mca 4 67 15 > /dev/full 2> "$work/err" || answered=$?
+: > "$work/edits"
+mkdir "$work/nothing"
+nothing=(run --in "$work/nothing" --out "$work/nothing" --table tables/blocks.toml --edits "$work/edits" --ticks 0 --workers 1)
+expect_full() {
+  local answered=0
+  "$program" "$@" > /dev/full 2> "$work/err" || answered=$?
   asked=$((asked + 1))
-  if [ "$answered" != 1 ]; then
+  if [ "$answered" != 1 ] || [ -s "$work/err" ]; then
     wrong=$((wrong + 1))
-    echo "output to /dev/full: status $answered"
+    echo "$*: output to /dev/full: status $answered, errors '$(cat "$work/err")'"
   fi
+}
+if [ -c /dev/full ]; then
+  expect_full block samples/r.0.0.mca 4 67 15
+  expect_full "${nothing[@]}"
 fi
 
 # What is wrong with a folder. The words are judged before the table, the table before the folder, and that before its
@@ -112,6 +128,7 @@ expect_all 0 "" "1 of 2 files read\n2 of 2 files read\n" check --progress --in s
 expect 1 "fault 25: Device missing.toml" check --table missing.toml --in missing
 expect 1 "fault 19: BadTable" check --table README.md --in missing
 expect 1 "fault 25: Device missing" check --in missing
+expect 1 "fault 25: Device missing/" check --in missing/
 expect 1 "fault 25: Device README.md" check --in README.md
 folder="$work/folder"
 mkdir "$folder"
@@ -153,7 +170,10 @@ r.-1.1.mca -31 33 fault 07: BadLength
 # A run of a folder. The words are judged before the table, the table before the edits, these before the folder, and only
 # when all files were read is anything judged or written: a table that can't be read comes before 9 workers, and these
 # before a table that is no TOML.
-expect 2 "error: the following required arguments were not provided:" run --in samples
+for left_out in 1 3 5 7 9 11; do
+  expect 2 "error: the following required arguments were not provided:" \
+    "${nothing[@]:0:left_out}" "${nothing[@]:left_out + 2}"
+done
 expect 2 "Runs edits, water and block light over the region files of a folder" run --help
 run() {
   local table=$1 edits=$2 input=$3 output=$4 workers=$5
@@ -168,7 +188,6 @@ expect_run() {
   expect_all "$status" "$out" "$err" "${words[@]}"
 }
 edits="$work/edits"
-: > "$edits"
 input="$work/input" output="$work/output"
 mkdir "$input" "$output"
 blocks=tables/blocks.toml
@@ -177,6 +196,14 @@ expect_run 1 "" "fault 25: Device missing.edits\n" README.md missing.edits missi
 expect_run 1 "" "fault 25: Device missing\n" README.md "$edits" missing "$output" 9
 expect_run 1 "" "fault 23: BadCount\n" README.md "$edits" "$input" "$output" 9
 expect_run 1 "" "fault 23: BadCount\n" README.md "$edits" "$input" "$output" 0
+# A count is a number of 32 bits without a minus.
+expect_run 1 "" "fault 23: BadCount\n" README.md "$edits" "$input" "$output" 4294967295
+expect_run 1 "" "fault 19: BadTable\n" README.md "$edits" "$input" "$output" +08
+expect 1 "fault 23: BadCount" "${nothing[@]:0:9}" --ticks 4294967295 --workers 9
+for number in 4294967296 -1; do
+  expect 2 "error: invalid value '$number' for '--ticks <N>': $number is not in 0..=4294967295" \
+    "${nothing[@]:0:9}" "--ticks=$number" --workers 1
+done
 expect_run 1 "" "fault 19: BadTable\n" README.md "$edits" "$input" "$output" 8
 expect_run 0 "chunks 0 turns 0\n" "" "$blocks" "$edits" "$input" missing 8
 : > "$input/r.0.0.mca"
@@ -186,6 +213,18 @@ mkdir "$input/r.2.0.mca"
 expect_run 1 "" "fault 25: Device r.2.0.mca\n" "$blocks" "$edits" "$input" "$output" 9
 rmdir "$input/r.2.0.mca"
 expect_run 1 "" "fault 25: Device r.-1.0.mca\n" "$blocks" "$edits" "$input" missing 1
+# Files are written by (z, x) of their regions, and none behind one that can't be written.
+mkdir "$output/r.-1.0.mca"
+expect_run 1 "" "fault 25: Device r.-1.0.mca\n" "$blocks" "$edits" "$input" "$output" 1
+asked=$((asked + 1))
+if [ "$(ls "$output")" != r.-1.0.mca ]; then
+  wrong=$((wrong + 1))
+  echo "folder after a first write that failed: $(ls "$output")"
+fi
+rmdir "$output/r.-1.0.mca"
+: > "$input/r.-2.1.mca"
+expect_run 1 "" "fault 25: Device r.-1.0.mca\n" "$blocks" "$edits" "$input" missing 1
+rm "$input/r.-2.1.mca"
 expect_run 0 "chunks 0 turns 0\n" "1 of 2 files read\n2 of 2 files read\nrunning\nwriting\n" "$blocks" "$edits" "$input" "$output" 1 --progress
 expect_run 0 "chunks 0 turns 0\n" "" "$blocks" "$edits" "$input" "$input" 2
 for file in "$input"/r.*.mca "$output"/r.*.mca; do
@@ -277,12 +316,26 @@ expect 1 "fault 12: BadChunk" block "$one" 0 0 0
 region "$one" "\\12\\0\\0\\11\\0\\1a\\11\\0\\0\\0\\1$lists\\0\\0\\0\\0\\0\\0"
 expect 1 "fault 10: BadNbt" block "$one" 0 0 0
 
-# The height is the table's.
+# The height is the game's, or the table's.
+expect 0 'minecraft:bedrock' block -- samples/r.0.0.mca 4 -64 15
+expect 0 unloaded block -- samples/r.0.0.mca 4 -65 15
+expect 0 minecraft:air block samples/r.0.0.mca 4 319 15
 printf 'version = 3\nmin_section = 0\nsections = 16\n' > "$work/high.toml"
 expect 0 'minecraft:deepslate[axis=y]' block -- samples/r.0.0.mca 4 -1 15
 expect 0 unloaded block --table "$work/high.toml" -- samples/r.0.0.mca 4 -1 15
 expect 0 minecraft:air block samples/r.0.0.mca 4 256 15
 expect 0 unloaded block --table "$work/high.toml" samples/r.0.0.mca 4 256 15
+printf 'version = 3\nmin_section = 2\nsections = 15\n' > "$work/high.toml"
+expect 0 unloaded block --table "$work/high.toml" samples/r.0.0.mca 4 31 15
+expect 0 minecraft:stone block --table "$work/high.toml" samples/r.0.0.mca 4 32 15
+expect 0 minecraft:air block --table "$work/high.toml" samples/r.0.0.mca 4 271 15
+expect 0 unloaded block --table "$work/high.toml" samples/r.0.0.mca 4 272 15
+
+# A section without a palette, of number 17, is looked at where it is in the height.
+region "$folder/r.0.0.mca" '\12\0\0\3\0\4xPos\0\0\0\0\3\0\4zPos\0\0\0\0\10\0\6Status\0\4full\11\0\10sections\12\0\0\0\1\1\0\1Y\21\12\0\14block_states\0\0\0'
+rm "$folder"/r.-1.1.mca "$folder"/r.3.0.mca "$folder"/r.-2.2.mca
+expect_all 1 "r.0.0.mca 0 0 fault 14: BadPalette\n" "" check --in "$folder"
+expect_all 0 "" "" check --table "$work/high.toml" --in "$folder"
 
 # No memory is asked for by a declared length that the bytes left can't fill: 2^31 - 1 longs, and as many Compounds.
 ulimit -v 400000

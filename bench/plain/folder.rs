@@ -7,7 +7,8 @@ use crate::world::{Edit, World};
 use crate::{chunk_at, light, nbt, region_of};
 use std::error::Error;
 use std::fs;
-use std::path::Path;
+use std::path::{Path, PathBuf};
+use std::time::Instant;
 
 enum Slot {
     Absent,
@@ -78,6 +79,34 @@ fn read_edits(text: &str, table: &mut StateTable) -> Result<Vec<Edit>, Box<dyn E
     Ok(edits)
 }
 
+/// What a run begins with.
+struct Input {
+    regions: Vec<Loaded>,
+    world: World,
+    table: StateTable,
+    kinds: Kinds,
+    edits: Vec<Edit>,
+}
+
+fn read_input(paths: &[PathBuf], rules: &str, edits: &str) -> Result<Input, Box<dyn Error>> {
+    let rules = Rules::read(&fs::read_to_string(rules)?);
+    let edits = fs::read_to_string(edits)?;
+    let mut table = StateTable::new();
+    let (mut regions, mut chunks) = (Vec::new(), Vec::new());
+    for path in paths {
+        regions.extend(load(path, &mut table, &mut chunks)?);
+    }
+    let edits = read_edits(&edits, &mut table)?;
+    let kinds = Kinds::new(&mut table, &rules);
+    Ok(Input {
+        regions,
+        world: World::new(chunks),
+        table,
+        kinds,
+        edits,
+    })
+}
+
 pub fn run(
     input: &str,
     output: &str,
@@ -85,27 +114,34 @@ pub fn run(
     edits: &str,
     ticks: u32,
 ) -> Result<String, Box<dyn Error>> {
-    let rules = Rules::read(&fs::read_to_string(rules)?);
-    let edits = fs::read_to_string(edits)?;
     let mut paths = fs::read_dir(input)?
         .map(|entry| entry.map(|entry| entry.path()))
         .collect::<Result<Vec<_>, _>>()?;
     paths.sort();
-    let mut table = StateTable::new();
-    let (mut regions, mut chunks) = (Vec::new(), Vec::new());
-    for path in &paths {
-        regions.extend(load(path, &mut table, &mut chunks)?);
-    }
-    let edits = read_edits(&edits, &mut table)?;
-    let kinds = Kinds::new(&mut table, &rules);
-    let mut world = World::new(chunks);
-    let turns = world.run(&kinds, &edits, ticks);
-    let lights = light::light_all(&world, &kinds);
-    for region in &regions {
-        let bytes = save(region, &world, &kinds, &table, &lights, ticks);
+    let mut input = read_input(&paths, rules, edits)?;
+    let turns = input.world.run(&input.kinds, &input.edits, ticks);
+    let lights = light::light_all(&input.world, &input.kinds);
+    for region in &input.regions {
+        let bytes = save(
+            region,
+            &input.world,
+            &input.kinds,
+            &input.table,
+            &lights,
+            ticks,
+        );
         fs::write(Path::new(output).join(&region.name), bytes)?;
     }
-    Ok(format!("chunks {} turns {turns}", world.chunks.len()))
+    Ok(format!("chunks {} turns {turns}", input.world.chunks.len()))
+}
+
+/// The ticks of one region, and how many microseconds they alone took.
+pub fn ticks(path: &str, rules: &str, edits: &str, ticks: u32) -> Result<String, Box<dyn Error>> {
+    let mut input = read_input(&[PathBuf::from(path)], rules, edits)?;
+    let start = Instant::now();
+    let turns = input.world.run(&input.kinds, &input.edits, ticks);
+    let took = start.elapsed().as_micros();
+    Ok(format!("turns {turns} us {took}"))
 }
 
 fn save(

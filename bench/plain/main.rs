@@ -174,8 +174,9 @@ fn run(words: &[&str]) -> Result<String, Box<dyn Error>> {
         ["run", input, output, table, edits, ticks] => {
             folder::run(input, output, table, edits, ticks.parse()?)
         }
+        ["ticks", path, table, edits, ticks] => folder::ticks(path, table, edits, ticks.parse()?),
         _ => Err(
-            "plain block FILE X Y Z | decode FILE ROUNDS | recode IN OUT | rewrite IN OUT | turn WORLDS | plan KIND ENTRIES ROUNDS | light FILE TABLE TIMES | run IN OUT TABLE EDITS TICKS"
+            "plain block FILE X Y Z | decode FILE ROUNDS | recode IN OUT | rewrite IN OUT | turn WORLDS | plan KIND ENTRIES ROUNDS | light FILE TABLE TIMES | run IN OUT TABLE EDITS TICKS | ticks FILE TABLE EDITS TICKS"
                 .into(),
         ),
     }

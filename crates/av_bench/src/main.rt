@@ -5,6 +5,7 @@ mod decoding;
 mod flowing;
 mod recoding;
 mod rewriting;
+mod running;
 mod tally;
 mod ticking;
 
@@ -42,6 +43,15 @@ fn run<R: Clock + Env + Files + AllocGlobal + Threads + Wait + Sync>(
             let size = written.len();
             Ok(format!(in alloc; "bytes {size}")?)
         }
+        ["run", path, table, edits, ticks, workers] => {
+            let bytes = fs::read(rt, *path)?;
+            let table = fs::read(rt, *table)?;
+            let edits = fs::read(rt, *edits)?;
+            let ticks: u32 = ticks.parse()?;
+            let workers: u32 = workers.parse()?;
+            let (table, edits) = (table.as_slice(), edits.as_slice());
+            running::run_region(rt, alloc, bytes, table, edits, ticks, workers)
+        }
         ["tick", ticks, workers] => {
             let ticks: u32 = ticks.parse()?;
             let workers: u32 = workers.parse()?;
@@ -52,7 +62,7 @@ fn run<R: Clock + Env + Files + AllocGlobal + Threads + Wait + Sync>(
             Ok(flowing::play_worlds(alloc, worlds)?)
         }
         _ => bail!(
-            "av_bench decode FILE ROUNDS | recode IN OUT | rewrite IN OUT | tick TICKS WORKERS | turn WORLDS"
+            "av_bench decode FILE ROUNDS | recode IN OUT | rewrite IN OUT | run FILE TABLE EDITS TICKS WORKERS | tick TICKS WORKERS | turn WORLDS"
         ),
     }
 }

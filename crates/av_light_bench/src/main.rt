@@ -1,5 +1,8 @@
-//! The program by which `bench/run.sh` times light: a region is read, and lit so many times.
+//! The program by which `bench/run.sh` times light: a region is read, and lit so many times. Beside this it runs ticks of a
+//! small world for the merge gate, which refuses its growths.
 #![tactic(auto)]
+
+mod refusing;
 
 use anyhow::{Result, bail};
 use av_chunk::ChunkLight;
@@ -12,6 +15,7 @@ use av_types::{Fault, RegionPos};
 use av_world::World;
 use std::alloc::{AllocError, Global};
 use std::rt::{Env, Files};
+use std::sync::Wait;
 use std::thread::Threads;
 use std::{env, fs};
 
@@ -70,7 +74,10 @@ fn light(
     Ok(format!(in alloc; "chunks {chunks} sum {sum}")?)
 }
 
-fn run<R: Env + Files + AllocGlobal + Threads + Sync>(rt: &R, words: &[&str]) -> Result<String> {
+fn run<R: Env + Files + AllocGlobal + Threads + Wait + Sync>(
+    rt: &R,
+    words: &[&str],
+) -> Result<String> {
     let alloc = rt.alloc();
     match words {
         ["light", path, table, times] => {
@@ -80,7 +87,11 @@ fn run<R: Env + Files + AllocGlobal + Threads + Sync>(rt: &R, words: &[&str]) ->
             let scene = read(alloc, bytes, table.as_slice())?;
             Ok(light(rt, alloc, &scene, times)?)
         }
-        _ => bail!("av_light_bench light FILE TABLE TIMES"),
+        ["refuse", workers] => {
+            let workers: u32 = workers.parse()?;
+            Ok(refusing::refuse(rt, alloc, workers)?)
+        }
+        _ => bail!("av_light_bench light FILE TABLE TIMES | refuse WORKERS"),
     }
 }
 
