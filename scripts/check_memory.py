@@ -82,8 +82,8 @@ def answers(case):
             first += 64
 
 
-def check_run(name, case):
-    """How many growths of a run were refused, and how many of the answers are wrong."""
+def check_run(name, line, case):
+    """How many growths of a run were refused, and how many of the answers are wrong. With none refused it answers the line."""
     whole, _ = case.ask(0)
     asked = wrong = 0
     for answer in answers(case):
@@ -91,6 +91,9 @@ def check_run(name, case):
         if answer != whole and (answer[0] not in REFUSALS or answer[1]):
             wrong += 1
             print("growth %d of a run with %s: %s and the files %s" % (asked, name, answer[0], list(answer[1])))
+    if whole[0] != (line, "", 0) or list(whole[1]) != ["r.0.0.mca"] or asked == 0:
+        wrong += 1
+        print("a run with %s: %s and the files %s, and %d growths refused" % (name, whole[0], list(whole[1]), asked))
     return asked, wrong
 
 
@@ -121,10 +124,14 @@ def main():
         library = os.path.join(work, "refuse.so")
         source = os.path.join(os.path.dirname(os.path.abspath(__file__)), "refuse.c")
         subprocess.run([compiler, "-shared", "-fPIC", "-O1", source, "-o", library, "-ldl"], check=True)
-        two_parts = edit(1, 8, 72, 8, WATER) + edit(1, 8, 40, 8, WATER)
-        for name, edits, workers in (("one worker", edit(1, 8, 64, 8, WATER), 1), ("two workers", two_parts, 2)):
+        source = edit(1, 8, 64, 8, WATER)
+        one_chunk = edit(1, 8, 72, 8, WATER) + edit(1, 8, 40, 8, WATER)
+        for name, line, data, edits, workers in (
+                ("one worker", "chunks 1 turns 1", flat(), source, 1),
+                ("two workers", "chunks 2 turns 2", flat(chunks=((0, 0), (1, 0))), source + edit(1, 24, 64, 8, WATER), 2),
+                ("two parts of one chunk", "chunks 1 turns 2", flat(), one_chunk, 2)):
             folder = os.path.join(work, name.replace(" ", "_"))
-            counts.append(check_run(name, Run(program, library, folder, flat(), edits, workers)))
+            counts.append(check_run(name, line, Run(program, library, folder, data, edits, workers)))
         for name, workers in (("one thread", 0), ("one worker", 1), ("two workers", 2)):
             counts.append(check_ticks(name, Ticks(bench, library, work, workers)))
     asked, wrong = map(sum, zip(*counts))

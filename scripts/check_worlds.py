@@ -186,6 +186,10 @@ def flowing(run):
     yield "on the bottom of the world", {(8, -64, 8): 0, **{(x, -64, z): 1 for x, _, z in SIDES}}, low
     parts = run(flat(), edit(1, 8, 72, 8, WATER) + edit(1, 8, 40, 8, WATER), 6)
     yield "two parts of one chunk", [(8, 71, 8, 5, False), (8, 72, 8, 5, True), (8, 39, 8, 5, False), (8, 40, 8, 5, True)], parts.entries()
+    yield "and their turns", "chunks 1 turns 2", parts.line
+    row = run(flat(chunks=[(x, 0) for x in range(4)]), "".join(edit(1, 16 * x + 8, 64, 8, WATER) for x in range(4)), 6)
+    beside = {(16 * n + x, y, z): 1 for n in range(4) for x, y, z in SIDES} | {(16 * n + 8, 64, 8): 0 for n in range(4)}
+    yield "four chunks in a row", ("chunks 4 turns 4", beside), (row.line, row.wet())
 
 
 def entries(run):
@@ -266,6 +270,14 @@ def refusals(run):
     yield "a chunk that is kept", ("chunks 0 turns 0", kept), (same.line, same.data)
 
 
+def empty(run):
+    """Regions without chunks."""
+    none = run(bytes(8192), "", 10)
+    yield "8,192 zeros", ("chunks 0 turns 0", bytes(8192)), (none.line, none.data)
+    yield "no byte", ("chunks 0 turns 0", bytes(8192)), (lambda r: (r.line, r.data))(run(b"", "", 10))
+    yield "100 bytes", ("fault 04: ShortHeader", None), (lambda r: (r.fault, r.data))(run(bytes(100), "", 10))
+
+
 def judging(run):
     """Which of several faults is the first, and the ends of what is counted."""
     yield "a million ticks", "chunks 1 turns 0", run(flat(), "", 1_000_000).line
@@ -335,7 +347,7 @@ def main():
                 print("by other workers: expected %s, found %s" % (shown(first.answer()), shown(other.answer())))
         return first
 
-    for examples in (spreading, flowing, entries, soaked, light, heights, refusals, judging, crowding):
+    for examples in (spreading, flowing, entries, soaked, light, heights, refusals, empty, judging, crowding):
         for what, want, got in examples(run):
             asked += 1
             if want != got:
