@@ -4,6 +4,8 @@
 #[cfg(test)]
 mod chunks;
 #[cfg(test)]
+mod gates;
+#[cfg(test)]
 mod given;
 #[cfg(test)]
 mod refusals;

@@ -1,0 +1,96 @@
+//! A run hands its gate and its number of workers on to its ticks.
+use crate::given::{flat, only_file, table_with};
+use av_crew::{Done, Gate, Job, NoGate};
+use av_image_tests::flat::flat_region;
+use av_run::{Outcome, RegionFile, run};
+use av_types::RegionPos;
+use std::alloc::Global;
+use std::sync::Wait;
+use std::sync::atomic::AtomicU64;
+use std::sync::atomic::Ordering::SeqCst;
+use std::test::Fail;
+use std::thread::Threads;
+
+/// After so many turns of its loop the gate gives up.
+const TURNS: u32 = 50_000_000;
+
+/// Sources in two chunks, which are parts of their own.
+const EDITS: &str = "1 8 64 8 minecraft:water[level=0]\n1 24 64 8 minecraft:water[level=0]";
+
+/// Lets no job go on before two have come.
+#[derive(Drop)]
+struct Meeting {
+    come: AtomicU64,
+    gave_up: AtomicU64,
+    done: AtomicU64,
+}
+
+impl Meeting {
+    fn new() -> Meeting {
+        Meeting {
+            come: AtomicU64::new(0),
+            gave_up: AtomicU64::new(0),
+            done: AtomicU64::new(0),
+        }
+    }
+
+    /// How many jobs came, how often it gave up, and how many jobs were done.
+    fn counts(&self) -> (u64, u64, u64) {
+        (
+            self.come.load(SeqCst),
+            self.gave_up.load(SeqCst),
+            self.done.load(SeqCst),
+        )
+    }
+}
+
+impl Gate for Meeting {
+    ghost saw_job = { λ _ _. Unit {0} };
+
+    ghost saw_done = { λ _ _. Unit {0} };
+
+    fn before(&self, _job: &Job) {
+        self.come.fetch_add(1, SeqCst);
+        for _ in 0..TURNS {
+            if 2 <= self.come.load(SeqCst) {
+                return;
+            }
+        }
+        self.gave_up.fetch_add(1, SeqCst);
+    }
+
+    fn after(&self, _done: &Done) {
+        self.done.fetch_add(1, SeqCst);
+    }
+}
+
+/// Six ticks of two flat chunks.
+fn ran<G: Gate + Sync>(
+    rt: &(impl Threads + Wait + Sync),
+    alloc: Global,
+    workers: u32,
+    gate: &G,
+) -> Result<Outcome, Fail> {
+    let table = table_with(alloc, "version = 1")?;
+    let pos = RegionPos { x: 0, z: 0 };
+    let bytes = flat_region(alloc, flat(&[], &[]), 2)?;
+    let mut files = Vec::new(alloc);
+    files.push(RegionFile { pos, bytes })?;
+    let edits = EDITS.as_bytes();
+    Ok(run(rt, alloc, files, table.as_slice(), edits, 6, workers, gate)?)
+}
+
+/// Each of the two jobs of tick 6 is held until the other has come, which takes two workers. The file is that of one
+/// worker without a gate.
+#[test]
+fn jobs_of_a_run_meet(rt: HostRuntime) -> Result<(), Fail> {
+    let alloc = rt.alloc();
+    let gate = Meeting::new();
+    let outcome = ran(&rt, alloc, 2, &gate)?;
+    assert_eq!(rt; gate.counts(), (2, 0, 2));
+    assert_eq!(rt; outcome.chunks, 2);
+    assert_eq!(rt; outcome.turns, 2);
+    let alone = ran(&rt, alloc, 1, &NoGate)?;
+    assert!(rt; only_file(outcome)? == only_file(alone)?);
+    Ok(())
+}
