@@ -270,7 +270,7 @@ def refusals(run):
     yield "a chunk that is kept", ("chunks 0 turns 0", kept), (same.line, same.data)
 
 
-def empty(run):
+def without_chunks(run):
     """Regions without chunks."""
     none = run(bytes(8192), "", 10)
     yield "8,192 zeros", ("chunks 0 turns 0", bytes(8192)), (none.line, none.data)
@@ -347,7 +347,7 @@ def main():
                 print("by other workers: expected %s, found %s" % (shown(first.answer()), shown(other.answer())))
         return first
 
-    for examples in (spreading, flowing, entries, soaked, light, heights, refusals, empty, judging, crowding):
+    for examples in (spreading, flowing, entries, soaked, light, heights, refusals, without_chunks, judging, crowding):
         for what, want, got in examples(run):
             asked += 1
             if want != got:
