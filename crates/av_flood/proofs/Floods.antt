@@ -1,12 +1,14 @@
 -- Steps of a flood.
 use Rattle.std.proofs.Common.{◌≡◌, ℕ, ◌+◌, ◌-◌, ◌<◌, ◌≤◌, ◌⊎◌, Bool, true, false, cond, inl, inr, ⊎_elim, suc, zero, IsTrue, List, [], ◌∷◌, length, get_or, eqb, ◌≢◌, refl, sym, ap, ◌∙◌, subst, arith}
-use Rattle.std.specs.Prelude.{Contains, nat_le}
+use Rattle.std.specs.Prelude.{Contains, nat_le, map, None}
 use Rattle.av_types.specs.declared.place.Pos.{Pos}
 use Rattle.av_types.specs.declared.place.ChunkPos.{ChunkPos}
 use Rattle.av_types.specs.Places.{same_pos}
 use Rattle.av_types.proofs.SamePlaces.{same_pos_is, same_pos-refl}
+use Rattle.av_flood.specs.declared.spots.Spot.{Spot}
 use Rattle.av_flood.specs.Light.{Terrain, sides, IsAdjacent, cost, HasLight, IsLight}
 use Rattle.av_flood.specs.Flooding.{Matters, Levels, Has, IsMarked, IsSoundAt, IsFlooding, IsPushed, IsPopped, IsNone, IsGrown, IsOffered, IsReady, IsStarted, IsSettled}
+use Rattle.std.proofs.lemmas.List.{length-map, get_or-map}
 use Rattle.std.proofs.lemmas.Bool.{false≢true, cases_lt}
 use Rattle.std.proofs.lemmas.Bool.Decides.{eqb_tells, nat_tests}
 use Rattle.av_flood.proofs.Queues.{IsPushed-kept, IsPushed-only, IsPushed-there, IsPopped-back}
@@ -175,22 +177,32 @@ pub IsOffered-unloaded : (t : Terrain) (c : ChunkPos) (n : ℕ) (lit : Pos → �
 IsOffered-unloaded t c n lit todo q e = record { has = λ l v positive f m. absurd (false≢true (sym e ∙ l)) }
 
 -- what a loop over the blocks beside has offered
-pub offered_more : (P : Pos → Type 0) (Q : Pos → Type 0) (qs : List Pos) (i : ℕ) (d q : Pos) → i < length qs → q ≡ get_or qs i d → ((r : Pos) → P r → Q r) → Q q
-    → ((k : ℕ) (e : Pos) → k < i → P (get_or qs k e)) → (k : ℕ) (e : Pos) → k < i + 1 → Q (get_or qs k e)
-offered_more P Q qs i d q within is still here before k e less = on (eqb_tells k i) where
+pub offered_more : {A : Type 0} (P : A → Type 0) (Q : A → Type 0) (qs : List A) (i : ℕ) (d q : A) → i < length qs → q ≡ get_or qs i d → ((r : A) → P r → Q r) → Q q
+    → ((k : ℕ) (e : A) → k < i → P (get_or qs k e)) → (k : ℕ) (e : A) → k < i + 1 → Q (get_or qs k e)
+offered_more {A} P Q qs i d q within is still here before k e less = on (eqb_tells k i) where
   on : ((eqb k i ≡ true) × (k ≡ i)) ⊎ ((eqb k i ≡ false) × (k ≢ i)) → Q (get_or qs k e)
   on (inl h) = subst (λ j. Q (get_or qs j e)) (sym h.1) (subst Q (is ∙ same_read qs i d e within) here) where
-    same_read : (xs : List Pos) (j : ℕ) (a b : Pos) → j < length xs → get_or xs j a ≡ get_or xs j b
+    same_read : (xs : List A) (j : ℕ) (a b : A) → j < length xs → get_or xs j a ≡ get_or xs j b
     same_read [] j a b l = absurd (omega arith)
     same_read (x ∷ xs) zero a b l = refl
     same_read (x ∷ xs) (suc j) a b l = same_read xs j a b (omega arith)
   on (inr h) = still (get_or qs k e) (before k e (let n = h.1 in omega (arith, n)))
 
-pub IsOffered-all : (t : Terrain) (c : ChunkPos) (n : ℕ) (lit : Pos → ℕ) (todo : Levels) (p : Pos) (qs : List Pos) (i : ℕ) → qs ≡ sides p → length qs ≤ i
-    → ((k : ℕ) (e : Pos) → k < i → IsOffered t c n lit todo (get_or qs k e)) → (q : Pos) → IsAdjacent p q → IsOffered t c n lit todo q
-IsOffered-all t c n lit todo p qs i is end h q a =
-    let long : length qs ≡ 6 = ap length is in
-    subst (IsOffered t c n lit todo) (ap (λ xs. get_or xs a.0 q) is ∙ a.2) (h a.0 q (let l : a.0 < 6 = a.1 in omega arith))
+pub six_beside : (spots : List Spot) (p : Pos) → map (λ s. s.pos) spots ≡ sides p → length spots ≡ 6
+six_beside spots p is = sym (length-map spots (λ (s : Spot). s.pos)) ∙ ap length is
+
+pub is_beside : (spots : List Spot) (p : Pos) → map (λ s. s.pos) spots ≡ sides p → (k : ℕ) (e : Spot) → k < length spots → IsAdjacent p (get_or spots k e).pos
+is_beside spots p is k e less =
+    let long = six_beside spots p is in
+    let q = (get_or spots k e).pos in
+    (k, (let l : k < 6 = omega arith in l), ap (λ xs. get_or xs k q) (sym is) ∙ get_or-map (λ (s : Spot). s.pos) spots k e q less)
+
+pub IsOffered-all : (t : Terrain) (c : ChunkPos) (n : ℕ) (lit : Pos → ℕ) (todo : Levels) (p : Pos) (spots : List Spot) (i : ℕ) → map (λ s. s.pos) spots ≡ sides p → length spots ≤ i
+    → ((k : ℕ) (e : Spot) → k < i → IsOffered t c n lit todo (get_or spots k e).pos) → (q : Pos) → IsAdjacent p q → IsOffered t c n lit todo q
+IsOffered-all t c n lit todo p spots i is end h q a =
+    let long = six_beside spots p is in
+    let nowhere : Spot = record { pos = q; index = None } in
+    subst (IsOffered t c n lit todo) (sym (get_or-map (λ (s : Spot). s.pos) spots a.0 nowhere q (let l : a.0 < 6 = a.1 in omega arith)) ∙ ap (λ xs. get_or xs a.0 q) is ∙ a.2) (h a.0 nowhere (let l : a.0 < 6 = a.1 in omega arith))
 
 -- the steps of a level, as the loop takes them
 pub none_left : (t : Terrain) (c : ChunkPos) (n : ℕ) (lit : Pos → ℕ) (old new : Levels) → 0 < n → IsNone old new n → IsFlooding t c n lit old → IsFlooding t c (n - 1) lit new

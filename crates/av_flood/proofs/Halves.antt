@@ -99,8 +99,8 @@ take_whole [] (suc n) l = refl
 take_whole (x ∷ xs) zero l = absurd (omega arith)
 take_whole (x ∷ xs) (suc n) l = ap (λ ys. x ∷ ys) (take_whole xs n (omega arith))
 
-pub HasLightSoFar-resized : (light : ℕ → ℕ) (old new : List ℕ) (n m : ℕ) → new ≡ take n old ++ replicate (n - m) 0 → m ≡ length old → n ≡ m + 2048
-    → HasLightSoFar light old → ((j : ℕ) → 2 * m ≤ j → j < 2 * m + 4096 → light j ≡ 0) → HasLightSoFar light new
+pub HasLightSoFar-resized : (light : ℕ → ℕ) (old new : List ℕ) (n m : ℕ) → new ≡ take n old ++ replicate (n - m) 0 → m ≡ length old → n ≡ m + 128
+    → HasLightSoFar light old → ((j : ℕ) → 2 * m ≤ j → j < 2 * m + 256 → light j ≡ 0) → HasLightSoFar light new
 HasLightSoFar-resized light old new n m e is long h dark =
     subst (HasLightSoFar light) (sym (e ∙ ap (λ xs. xs ++ replicate (n - m) 0) (take_whole old n (omega arith))))
     (HasLightSoFar-dark light old (n - m) h (λ j low high. dark j (omega arith) (omega arith)))

@@ -4,3 +4,4 @@ pub mod Floods
 pub mod Boards
 pub mod Halves
 pub mod Quiet
+mod Beside

@@ -4,3 +4,4 @@ pub mod Flooding
 pub mod Board
 pub mod Quiet
 pub mod Blocks
+pub mod Spots

@@ -1,12 +1,13 @@
 //! The board of a flood: blocks with their light.
-ghost use Rattle.std.specs.Prelude.{◌≡◌, ◌≤◌, ◌<◌, ◌+◌, ◌*◌, ℕ, pos, ◌+ℤ◌, ◌≤ℤ◌, ◌<ℤ◌, IsTrue, MatchOption, IfOk, vec_len, true, false, count_by, nat_le, if◌then◌else◌, All, length, slice_index, slice_index_or, ◌-◌, ◌/◌, ◌%◌, OnOk, slice_range};
+ghost use Rattle.std.specs.Prelude.{◌≡◌, ◌≤◌, ◌<◌, ◌+◌, ◌*◌, ℕ, pos, IsTrue, MatchOption, IfOk, vec_len, true, false, count_by, nat_le, if◌then◌else◌, All, length, slice_index, ◌-◌, ◌/◌, OnOk, slice_range};
 ghost use Rattle.std.proofs.Props.{props};
 ghost use Rattle.av_types.specs.declared.place.Pos.{Pos};
 ghost use Rattle.av_flood.specs.Offsets.{IsNth, IsBeyond};
 ghost use Rattle.av_flood.specs.Quiet.{IsQuiet};
 
 use crate::buckets::Buckets;
-use crate::bytes::{PART, clear, push_dark, two_halves};
+use crate::bytes::{LAYER, clear, push_dark, two_halves};
+use crate::spots::{Spot, natural};
 use av_types::{ChunkPos, Height, Pos};
 use std::alloc::{AllocError, Global};
 
@@ -22,28 +23,20 @@ pub struct Flood {
     light: Vec<u8>,
     /// How many blocks have their light.
     count: u32,
-    /// For each section of the height, whether any of its bytes was set.
+    /// For each layer, whether any of its bytes was set.
     touched: Vec<bool>,
     /// The lists of blocks that waited in an earlier flood.
     pub(crate) waiting: Option<Buckets>,
     ghost long: { vec_len light ≡ 30976 * height.sections },
-    ghost parts: { vec_len touched ≡ height.sections },
+    ghost layers: { vec_len touched ≡ 16 * height.sections },
     ghost quiet: { IsQuiet touched.items light.items } by { Prim.hlevel props },
     ghost counted: { count ≡ count_by (λ n. nat_le 128 n) light.items },
     ghost dim: { All (λ n. n < 144) light.items } by { Prim.hlevel props },
 }
 
-/// A number that is not negative.
-fn natural(number: i64) -> u32
-    requires low { pos 0 ≤ℤ number }
-    requires high { number <ℤ pos 4294967296 }
-    ensures { number ≡ pos result }
-{
-    number as u32
-}
-
 impl Flood {
     ghost use Rattle.av_flood.specs.Board.{corner, is_on, byte_of, light_of, is_settled, settled_count, light_at, HasLightSoFar, IsOff, IsPlace};
+    ghost use Rattle.av_flood.specs.Spots.{IsSpot};
     ghost use Rattle.av_types.specs.Places.{same_pos};
     ghost use Rattle.av_flood.specs.Flooding.{IsSettled};
 
@@ -60,9 +53,9 @@ impl Flood {
         Ok(Flood {
             chunk,
             height,
-            light: vec![in alloc; 0; PART * height.sections as usize]?,
+            light: vec![in alloc; 0; 16 * LAYER * height.sections as usize]?,
             count: 0,
-            touched: vec![in alloc; false; height.sections as usize]?,
+            touched: vec![in alloc; false; 16 * height.sections as usize]?,
             waiting: None,
         })
     }
@@ -80,8 +73,8 @@ impl Flood {
             waiting,
             ..
         } = self;
-        for section in 0..touched.len() {
-            clear(&mut light, &mut touched, section);
+        for layer in 0..touched.len() {
+            clear(&mut light, &mut touched, layer);
         }
         Flood {
             chunk,
@@ -163,6 +156,17 @@ impl Flood {
         Some((44 * (44 * y + z) + x) as usize)
     }
 
+    /// A block, and where its light stands.
+    fn spot(&self, pos: Pos) -> Spot
+        ensures pos { result.pos ≡ pos }
+        ensures spot { IsSpot self.now.chunk self.now.height result }
+    {
+        Spot {
+            pos,
+            index: self.index(pos),
+        }
+    }
+
     /// Whether a block is one of the board.
     pub fn is_on(&self, pos: Pos) -> bool
         ensures { result ≡ is_on self.now.chunk self.now.height pos }
@@ -170,11 +174,12 @@ impl Flood {
         self.index(pos).is_some()
     }
 
-    /// The byte of a block of the board.
-    pub(crate) fn byte(&self, pos: Pos) -> u8
-        ensures { result ≡ byte_of self.now pos }
+    /// The byte of a block, 0 of one that is none of the board.
+    pub(crate) fn byte(&self, spot: Spot) -> u8
+        requires { IsSpot self.now.chunk self.now.height spot }
+        ensures { result ≡ byte_of self.now spot.pos }
     {
-        match self.index(pos) {
+        match spot.index {
             Some(index) => self.light[index],
             None => 0,
         }
@@ -186,28 +191,29 @@ impl Flood {
         ensures unsettled { is_settled self.now pos ≡ false → result ≡ 0 }
         ensures most { result ≤ 15 }
     {
-        self.byte(pos).saturating_sub(128)
+        self.byte(self.spot(pos)).saturating_sub(128)
     }
 
     /// Whether a block has its light.
     pub fn is_settled(&self, pos: Pos) -> bool
         ensures { result ≡ is_settled self.now pos }
     {
-        self.byte(pos) >= 128
+        self.byte(self.spot(pos)) >= 128
     }
 
     /// Notes the light that a block waits for.
-    pub(crate) fn mark(&mut self, pos: Pos, level: u8)
-        requires on { IsTrue (is_on self.old.chunk self.old.height pos) }
-        requires unsettled { byte_of self.old pos < 128 }
+    pub(crate) fn mark(&mut self, spot: Spot, level: u8)
+        requires spot { IsSpot self.old.chunk self.old.height spot }
+        requires on { IsTrue (is_on self.old.chunk self.old.height spot.pos) }
+        requires unsettled { byte_of self.old spot.pos < 128 }
         requires level { level ≤ 15 }
-        ensures bytes { IsSettled (byte_of self.old) (byte_of self.new) pos level }
+        ensures bytes { IsSettled (byte_of self.old) (byte_of self.new) spot.pos level }
         ensures chunk { self.new.chunk ≡ self.old.chunk }
         ensures height { self.new.height ≡ self.old.height }
     {
-        if let Some(index) = self.index(pos) {
+        if let Some(index) = spot.index {
             self.light[index] = level;
-            self.touched[index / PART] = true;
+            self.touched[index / LAYER] = true;
         }
     }
 
@@ -225,7 +231,7 @@ impl Flood {
     {
         if let Some(index) = self.index(pos) {
             self.light[index] = 128 + level;
-            self.touched[index / PART] = true;
+            self.touched[index / LAYER] = true;
             self.count += 1;
         }
     }
@@ -283,25 +289,11 @@ impl Flood {
         ensures count { OnOk result (vec_len bytes.new ≡ 128 * y + 128) }
         ensures halves { OnOk result (HasLightSoFar (light_at self.now) bytes.new.items) }
     {
-        for z in 0..16 {
-            self.push_row(y, z, bytes)?;
-        }
-        Ok(())
-    }
-
-    /// Appends the light of the chunk's blocks in a section, by its place from the lowest up.
-    fn push_section(&self, section: u32, bytes: &mut Vec<u8>) -> Result<(), AllocError>
-        requires section { section < self.now.height.sections }
-        requires before { vec_len bytes.old ≡ 2048 * section }
-        requires halves { HasLightSoFar (light_at self.now) bytes.old.items }
-        ensures count { OnOk result (vec_len bytes.new ≡ 2048 * section + 2048) }
-        ensures halves { OnOk result (HasLightSoFar (light_at self.now) bytes.new.items) }
-    {
-        if !self.touched[section as usize] {
+        if !self.touched[y as usize] {
             return push_dark(bytes);
         }
-        for y in 16 * section..16 * section + 16 {
-            self.push_layer(y, bytes)?;
+        for z in 0..16 {
+            self.push_row(y, z, bytes)?;
         }
         Ok(())
     }
@@ -315,8 +307,8 @@ impl Flood {
         ensures halves { IfOk result (λ bytes. HasLightSoFar (light_at self.now) bytes.items) }
     {
         let mut bytes = Vec::with_capacity(alloc, 2048 * self.height.sections as usize)?;
-        for section in 0..self.height.sections {
-            self.push_section(section, &mut bytes)?;
+        for y in 0..16 * self.height.sections {
+            self.push_layer(y, &mut bytes)?;
         }
         Ok(bytes)
     }

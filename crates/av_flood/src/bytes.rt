@@ -5,35 +5,35 @@ ghost use Rattle.av_flood.specs.Board.{HasLightSoFar};
 
 use std::alloc::AllocError;
 
-/// How many blocks of a board lie in a section of the height.
-pub(crate) const PART: usize = 30976;
+/// How many blocks of a board lie in a layer.
+pub(crate) const LAYER: usize = 1936;
 
-/// Makes the bytes of a section 0, if any was set.
-pub(crate) fn clear(light: &mut Vec<u8>, touched: &mut Vec<bool>, section: usize)
-    requires long { vec_len light.old ≡ 30976 * vec_len touched.old }
-    requires section { section < vec_len touched.old }
+/// Makes the bytes of a layer 0, if any was set.
+pub(crate) fn clear(light: &mut Vec<u8>, touched: &mut Vec<bool>, layer: usize)
+    requires long { vec_len light.old ≡ 1936 * vec_len touched.old }
+    requires layer { layer < vec_len touched.old }
     requires quiet { IsQuiet touched.old.items light.old.items }
     ensures light { vec_len light.new ≡ vec_len light.old }
     ensures touched { vec_len touched.new ≡ vec_len touched.old }
     ensures quiet { IsQuiet touched.new.items light.new.items }
-    ensures here { slice_index_or touched.new.items section true ≡ false }
+    ensures here { slice_index_or touched.new.items layer true ≡ false }
     ensures others { (s : ℕ) → slice_index_or touched.old.items s true ≡ false → slice_index_or touched.new.items s true ≡ false }
 {
-    if !touched[section] {
+    if !touched[layer] {
         return;
     }
-    light.as_mut_slice()[PART * section..PART * section + PART].fill(0);
-    touched[section] = false;
+    light.as_mut_slice()[LAYER * layer..LAYER * layer + LAYER].fill(0);
+    touched[layer] = false;
 }
 
-/// Appends the light of a section in which all is dark.
+/// Appends the light of a layer in which all is dark.
 pub(crate) fn push_dark(bytes: &mut Vec<u8>) -> Result<(), AllocError>
     requires { vec_len bytes.old ≤ 131072 }
-    ensures count { OnOk result (vec_len bytes.new ≡ vec_len bytes.old + 2048) }
+    ensures count { OnOk result (vec_len bytes.new ≡ vec_len bytes.old + 128) }
     ensures halves { OnOk result ((light : ℕ → ℕ) → HasLightSoFar light bytes.old.items
-        → ((j : ℕ) → 2 * vec_len bytes.old ≤ j → j < 2 * vec_len bytes.old + 4096 → light j ≡ 0) → HasLightSoFar light bytes.new.items) }
+        → ((j : ℕ) → 2 * vec_len bytes.old ≤ j → j < 2 * vec_len bytes.old + 256 → light j ≡ 0) → HasLightSoFar light bytes.new.items) }
 {
-    let length = bytes.len() + 2048;
+    let length = bytes.len() + 128;
     bytes.resize(length, 0)?;
     Ok(())
 }

@@ -1,9 +1,10 @@
 //! A flood of light, from the brightest level down.
-ghost use Rattle.std.specs.Prelude.{◌≡◌, ◌≤◌, ◌<◌, ◌-◌, ℕ, [], pos, negsuc, ◌≤ℤ◌, IsTrue, ◌↔◌, OnOk, IfOk};
+ghost use Rattle.std.specs.Prelude.{◌≡◌, ◌≤◌, ◌<◌, ◌-◌, ℕ, [], pos, IsTrue, OnOk, IfOk};
 ghost use Rattle.av_types.specs.Places.{chunk_of};
 ghost use Rattle.av_types.specs.declared.place.Pos.{Pos};
 ghost use Rattle.av_flood.specs.Light.{IsAdjacent, HasLight, IsLight};
-ghost use Rattle.av_flood.specs.Board.{light_of, byte_of};
+ghost use Rattle.av_flood.specs.Board.{is_on, light_of, byte_of};
+ghost use Rattle.av_flood.specs.Spots.{IsSpot};
 ghost use Rattle.av_flood.specs.Blocks.{IsInner, MayBeLoaded, AreKnown};
 ghost use Rattle.av_flood.specs.Flooding.{todo_of, IsMarked, IsGrown, IsOffered, IsFlooding};
 
@@ -12,7 +13,7 @@ use crate::board::Flood;
 use crate::buckets::Buckets;
 use crate::emit::start;
 use crate::near::{matters, may_be_loaded};
-use crate::sides::sides;
+use crate::spots::Spot;
 use av_types::{ChunkPos, Pos};
 use std::alloc::{AllocError, Global};
 
@@ -21,43 +22,44 @@ fn offer<B: Blocks>(
     flood: &mut Flood,
     blocks: &B,
     from: Pos,
-    pos: Pos,
+    spot: Spot,
     level: u8,
     buckets: &mut Buckets,
 ) -> Result<(), AllocError>
     requires level { level < 16 }
     requires height { flood.old.height ≡ B.tall blocks.now }
-    requires beside { IsAdjacent from pos }
+    requires spot { IsSpot flood.old.chunk flood.old.height spot }
+    requires beside { IsAdjacent from spot.pos }
     requires comes { HasLight (B.terrain blocks.now) from level }
-    requires bright { 128 ≤ byte_of flood.old pos → level ≤ light_of flood.old pos }
+    requires bright { 128 ≤ byte_of flood.old spot.pos → level ≤ light_of flood.old spot.pos }
     requires marked { IsMarked (byte_of flood.old) (light_of flood.old) (todo_of buckets.old) }
     ensures chunk { flood.new.chunk ≡ flood.old.chunk }
     ensures height { flood.new.height ≡ flood.old.height }
     ensures same { OnOk result ((q : Pos) → light_of flood.new q ≡ light_of flood.old q) }
     ensures marked { OnOk result (IsMarked (byte_of flood.new) (light_of flood.new) (todo_of buckets.new)) }
     ensures grown { OnOk result (IsGrown (B.terrain blocks.now) flood.old.chunk level (todo_of buckets.old) (todo_of buckets.new)) }
-    ensures offered { OnOk result (IsOffered (B.terrain blocks.now) flood.old.chunk level (light_of flood.old) (todo_of buckets.new) pos) }
+    ensures offered { OnOk result (IsOffered (B.terrain blocks.now) flood.old.chunk level (light_of flood.old) (todo_of buckets.new) spot.pos) }
     ensures others { OnOk result (todo_of buckets.new level ≡ todo_of buckets.old level) }
 {
-    let seen = flood.byte(pos);
+    let seen = flood.byte(spot);
     if level.saturating_sub(1) <= seen {
         return Ok(());
     }
-    let Some(cost) = blocks.cost(pos) else {
+    let Some(cost) = blocks.cost(spot.pos) else {
         return Ok(());
     };
     if level.saturating_sub(cost) <= seen {
         return Ok(());
     }
-    if !matters(flood.chunk, pos, level - cost) {
+    if !matters(flood.chunk, spot.pos, level - cost) {
         return Ok(());
     }
-    buckets.push(level - cost, pos)?;
-    flood.mark(pos, level - cost);
+    buckets.push(level - cost, spot.pos)?;
+    flood.mark(spot, level - cost);
     Ok(())
 }
 
-/// Lets light come to the blocks beside a block.
+/// Lets light come to the blocks beside a block. Level 1 comes to none.
 fn spread<B: Blocks>(
     flood: &mut Flood,
     blocks: &B,
@@ -68,6 +70,7 @@ fn spread<B: Blocks>(
     requires level { level < 16 }
     requires height { flood.old.height ≡ B.tall blocks.now }
     requires inner { IsInner pos }
+    requires on { IsTrue (is_on flood.old.chunk flood.old.height pos) }
     requires comes { HasLight (B.terrain blocks.now) pos level }
     requires bright { (q : Pos) → 0 < light_of flood.old q → level ≤ light_of flood.old q }
     requires marked { IsMarked (byte_of flood.old) (light_of flood.old) (todo_of buckets.old) }
@@ -79,9 +82,12 @@ fn spread<B: Blocks>(
     ensures offered { OnOk result ((q : Pos) → IsAdjacent pos q → IsOffered (B.terrain blocks.now) flood.old.chunk level (light_of flood.old) (todo_of buckets.new) q) }
     ensures others { OnOk result (todo_of buckets.new level ≡ todo_of buckets.old level) }
 {
-    let beside = sides(pos);
-    for side in beside.iter() {
-        offer(flood, blocks, pos, *side, level, buckets)?;
+    if level < 2 {
+        return Ok(());
+    }
+    let spots = flood.beside(pos);
+    for spot in spots.iter() {
+        offer(flood, blocks, pos, *spot, level, buckets)?;
     }
     Ok(())
 }

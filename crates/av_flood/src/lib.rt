@@ -12,6 +12,7 @@ mod emit;
 mod flood;
 pub mod near;
 mod sides;
+mod spots;
 
 pub use blocks::Blocks;
 pub use board::Flood;

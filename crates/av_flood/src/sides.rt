@@ -1,12 +1,12 @@
 //! The blocks that share a face with a block.
 ghost use Rattle.std.specs.Prelude.{◌≡◌};
-ghost use Rattle.av_flood.specs.Light.{sides, below, above, north, south, west, east};
+ghost use Rattle.av_flood.specs.Light.{below, above, north, south, west, east};
 ghost use Rattle.av_flood.specs.Blocks.{IsInner};
 
 use av_types::Pos;
 
 /// The block below it.
-fn below(pos: Pos) -> Pos
+pub(crate) fn below(pos: Pos) -> Pos
     requires { IsInner pos }
     ensures { result ≡ below pos }
 {
@@ -18,7 +18,7 @@ fn below(pos: Pos) -> Pos
 }
 
 /// The block above it.
-fn above(pos: Pos) -> Pos
+pub(crate) fn above(pos: Pos) -> Pos
     requires { IsInner pos }
     ensures { result ≡ above pos }
 {
@@ -30,7 +30,7 @@ fn above(pos: Pos) -> Pos
 }
 
 /// The block north of it.
-fn north(pos: Pos) -> Pos
+pub(crate) fn north(pos: Pos) -> Pos
     requires { IsInner pos }
     ensures { result ≡ north pos }
 {
@@ -42,7 +42,7 @@ fn north(pos: Pos) -> Pos
 }
 
 /// The block south of it.
-fn south(pos: Pos) -> Pos
+pub(crate) fn south(pos: Pos) -> Pos
     requires { IsInner pos }
     ensures { result ≡ south pos }
 {
@@ -54,7 +54,7 @@ fn south(pos: Pos) -> Pos
 }
 
 /// The block west of it.
-fn west(pos: Pos) -> Pos
+pub(crate) fn west(pos: Pos) -> Pos
     requires { IsInner pos }
     ensures { result ≡ west pos }
 {
@@ -66,7 +66,7 @@ fn west(pos: Pos) -> Pos
 }
 
 /// The block east of it.
-fn east(pos: Pos) -> Pos
+pub(crate) fn east(pos: Pos) -> Pos
     requires { IsInner pos }
     ensures { result ≡ east pos }
 {
@@ -75,19 +75,4 @@ fn east(pos: Pos) -> Pos
         y: pos.y,
         z: pos.z,
     }
-}
-
-/// The blocks that share a face with a block.
-pub(crate) fn sides(pos: Pos) -> [Pos; 6]
-    requires { IsInner pos }
-    ensures { result ≡ sides pos }
-{
-    [
-        below(pos),
-        above(pos),
-        north(pos),
-        south(pos),
-        west(pos),
-        east(pos),
-    ]
 }

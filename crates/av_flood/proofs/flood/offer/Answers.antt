@@ -18,20 +18,20 @@ returns-then-not-matters-clause-offered g c = IsOffered-far _ _ _ _ _ _ _ (c.in-
 pub mark-requires-clause-on : goal.mark-requires-clause-on
 mark-requires-clause-on g c =
     let known = c.in-Some.ensures {u = tt} in
-    let near = g.met.B.Blocks.near c.args.blocks.now c.args.pos known.0 in
+    let near = g.met.B.Blocks.near c.args.blocks.now c.args.spot.pos known.0 in
     on_board _ _ _ _ (let h = c.requires.level in let l : c.args.level - c.in-Some.cost ≤ 15 = omega arith in l) (c.if-not-matters.ensures.0 refl)
-    (subst (λ h. IsNear h c.args.pos) (sym c.requires.height) near)
+    (subst (λ h. IsNear h c.args.spot.pos) (sym c.requires.height) near)
 
 pub returns-clause-same : goal.returns-clause-same
 returns-clause-same g c =
     let seen = c.byte-seen.ensures in
-    light_marked (byte_of c.args.flood.now) (byte_of c.mark.new.self) c.args.pos (c.args.level - c.in-Some.cost) (let h = c.requires.level in omega arith) (subst (λ b. b < 128) c.byte-seen.ensures (let h = c.requires.level in let f = c.if-saturating_sub-seen.false in let l : c.byte-seen.result < 128 = omega (arith, c.saturating_sub.ensures) in l)) c.mark.ensures.bytes
+    light_marked (byte_of c.args.flood.now) (byte_of c.mark.new.self) c.args.spot.pos (c.args.level - c.in-Some.cost) (let h = c.requires.level in omega arith) (subst (λ b. b < 128) c.byte-seen.ensures (let h = c.requires.level in let f = c.if-saturating_sub-seen.false in let l : c.byte-seen.result < 128 = omega (arith, c.saturating_sub.ensures) in l)) c.mark.ensures.bytes
 
 pub returns-clause-marked : goal.returns-clause-marked
 returns-clause-marked g c =
     let seen = c.byte-seen.ensures in
-    IsMarked-pushed (byte_of c.args.flood.now) (byte_of c.mark.new.self) (light_of c.args.flood.now) (light_of c.mark.new.self) _ _ c.args.pos (c.args.level - c.in-Some.cost) (let h = c.requires.level in omega arith) c.in_ok-push.ensures c.mark.ensures.bytes
-    (light_marked (byte_of c.args.flood.now) (byte_of c.mark.new.self) c.args.pos (c.args.level - c.in-Some.cost) (let h = c.requires.level in omega arith) (subst (λ b. b < 128) c.byte-seen.ensures (let h = c.requires.level in let f = c.if-saturating_sub-seen.false in let l : c.byte-seen.result < 128 = omega (arith, c.saturating_sub.ensures) in l)) c.mark.ensures.bytes) c.requires.marked
+    IsMarked-pushed (byte_of c.args.flood.now) (byte_of c.mark.new.self) (light_of c.args.flood.now) (light_of c.mark.new.self) _ _ c.args.spot.pos (c.args.level - c.in-Some.cost) (let h = c.requires.level in omega arith) c.in_ok-push.ensures c.mark.ensures.bytes
+    (light_marked (byte_of c.args.flood.now) (byte_of c.mark.new.self) c.args.spot.pos (c.args.level - c.in-Some.cost) (let h = c.requires.level in omega arith) (subst (λ b. b < 128) c.byte-seen.ensures (let h = c.requires.level in let f = c.if-saturating_sub-seen.false in let l : c.byte-seen.result < 128 = omega (arith, c.saturating_sub.ensures) in l)) c.mark.ensures.bytes) c.requires.marked
 
 pub returns-clause-grown : goal.returns-clause-grown
 returns-clause-grown g c =

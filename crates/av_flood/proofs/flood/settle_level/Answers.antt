@@ -1,7 +1,7 @@
 use Rattle.std.proofs.Common.{arith, refl, subst, sym, ◌∙◌, ◌≤◌}
 use Rattle.av_flood.specs.Board.{light_of, byte_of}
 use Rattle.av_flood.specs.Blocks.{IsNear}
-use Rattle.av_flood.specs.Flooding.{IsFlooding, IsGrown, IsOffered, todo_of}
+use Rattle.av_flood.specs.Flooding.{Matters, IsFlooding, IsGrown, IsOffered, todo_of}
 use Rattle.av_types.specs.declared.place.Pos.{Pos}
 use Rattle.av_flood.specs.Light.{IsAdjacent}
 use Rattle.av_flood.proofs.Boards.{on_board, inner_near}
@@ -17,6 +17,13 @@ settle-requires-clause-on g c =
 
 pub settle-requires-clause-unsettled : goal.settle-requires-clause-unsettled
 settle-requires-clause-unsettled g c = not_settled _ (unsettled _ _ (sym c.light.ensures.value ∙ c.if-light-eq0.true) (c.loop-pos.invariant.marked.settled c.in-Some.pos))
+
+pub spread-requires-clause-on : goal.spread-requires-clause-on
+spread-requires-clause-on g c =
+    let sound = next_sound _ _ _ _ _ _ _ (c.in-Some.ensures {u = tt}) c.loop-pos.invariant.flooding in
+    let near = g.met.B.Blocks.near c.args.blocks.now c.in-Some.pos sound.loaded in
+    on_board _ _ _ _ (let h = c.requires.high in let l : c.args.level ≤ 15 = omega arith in l) (subst (λ k. Matters k c.args.level c.in-Some.pos) (sym c.settle.ensures.chunk) sound.matters)
+    (subst (λ h. IsNear h c.in-Some.pos) (sym (c.settle.ensures.height ∙ c.loop-pos.invariant.height ∙ c.requires.height)) near)
 
 pub spread-requires-clause-inner : goal.spread-requires-clause-inner
 spread-requires-clause-inner g c =
