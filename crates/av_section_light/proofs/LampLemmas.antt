@@ -1,6 +1,8 @@
 -- Blocks that give light, in lists of them.
-use Rattle.std.proofs.Common.{◌≡◌, ℕ, ℤ, pos, negsuc, ◌<◌, ◌*◌, ◌+ℤ◌, ◌-ℤ◌, ◌*ℤ◌, ◌≤ℤ◌, ◌<ℤ◌, List, Some, refl, sym, ap, ◌∙◌, subst, arith}
+use Rattle.std.proofs.Common.{◌≡◌, ℕ, ℤ, pos, negsuc, ◌<◌, ◌*◌, ◌+ℤ◌, ◌-ℤ◌, ◌*ℤ◌, ◌≤ℤ◌, ◌<ℤ◌, List, get_or, Some, refl, sym, ap, ◌∙◌, subst, arith}
 use Rattle.std.specs.Prelude.{Contains}
+use Rattle.av_pack.specs.Packing.{packed_at, unpacked}
+use Rattle.av_pack.proofs.Laws.{get_or-unpacked}
 use Rattle.std.proofs.lemmas.Int.{ints}
 use Rattle.av_types.specs.Division.{divided}
 use Rattle.av_types.specs.Places.{chunk_of, section_of, place_of, block_at}
@@ -60,3 +62,8 @@ pub in_layer : (c : ChunkPos) (h : Height) (p : Pos) (P : Type 0) → chunk_of p
 in_layer c h p P e near all =
     let layer = layer_of h p.y near.low near.high in
     all layer.number layer.less (λ i. record { x = (e i).x; y = layer.is i; z = (e i).z })
+
+-- an index read from the unpacked ones
+pub unpacked_index : (b : ℕ) (longs : List ℤ) (indices : List ℕ) (place from index i d : ℕ) → place < 4096 → indices ≡ unpacked b longs → from ≡ place → index ≡ get_or indices from d → i ≡ index → i ≡ packed_at b longs place
+unpacked_index b longs indices place from index i d less all is read same =
+    same ∙ read ∙ ap (λ xs. get_or xs from d) all ∙ ap (λ n. get_or (unpacked b longs) n d) is ∙ get_or-unpacked b longs place d less

@@ -1,10 +1,12 @@
 -- The blocks of a chunk that give light.
-use Rattle.std.specs.Prelude.{ℕ, ◌≡◌, ◌<◌, ◌≤ℤ◌, ◌+ℤ◌, pos, negsuc, List, IsTrue, Contains}
+use Rattle.std.specs.Prelude.{ℕ, ◌≡◌, ◌<◌, ◌≤ℤ◌, ◌+ℤ◌, pos, negsuc, List, Bool, false, IsTrue, Contains, length, nat_lt, slice_index, slice_index_or}
 use Rattle.av_types.specs.Places.{chunk_of}
 use Rattle.av_types.specs.declared.place.Pos.{Pos}
 use Rattle.av_types.specs.declared.place.ChunkPos.{ChunkPos}
 use Rattle.av_types.specs.declared.place.SectionPos.{SectionPos}
 use Rattle.av_types.specs.declared.place.Height.{Height}
+use Rattle.av_rules.specs.declared.kinds.Kinds.{Kinds}
+use Rattle.av_rules.specs.Kinds.{row_at}
 use Rattle.av_flood.specs.Light.{Terrain}
 
 -- each of them is in the list
@@ -23,3 +25,8 @@ pub record IsNearSection (s : SectionPos) : Type 0 where
   pub high : s.y ≤ℤ pos 63
   pub north : negsuc 1920030 ≤ℤ s.z
   pub south : s.z ≤ℤ pos 1920031
+
+-- whether the state of each number of a palette gives light
+pub record AreShining (k : Kinds) (palette : List ℕ) (flags : List Bool) : Type 0 where
+  pub count : length flags ≡ length palette
+  pub each : (i : ℕ) → i < length palette → slice_index_or flags i false ≡ nat_lt 0 (row_at k (slice_index palette i)).emission

@@ -1,17 +1,18 @@
 //! The blocks of a chunk that give light.
-ghost use Rattle.std.specs.Prelude.{◌≡◌, ◌<◌, ℕ, IsTrue, IfOk, OnOk, Contains};
+ghost use Rattle.std.specs.Prelude.{◌≡◌, ◌<◌, ◌≤◌, ℕ, true, false, IsTrue, IfOk, OnOk, Contains, length, slice_index_or};
 ghost use Rattle.av_types.specs.Places.{section_of, block_at};
 ghost use Rattle.av_types.specs.declared.place.Pos.{Pos};
+ghost use Rattle.av_pack.specs.Packing.{packed_at, longs_for};
 ghost use Rattle.av_rules.specs.Kinds.{row_at};
 ghost use Rattle.av_section.specs.Section.{number_at};
 ghost use Rattle.av_cells.specs.Grid.{cells_of};
-ghost use Rattle.av_flood.specs.Blocks.{MayBeLoaded};
 ghost use Rattle.av_section_light.specs.Light.{terrain_of};
 ghost use Rattle.av_section_light.specs.Lamps.{IsNearSection, section_at, HasLamps};
 
-use crate::rows::{emission, is_dark};
+use crate::rows::{are_shining, is_dark};
 use crate::sections::Sections;
 use av_flood::may_be_loaded;
+use av_pack::unpack;
 use av_rules::Kinds;
 use av_section::Section;
 use av_types::{ChunkPos, Height, Place, Pos, SectionPos};
@@ -29,27 +30,67 @@ fn block_at(section: SectionPos, place: Place) -> Pos
     }
 }
 
+/// Appends all blocks of a section.
+fn push_all(at: SectionPos, lamps: &mut Vec<Pos>) -> Result<(), AllocError>
+    requires { IsNearSection at }
+    ensures kept { OnOk result ((p : Pos) → Contains lamps.old.items p → Contains lamps.new.items p) }
+    ensures all { OnOk result ((i : ℕ) → i < 4096 → Contains lamps.new.items (block_at at i)) }
+{
+    for index in 0..4096u16 {
+        lamps.push(block_at(at, Place::new(index)))?;
+    }
+    Ok(())
+}
+
 /// Appends the block at a place of a section if it gives light.
 fn push_lamp(
-    kinds: &Kinds,
-    section: &Section,
+    shines: bool,
     at: SectionPos,
     place: Place,
     lamps: &mut Vec<Pos>,
 ) -> Result<(), AllocError>
     requires { IsNearSection at }
     ensures kept { OnOk result ((p : Pos) → Contains lamps.old.items p → Contains lamps.new.items p) }
-    ensures lit { OnOk result (0 < (row_at kinds.now (number_at section.now place.index)).emission → Contains lamps.new.items (block_at at place.index)) }
+    ensures lit { OnOk result (IsTrue shines → Contains lamps.new.items (block_at at place.index)) }
 {
-    if emission(kinds, section.get(place)) == 0 {
+    if !shines {
         return Ok(());
     }
     lamps.push(block_at(at, place))?;
     Ok(())
 }
 
+/// Appends the blocks of a section whose index is that of a state that gives light. An index of each place is packed into
+/// the longs.
+fn push_shining(
+    alloc: Global,
+    shining: &[bool],
+    longs: &[i64],
+    bits: u32,
+    at: SectionPos,
+    lamps: &mut Vec<Pos>,
+) -> Result<(), AllocError>
+    requires near { IsNearSection at }
+    requires low { 4 ≤ bits }
+    requires high { bits ≤ 16 }
+    requires below { (i : ℕ) → i < 4096 → packed_at bits longs.now i < length shining.now }
+    requires count { length longs.now ≡ longs_for bits }
+    ensures kept { OnOk result ((p : Pos) → Contains lamps.old.items p → Contains lamps.new.items p) }
+    ensures lit { OnOk result ((i : ℕ) → i < 4096 → slice_index_or shining.now (packed_at bits longs.now i) false ≡ true → Contains lamps.new.items (block_at at i)) }
+{
+    let Ok(indices) = unpack(alloc, longs, bits) else {
+        return Err(AllocError);
+    };
+    for place in 0..4096u16 {
+        let index = indices[usize::from(place)];
+        push_lamp(shining[usize::from(index)], at, Place::new(place), lamps)?;
+    }
+    Ok(())
+}
+
 /// Appends the blocks of a section that give light.
 fn push_lamps(
+    alloc: Global,
     kinds: &Kinds,
     section: &Section,
     at: SectionPos,
@@ -62,10 +103,12 @@ fn push_lamps(
     if is_dark(kinds, section) {
         return Ok(());
     }
-    for index in 0..4096u16 {
-        push_lamp(kinds, section, at, Place::new(index), lamps)?;
+    let (palette, longs, bits) = section.parts();
+    if longs.is_empty() {
+        return push_all(at, lamps);
     }
-    Ok(())
+    let shining = are_shining(alloc, kinds, palette)?;
+    push_shining(alloc, shining.as_slice(), longs, bits, at, lamps)
 }
 
 /// A section of a chunk, by its place from the lowest up.
@@ -82,6 +125,7 @@ fn section_at(chunk: ChunkPos, height: Height, number: u32) -> SectionPos
 
 /// Appends the blocks that give light of the section at a position.
 fn push_lamps_at<S: Sections>(
+    alloc: Global,
     sections: &S,
     kinds: &Kinds,
     at: SectionPos,
@@ -95,7 +139,7 @@ fn push_lamps_at<S: Sections>(
     let Some(section) = sections.section(at) else {
         return Ok(());
     };
-    push_lamps(kinds, section, at, lamps)?;
+    push_lamps(alloc, kinds, section, at, lamps)?;
     Ok(())
 }
 
@@ -118,6 +162,7 @@ pub fn lamps_in<S: Sections>(
     let height = sections.height();
     for number in 0..height.sections {
         push_lamps_at(
+            alloc,
             sections,
             kinds,
             section_at(chunk, height, number),

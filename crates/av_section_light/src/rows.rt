@@ -1,10 +1,12 @@
 //! What light loses and gains where a state stands.
-ghost use Rattle.std.specs.Prelude.{◌≡◌, ◌<◌, IsTrue, ℕ, length, slice_index};
+ghost use Rattle.std.specs.Prelude.{◌≡◌, ◌<◌, IsTrue, IfOk, ℕ, length, slice_index};
 ghost use Rattle.av_rules.specs.Kinds.{row_at};
 ghost use Rattle.av_section.specs.Section.{number_at};
+ghost use Rattle.av_section_light.specs.Lamps.{AreShining};
 
 use av_rules::Kinds;
 use av_section::Section;
+use std::alloc::{AllocError, Global};
 
 /// The light that the state of a number gives. A number that is none has a shut state.
 #[tactic(auto, using(crate::proofs::RowLemmas::shut_emission))]
@@ -38,6 +40,21 @@ fn are_dark(kinds: &Kinds, numbers: &[u16]) -> bool
         }
     }
     true
+}
+
+/// For each number of a palette, whether its state gives light.
+pub(crate) fn are_shining(
+    alloc: Global,
+    kinds: &Kinds,
+    palette: &[u16],
+) -> Result<Vec<bool>, AllocError>
+    ensures { IfOk result (λ flags. AreShining kinds.now palette.now flags.items) }
+{
+    let mut flags = Vec::with_capacity(alloc, palette.len())?;
+    for number in palette {
+        flags.push(emission(kinds, *number) > 0)?;
+    }
+    Ok(flags)
 }
 
 /// Whether no state of a section's palette gives light. Then no block of it does.

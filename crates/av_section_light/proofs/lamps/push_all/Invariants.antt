@@ -2,13 +2,11 @@ use Rattle.std.proofs.Common.{◌<◌, ℕ}
 use Rattle.std.specs.Prelude.{Contains}
 use Rattle.av_types.specs.Places.{block_at}
 use Rattle.av_types.specs.declared.place.Pos.{Pos}
-use Rattle.av_rules.specs.Kinds.{row_at}
-use Rattle.av_section.specs.Section.{number_at}
-use Rattle.av_section_light.proofs.lamps.push_lamps.Given as goal
+use Rattle.av_section_light.proofs.lamps.push_all.Given as goal
 
 abbrev pub invariant-loop-index : goal.invariant-loop-index
 invariant-loop-index l =
     record {
       kept : (p : Pos) → Contains l.initial.lamps.items p → Contains l.lamps.items p;
-      lit : (i : ℕ) → i < l.index → 0 < (row_at l.kinds (number_at l.section i)).emission → Contains l.lamps.items (block_at l.at i);
+      all : (i : ℕ) → i < l.index → Contains l.lamps.items (block_at l.at i);
     }
