@@ -46,7 +46,7 @@ measure turn "$times" "$proved" turn 10000 -- "$work/plain" turn 10000
 mkdir "$work/dark"
 mv "$work/dark.mca" "$work/dark/r.0.0.mca"
 "$top/bench/light.py" "$top/crates/av_light_bench/out/av_light_bench" "$work/plain" \
-  "$work/r.0.0.mca" "$work/dark/r.0.0.mca" "$top/tables/blocks.toml" 40 "$times"
+  "$work/r.0.0.mca" "$work/dark/r.0.0.mca" "$top/tables/blocks.toml" 12 "$times"
 
 # 20 plans of so many entries: anywhere in 1,024 chunks, in one lake, and in pools that are parts of their own.
 for kind in spread lake pools; do

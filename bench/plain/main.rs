@@ -18,6 +18,7 @@ use region::{CHUNKS, Region};
 use state::StateTable;
 use std::error::Error;
 use std::fs;
+use std::time::Instant;
 
 /// The region's coordinates, of a path that ends in `r.X.Z.mca`.
 pub fn region_of(path: &str) -> Option<(i32, i32)> {
@@ -131,6 +132,7 @@ fn rewrite(input: &str, output: &str) -> Result<String, Box<dyn Error>> {
 }
 
 /// Lights a region so many times.
+/// The quickest of some lightings counts.
 fn light(path: &str, rules: &str, times: u32) -> Result<String, Box<dyn Error>> {
     let rules = rules::Rules::read(&fs::read_to_string(rules)?);
     let bytes = fs::read(path)?;
@@ -149,12 +151,16 @@ fn light(path: &str, rules: &str, times: u32) -> Result<String, Box<dyn Error>> 
     let kinds = rules::Kinds::new(&mut table, &rules);
     let world = world::World::new(chunks);
     let mut lights = Vec::new();
+    let mut best = u128::MAX;
     for _ in 0..times {
-        lights = light::light_all(&world, &kinds);
+        let start = Instant::now();
+        let lit = light::light_all(&world, &kinds);
+        best = best.min(start.elapsed().as_micros());
+        lights = lit;
     }
     let add = |sum: u64, byte: &u8| sum.wrapping_mul(31).wrapping_add(u64::from(*byte));
     let sum = lights.iter().flatten().fold(0, add);
-    Ok(format!("chunks {} sum {sum}", lights.len()))
+    Ok(format!("chunks {} sum {sum} us {best}", lights.len()))
 }
 
 fn run(words: &[&str]) -> Result<String, Box<dyn Error>> {
@@ -170,13 +176,13 @@ fn run(words: &[&str]) -> Result<String, Box<dyn Error>> {
         ["plan", kind, entries, rounds] => {
             plan::run(kind, entries.parse()?, rounds.parse()?).ok_or("no such kind".into())
         }
-        ["light", path, table, times] => light(path, table, times.parse()?),
+        ["time", path, table, times] => light(path, table, times.parse()?),
         ["run", input, output, table, edits, ticks] => {
             folder::run(input, output, table, edits, ticks.parse()?)
         }
         ["ticks", path, table, edits, ticks] => folder::ticks(path, table, edits, ticks.parse()?),
         _ => Err(
-            "plain block FILE X Y Z | decode FILE ROUNDS | recode IN OUT | rewrite IN OUT | turn WORLDS | plan KIND ENTRIES ROUNDS | light FILE TABLE TIMES | run IN OUT TABLE EDITS TICKS | ticks FILE TABLE EDITS TICKS"
+            "plain block FILE X Y Z | decode FILE ROUNDS | recode IN OUT | rewrite IN OUT | turn WORLDS | plan KIND ENTRIES ROUNDS | time FILE TABLE TIMES | run IN OUT TABLE EDITS TICKS | ticks FILE TABLE EDITS TICKS"
                 .into(),
         ),
     }

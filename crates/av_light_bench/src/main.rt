@@ -14,9 +14,10 @@ use av_state::StateTable;
 use av_types::{Fault, RegionPos};
 use av_world::World;
 use std::alloc::{AllocError, Global};
-use std::rt::{Env, Files};
+use std::rt::{Clock, Env, Files};
 use std::sync::Wait;
 use std::thread::Threads;
+use std::time::Instant;
 use std::{env, fs};
 
 /// A world and the kinds of its states.
@@ -58,40 +59,80 @@ fn light_sum(lights: &[ChunkLight]) -> u64 {
     sum
 }
 
-/// Lights a world so many times. The line has the number of chunks, and the sum of their lights.
-fn light(
-    rt: &(impl Threads + Sync),
+/// The lights of a world, and how many microseconds the quickest of some lightings took.
+#[derive(Drop)]
+struct Timed {
+    lights: Vec<ChunkLight>,
+    micros: u128,
+}
+
+/// Lights a world so many times.
+fn light<R: Threads + Clock + Sync>(
+    rt: &R,
     alloc: Global,
     scene: &Scene,
     times: u32,
-) -> Result<String, Fault> {
-    let mut lights = Vec::new(alloc);
+) -> Result<Timed> {
+    let mut timed = Timed {
+        lights: Vec::new(alloc),
+        micros: u128::MAX,
+    };
     for _ in 0..times {
-        lights = light_all(rt, alloc, &scene.world, &scene.kinds)?;
+        let start = Instant::now(rt)?;
+        let lights = light_all(rt, alloc, &scene.world, &scene.kinds)?;
+        let micros = start.elapsed(rt)?.as_micros();
+        timed = Timed {
+            lights,
+            micros: timed.micros.min(micros),
+        };
     }
+    Ok(timed)
+}
+
+/// The file of a region, by a block table.
+fn read_files<R: Files + AllocGlobal>(
+    rt: &R,
+    alloc: Global,
+    path: &str,
+    table: &str,
+) -> Result<Scene> {
+    let bytes = fs::read(rt, path)?;
+    let table = fs::read(rt, table)?;
+    Ok(read(alloc, bytes, table.as_slice())?)
+}
+
+/// How many chunks there are, and the sum of their lights.
+fn summed(alloc: Global, lights: &[ChunkLight]) -> Result<String> {
     let chunks = lights.len();
-    let sum = light_sum(lights.as_slice());
+    let sum = light_sum(lights);
     Ok(format!(in alloc; "chunks {chunks} sum {sum}")?)
 }
 
-fn run<R: Env + Files + AllocGlobal + Threads + Wait + Sync>(
+fn run<R: Env + Files + AllocGlobal + Threads + Wait + Clock + Sync>(
     rt: &R,
     words: &[&str],
 ) -> Result<String> {
     let alloc = rt.alloc();
     match words {
         ["light", path, table, times] => {
-            let bytes = fs::read(rt, *path)?;
-            let table = fs::read(rt, *table)?;
-            let times: u32 = times.parse()?;
-            let scene = read(alloc, bytes, table.as_slice())?;
-            Ok(light(rt, alloc, &scene, times)?)
+            let scene = read_files(rt, alloc, path, table)?;
+            let timed = light(rt, alloc, &scene, times.parse()?)?;
+            summed(alloc, timed.lights.as_slice())
+        }
+        ["time", path, table, times] => {
+            let scene = read_files(rt, alloc, path, table)?;
+            let timed = light(rt, alloc, &scene, times.parse()?)?;
+            let line = summed(alloc, timed.lights.as_slice())?;
+            let micros = timed.micros;
+            Ok(format!(in alloc; "{line} us {micros}")?)
         }
         ["refuse", workers] => {
             let workers: u32 = workers.parse()?;
             Ok(refusing::refuse(rt, alloc, workers)?)
         }
-        _ => bail!("av_light_bench light FILE TABLE TIMES | refuse WORKERS"),
+        _ => bail!(
+            "av_light_bench light FILE TABLE TIMES | time FILE TABLE TIMES | refuse WORKERS"
+        ),
     }
 }
 
