@@ -8,6 +8,8 @@ mod gates;
 #[cfg(test)]
 mod given;
 #[cfg(test)]
+mod inputs;
+#[cfg(test)]
 mod refusals;
 #[cfg(test)]
 mod stops;
