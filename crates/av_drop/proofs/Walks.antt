@@ -1,5 +1,5 @@
 -- Walks to a drop, and the test that computes whether there is one.
-use Rattle.std.proofs.Common.{◌≡◌, ℕ, zero, suc, ◌+◌, ◌<◌, ◌≤◌, ◌&&◌, ◌||◌, true, false, Bool, List, [], ◌∷◌, length, Option, Some, None, refl, sym, ap, ◌∙◌, subst, arith}
+use Rattle.std.proofs.Common.{◌≡◌, ℕ, zero, suc, ◌<◌, ◌≤◌, ◌&&◌, ◌||◌, true, false, Bool, List, [], ◌∷◌, length, Option, Some, None, refl, sym, ap, ◌∙◌, subst, arith}
 use Rattle.std.proofs.lemmas.Bool.{and_parts, true≢false}
 use Rattle.av_types.specs.declared.place.Pos.{Pos}
 use Rattle.av_types.specs.declared.water.Direction.{Direction}
@@ -17,7 +17,7 @@ one_step_first k w p n d pass r =
       walk = record { long = ap suc r.walk.long; beside = ((d, refl), r.walk.beside); passes = (pass, r.walk.passes); drops = r.walk.drops };
     }
 
-or_cases : (a b : Bool) (P : Type 0) → (a || b) ≡ true → (a ≡ true → P) → (b ≡ true → P) → P
+pub or_cases : (a b : Bool) (P : Type 0) → (a || b) ≡ true → (a ≡ true → P) → (b ≡ true → P) → P
 or_cases true b P h f g = f refl
 or_cases false b P h f g = g h
 
@@ -36,7 +36,7 @@ walk_of k w (suc n) p h =
     (λ b. one_step_first k w p n West parts.0 (walk_of k w n (step p West) b)))
     (λ a. one_step_first k w p n East parts.0 (walk_of k w n (step p East) a))
 
-side_holds : (f : Direction → Bool) (d : Direction) → f d ≡ true → (f North || f South || f West || f East) ≡ true
+pub side_holds : (f : Direction → Bool) (d : Direction) → f d ≡ true → (f North || f South || f West || f East) ≡ true
 side_holds f North h = rw h (or_true (f South) (f West) (f East)) where
   or_true : (b c d : Bool) → (true || b || c || d) ≡ true
   or_true b c d = refl
@@ -59,7 +59,7 @@ side_holds f East h = east (f North) (f South) (f West) (f East) h where
   east false false false true h = refl
   east false false false false h = absurd (true≢false (sym h))
 
-both : (a b : Bool) → a ≡ true → b ≡ true → (a && b) ≡ true
+pub both : (a b : Bool) → a ≡ true → b ≡ true → (a && b) ≡ true
 both true true g h = refl
 both true false g h = h
 both false b g h = g
@@ -77,6 +77,13 @@ drop_along k w (suc n) p (q ∷ qs) walk =
 
 pub drop_of_walk : (k : ℕ → Kind) (w : World) (n : ℕ) (p : Pos) → HasWalk k w p n → can_drop k w n p ≡ true
 drop_of_walk k w n p h = drop_along k w n p h.blocks h.walk
+
+-- a walk of n steps, and none of fewer
+pub first_is_drop : (k : ℕ → Kind) (w : World) (p : Pos) (n : ℕ) → n < 5 → can_drop k w n p ≡ true → ((m : ℕ) → m < n → can_drop k w m p ≡ false) → IsDrop k w p (Some n)
+first_is_drop k w p n less here none = (less, walk_of k w n p here, λ m l walk. true≢false (sym (drop_of_walk k w m p walk) ∙ none m l))
+
+pub none_is_drop : (k : ℕ → Kind) (w : World) (p : Pos) → ((m : ℕ) → m < 5 → can_drop k w m p ≡ false) → IsDrop k w p None
+none_is_drop k w p none = λ m l walk. true≢false (sym (drop_of_walk k w m p walk) ∙ none m l)
 
 -- the least length of a walk, of those below a bound
 abbrev IsDropBelow : (ℕ → Kind) → World → Pos → ℕ → Option ℕ → Type 0
@@ -105,8 +112,3 @@ is_drop k w p (Some n) h = h
 pub found_is_drop : (k : ℕ → Kind) (w : World) (p : Pos) (o : Option ℕ) (n : ℕ) → n ≤ 5 → 5 ≤ n → o ≡ found_below k w p n → IsDrop k w p o
 found_is_drop k w p o n most least e =
     subst (IsDrop k w p) (sym e) (is_drop k w p (found_below k w p n) (subst (λ b. IsDropBelow k w p b (found_below k w p n)) (let s : n ≡ 5 = omega arith in s) (found_is_below k w p n)))
-
--- one length more was looked at
-pub found_more : (k : ℕ → Kind) (w : World) (p : Pos) (n : ℕ) (o new : Option ℕ) (b : Bool) → new ≡ found_or o b n → o ≡ found_below k w p n → b ≡ can_drop k w n p → new ≡ found_below k w p (n + 1)
-found_more k w p n o new b is e f =
-    is ∙ (λ j. found_or (e j) (f j) n) ∙ ap (found_below k w p) (let s : suc n ≡ n + 1 = omega arith in s)

@@ -2,6 +2,7 @@
 #![tactic(auto)]
 
 mod board;
+mod fronts;
 pub mod search;
 
-pub use search::{Distances, distances_to_drop, drop_distance};
+pub use search::{Sides, drop_distance, nearest_sides};

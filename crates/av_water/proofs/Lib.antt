@@ -1,6 +1,5 @@
 pub mod Ranks
 pub mod Plans
-pub mod Holes
 pub mod Readiness
 pub mod SameReads
 pub mod Regions

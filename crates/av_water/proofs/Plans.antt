@@ -1,9 +1,8 @@
 -- What a side is to be set to.
-use Rattle.std.proofs.Common.{◌≡◌, ℕ, ◌<◌, ◌&&◌, ◌||◌, Option, Some, None, refl, sym, ap, ◌∙◌, subst, arith, Bool, true, false, cond, min, nat_lt, nat_eq}
-use Rattle.std.proofs.lemmas.Bool.{true≢false, and_parts}
+use Rattle.std.proofs.Common.{◌≡◌, ℕ, ◌<◌, ◌&&◌, Option, Some, None, refl, sym, ap, ◌∙◌, subst, arith, Bool, true, false, cond, nat_lt, nat_eq}
+use Rattle.std.proofs.lemmas.Bool.{and_parts}
 use Rattle.av_types.specs.declared.place.Pos.{Pos}
 use Rattle.av_types.specs.declared.water.Direction.{Direction}
-use Rattle.av_types.specs.declared.water.Direction.TheVariants.{North, South, West, East}
 use Rattle.av_cells.specs.declared.kind.Kind.{Kind}
 use Rattle.av_cells.specs.Positions.{step}
 use Rattle.av_cells.specs.World.{World}
@@ -45,13 +44,6 @@ no_plan k w p d h =
 chosen_is_near : (r l : ℕ) → (nat_lt r 6 && nat_eq r l) ≡ true → r < 6
 chosen_is_near r l h = grind (arith, nat_tests)
 
-pub chosen_by_ranks : (k : ℕ → Kind) (w : World) (p : Pos) (d : Direction) (r l m n o q : ℕ) → r ≡ rank_at k w p d → l ≡ min (min m n) (min o q)
-    → m ≡ rank_at k w p North → n ≡ rank_at k w p South → o ≡ rank_at k w p West → q ≡ rank_at k w p East → (nat_lt r 6 && nat_eq r l) ≡ is_chosen k w p d
-unfolding is_chosen least_rank
-chosen_by_ranks k w p d r l m n o q e f a b c h =
-    let least : l ≡ min (min (rank_at k w p North) (rank_at k w p South)) (min (rank_at k w p West) (rank_at k w p East)) = f ∙ (λ i. min (min (a i) (b i)) (min (c i) (h i))) in
-    λ i. nat_lt (e i) 6 && nat_eq (e i) (least i)
-
 -- a chosen side is loaded
 pub chosen_is_loaded : (k : ℕ → Kind) (w : World) (p : Pos) (d : Direction) → is_chosen k w p d ≡ true → w.loaded (step p d) ≡ true
 unfolding is_chosen
@@ -65,22 +57,3 @@ plan_some k w p d n chosen is less =
       loaded = λ m g. chosen_is_loaded k w p d chosen;
       water = λ m g. some_is (λ m. m < 10) n m less g;
     }
-
-shut_rank : (b : Bool) (n : ℕ) → b ≡ false → cond b n 6 ≡ 6
-shut_rank true n h = absurd (true≢false h)
-shut_rank false n h = refl
-
-not_chosen : (r l : ℕ) → r ≡ 6 → (nat_lt r 6 && nat_eq r l) ≡ false
-not_chosen r l h = grind (arith, nat_tests)
-
--- a side that can't be entered is not chosen
-pub shut_is_not_chosen : (k : ℕ → Kind) (w : World) (p : Pos) (d : Direction) → can_enter k w (step p d) ≡ false → is_chosen k w p d ≡ false
-unfolding rank_at is_chosen
-shut_is_not_chosen k w p d h = not_chosen (rank_at k w p d) (least_rank k w p) (shut_rank (can_enter k w (step p d)) (rank_of (drop_of k w (step p d))) h)
-
-pub none_of_four : (a b c d : Bool) → (a || b || c || d) ≡ false → (a ≡ false) × (b ≡ false) × (c ≡ false) × (d ≡ false)
-none_of_four true b c d h = absurd (true≢false h)
-none_of_four false true c d h = absurd (true≢false h)
-none_of_four false false true d h = absurd (true≢false h)
-none_of_four false false false true h = absurd (true≢false h)
-none_of_four false false false false h = (refl, refl, refl, refl)

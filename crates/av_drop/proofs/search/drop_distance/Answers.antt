@@ -1,13 +1,59 @@
+use Rattle.std.proofs.Common.{◌≡◌, ◌+◌, sym, ap, ◌∙◌, arith}
+use Rattle.av_cells.specs.Kinds.{kinds_of}
+use Rattle.av_cells.specs.Positions.{step}
+use Rattle.av_cells.specs.Rule.{can_pass, can_drop}
+use Rattle.av_drop.specs.Board.{spot}
+use Rattle.av_drop.proofs.Ahead.{first_is_front, next_is_front, drops_is}
+use Rattle.av_drop.proofs.Nearest.{none_at_first, none_at_next}
+use Rattle.av_drop.proofs.Spots.{side_spot}
+use Rattle.av_drop.proofs.Walks.{first_is_drop, none_is_drop}
 use Rattle.av_drop.proofs.search.drop_distance.Goals as goal
 
-pub returns-in-North : goal.returns-in-North
-returns-in-North g c = rw c.in-North.is c.distances_to_drop-distances.ensures.north
+pub returns-then-first : goal.returns-then-first
+returns-then-first g c =
+    let k = kinds_of c.args.kinds.now in
+    let w = g.C.Cells.world c.args.cells.now in
+    first_is_drop k w (step c.args.pos c.args.direction) 0 (omega arith)
+    (ap (can_drop k w 0) (sym (ap (spot c.args.pos) c.side_place.ensures.is ∙ side_spot c.args.pos c.args.direction)) ∙ sym c.at-first.ensures.is.drops_is ∙ c.if-first.true)
+    (λ m less. absurd (omega (arith, less)))
 
-pub returns-in-South : goal.returns-in-South
-returns-in-South g c = rw c.in-South.is c.distances_to_drop-distances.ensures.south
+pub loop-steps-init : goal.loop-steps-init
+loop-steps-init g c =
+    let k = kinds_of c.args.kinds.now in
+    let w = g.C.Cells.world c.args.cells.now in
+    let at : spot c.args.pos c.side_place.result ≡ step c.args.pos c.args.direction = ap (spot c.args.pos) c.side_place.ensures.is ∙ side_spot c.args.pos c.args.direction in
+    record {
+      seen = c.at-first.ensures.seen;
+      front = first_is_front k w c.args.pos c.args.direction c.at-first.result.passes c.first_front-front.result c.first_front-front.ensures (c.at-first.ensures.is.passes_is ∙ ap (can_pass k w) at);
+      none = none_at_first k w (step c.args.pos c.args.direction) (ap (can_drop k w 0) (sym at) ∙ sym c.at-first.ensures.is.drops_is ∙ c.if-first.false);
+    }
 
-pub returns-in-West : goal.returns-in-West
-returns-in-West g c = rw c.in-West.is c.distances_to_drop-distances.ensures.west
+pub returns-then-next : goal.returns-then-next
+returns-then-next g c =
+    let k = kinds_of c.args.kinds.now in
+    let w = g.C.Cells.world c.args.cells.now in
+    let i = c.loop-steps.invariant in
+    let s = step c.args.pos c.args.direction in
+    let next = c.advance-next in
+    first_is_drop k w s (c.loop-steps.steps + 1) (omega (arith, c.loop-steps-test.true))
+    (sym (drops_is k w c.args.pos s (c.loop-steps.steps + 1) c.loop-steps.front next.result.front next.result.drops (next_is_front k w c.args.pos s c.loop-steps.steps c.loop-steps.front next.result.front next.result.drops c.loop-steps-test.true i.front next.ensures.is) next.ensures.is) ∙ c.if-next.true)
+    i.none
 
-pub returns-in-East : goal.returns-in-East
-returns-in-East g c = rw c.in-East.is c.distances_to_drop-distances.ensures.east
+pub loop-steps-preserved : goal.loop-steps-preserved
+loop-steps-preserved g c =
+    let k = kinds_of c.args.kinds.now in
+    let w = g.C.Cells.world c.args.cells.now in
+    let i = c.loop-steps.invariant in
+    let s = step c.args.pos c.args.direction in
+    let next = c.advance-next in
+    record {
+      seen = next.ensures.seen;
+      front = next_is_front k w c.args.pos s c.loop-steps.steps c.loop-steps.front next.result.front next.result.drops c.loop-steps-test.true i.front next.ensures.is;
+      none = none_at_next k w s c.loop-steps.steps i.none
+          (sym (drops_is k w c.args.pos s (c.loop-steps.steps + 1) c.loop-steps.front next.result.front next.result.drops (next_is_front k w c.args.pos s c.loop-steps.steps c.loop-steps.front next.result.front next.result.drops c.loop-steps-test.true i.front next.ensures.is) next.ensures.is) ∙ c.if-next.false);
+    }
+
+pub returns : goal.returns
+returns g c =
+    none_is_drop (kinds_of c.args.kinds.now) (g.C.Cells.world c.args.cells.now) (step c.args.pos c.args.direction)
+    (λ m less. c.loop-steps.invariant.none m (omega (arith, less, c.loop-steps-test.false, c.loop-steps.auto.steps-end)))
