@@ -1,12 +1,12 @@
 //! What comes into a block.
-ghost use Rattle.std.specs.Prelude.{◌≡◌, ◌<◌, ◌+◌, ◌-◌, ◌≤◌, IsTrue, max, nat_le, if◌then◌else◌};
+ghost use Rattle.std.specs.Prelude.{◌≡◌, ◌<◌, ◌+◌, ◌-◌, ◌≤◌, ◌||◌, IsTrue, max, nat_le, if◌then◌else◌};
 ghost use Rattle.av_rules.specs.Kinds.{kind_count};
 ghost use Rattle.av_types.specs.Water.{IsProper, amount_of, is_source};
 ghost use Rattle.av_types.specs.declared.water.Wet.TheVariants.{Dry, Source, Flow, Falling};
 ghost use Rattle.av_types.specs.declared.water.Direction.TheVariants.{North, South, West, East};
 ghost use Rattle.av_cells.specs.Kinds.{kinds_of};
-ghost use Rattle.av_cells.specs.Positions.{step, IsInner};
-ghost use Rattle.av_cells.specs.Rule.{wet_at, one_if, sources_beside, incoming_at, HasKinds};
+ghost use Rattle.av_cells.specs.Positions.{step, below, IsInner};
+ghost use Rattle.av_cells.specs.Rule.{wet_at, floor_at, one_if, sources_beside, incoming_at, HasKinds};
 ghost use Rattle.av_cells.specs.Turn.{number_of_wet};
 
 use av_cells::{Cells, above, below, kind_at, step};
@@ -111,6 +111,17 @@ fn flow(is_under_water: bool, most: u8) -> Wet
     }
 }
 
+/// Whether a source can form in a block: over a floor or a source.
+fn stands<C: Cells>(cells: &C, kinds: &Kinds, pos: Pos) -> bool
+    requires inner { IsInner pos }
+    requires kinds { HasKinds (kind_count kinds.now) (C.world cells.now) }
+    ensures { result ≡ (floor_at (kinds_of kinds.now) (C.world cells.now) (below pos)
+        || is_source (wet_at (kinds_of kinds.now) (C.world cells.now) (below pos))) }
+{
+    let under = kind_at(cells, kinds, below(pos));
+    under.floor || under.wet.is_source()
+}
+
 /// What comes into a loaded block: a source between two sources over a floor or a source, else falling water under
 /// water, else one less than the greatest amount beside it, where that is at least 2, else nothing. Takes no memory.
 #[tactic(auto, unfolding(av_cells::specs::Rule::incoming_at, av_cells::specs::Rule::sources_beside, av_cells::specs::Rule::most_beside))]
@@ -121,8 +132,7 @@ pub fn incoming<C: Cells>(cells: &C, kinds: &Kinds, pos: Pos) -> Wet
     ensures proper { IsProper result }
 {
     let sides = sides_of(cells, kinds, pos);
-    let under = kind_at(cells, kinds, below(pos));
-    if sides.sources() >= 2 && (under.floor || under.wet.is_source()) {
+    if sides.sources() >= 2 && stands(cells, kinds, pos) {
         return Wet::Source;
     }
     let is_under_water = kind_at(cells, kinds, above(pos)).wet.is_wet();

@@ -4,7 +4,7 @@ ghost use Rattle.av_rules.specs.Kinds.{kind_count};
 ghost use Rattle.av_types.specs.declared.place.Pos.{Pos};
 ghost use Rattle.av_cells.specs.Kinds.{kinds_of};
 ghost use Rattle.av_cells.specs.Positions.{ForTurned, InReach, below};
-ghost use Rattle.av_cells.specs.Rule.{HasKinds, can_enter};
+ghost use Rattle.av_cells.specs.Rule.{HasKinds, can_enter, wet_at};
 ghost use Rattle.av_cells.specs.Turn.{change, same_wet, spread, onward, renewed, turn};
 ghost use Rattle.av_cells.specs.Wakes.{Appends};
 ghost use Rattle.av_cells.specs.World.{listed_all};
@@ -14,7 +14,7 @@ use crate::coming::{incoming, sources_beside};
 use crate::plan::plan_of;
 use crate::steps::{set_below, set_itself, set_sides};
 use arrayvec::ArrayVec;
-use av_cells::{Cells, below, can_enter, has_hole, kind_at};
+use av_cells::{Cells, below, kind_at};
 use av_rules::Kinds;
 use av_types::{Entry, Pos, Wet};
 
@@ -65,7 +65,7 @@ fn fall<C: Cells>(cells: &mut C, kinds: &Kinds, now: u32, pos: Pos, made: &mut A
 }
 
 /// Goes on from a wet block that is up to date: down, and to the sides.
-#[tactic(auto, unfolding(av_cells::specs::Turn::onward))]
+#[tactic(auto, unfolding(av_cells::specs::Turn::onward, av_cells::specs::Rule::can_enter, av_cells::specs::Rule::has_hole))]
 fn go_on<C: Cells>(cells: &mut C, kinds: &Kinds, now: u32, pos: Pos, made: &mut ArrayVec<Entry, 42>)
     requires ready { IsReady (kind_count kinds.now) (C.world cells.old) (C.room cells.old)
         (C.can_set cells.old) made.old.items pos 35 }
@@ -76,9 +76,10 @@ fn go_on<C: Cells>(cells: &mut C, kinds: &Kinds, now: u32, pos: Pos, made: &mut 
     ensures loaded { (C.world cells.new).loaded ≡ (C.world cells.old).loaded }
     ensures kinds { HasKinds (kind_count kinds.now) (C.world cells.new) }
 {
-    if can_enter(cells, kinds, below(pos)) {
+    let under = kind_at(cells, kinds, below(pos));
+    if under.opens && !under.wet.is_wet() {
         fall(cells, kinds, now, pos, made);
-    } else if kind_at(cells, kinds, pos).wet.is_source() || !has_hole(cells, kinds, pos) {
+    } else if !under.wet.is_wet() || kind_at(cells, kinds, pos).wet.is_source() {
         spread(cells, kinds, now, pos, made);
     }
 }
@@ -90,11 +91,19 @@ fn is_same(a: Wet, b: Wet) -> bool
     a == b
 }
 
-/// Brings a wet block up to date, unless it is a source, and goes on unless it dried.
+/// Brings a block that is so wet up to date, unless it is a source, and goes on unless it dried.
 #[tactic(auto, unfolding(av_cells::specs::Turn::renewed))]
-fn renew<C: Cells>(cells: &mut C, kinds: &Kinds, now: u32, pos: Pos, made: &mut ArrayVec<Entry, 42>)
+fn renew<C: Cells>(
+    cells: &mut C,
+    kinds: &Kinds,
+    now: u32,
+    pos: Pos,
+    wet: Wet,
+    made: &mut ArrayVec<Entry, 42>,
+)
     requires ready { IsReady (kind_count kinds.now) (C.world cells.old) (C.room cells.old)
         (C.can_set cells.old) made.old.items pos 42 }
+    requires wet { wet ≡ wet_at (kinds_of kinds.now) (C.world cells.old) pos }
     ensures changed { change (C.world cells.new) made.new.items
         ≡ renewed (kinds_of kinds.now) now pos (change (C.world cells.old) made.old.items) }
     ensures listed { Appends made.old.items made.new.items (C.lists cells.old) (C.lists cells.new) }
@@ -102,7 +111,6 @@ fn renew<C: Cells>(cells: &mut C, kinds: &Kinds, now: u32, pos: Pos, made: &mut 
     ensures loaded { (C.world cells.new).loaded ≡ (C.world cells.old).loaded }
     ensures kinds { HasKinds (kind_count kinds.now) (C.world cells.new) }
 {
-    let wet = kind_at(cells, kinds, pos).wet;
     if wet.is_source() {
         go_on(cells, kinds, now, pos, made);
         return;
@@ -143,8 +151,9 @@ pub fn turn<C: Cells>(cells: &mut C, kinds: &Kinds, now: u32, pos: Pos) -> Array
     ensures kinds { HasKinds (kind_count kinds.now) (C.world cells.new) }
 {
     let mut made = ArrayVec::new();
-    if kind_at(cells, kinds, pos).wet.is_wet() {
-        renew(cells, kinds, now, pos, &mut made);
+    let wet = kind_at(cells, kinds, pos).wet;
+    if wet.is_wet() {
+        renew(cells, kinds, now, pos, wet, &mut made);
     }
     made
 }
