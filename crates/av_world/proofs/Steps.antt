@@ -1,14 +1,16 @@
 -- Steps that keep a world.
-use Rattle.std.proofs.Common.{◌<◌, ℕ, IsTrue, IsOk, is_ok, true≢false, List, length, refl, sym, ap, subst, ◌∙◌, arith, OnOk, Ok, Err, Result, Some, ◌≡◌, All}
+use Rattle.std.proofs.Common.{◌<◌, ◌≤◌, ℕ, zero, suc, take, get_or, IsTrue, IsOk, is_ok, is_err, false, true≢false, List, length, refl, sym, ap, subst, ◌∙◌, arith, OnOk, Ok, Err, Result, Some, ◌≡◌, All}
 use Rattle.std.proofs.lemmas.List.Elements.{All-weaker}
 use Rattle.av_types.specs.Places.{section_of, chunk_of}
 use Rattle.av_types.specs.declared.place.Pos.{Pos}
+use Rattle.av_types.specs.declared.fault.Fault.{Fault}
+use Rattle.av_types.specs.declared.place.ChunkPos.{ChunkPos}
 use Rattle.av_types.specs.declared.place.SectionPos.{SectionPos}
 use Rattle.av_cells.specs.Grid.{cells_of, is_here, Grid}
 use Rattle.av_world.specs.Index.{slot}
 use Rattle.av_world.specs.Near.{has_place}
-use Rattle.av_world.specs.Views.{site, IsKept, IsSamePlaces, CanSetAt, blocks, grid}
-use Rattle.av_world.specs.Turned.{HasRoomAt, CanSetAll}
+use Rattle.av_world.specs.Views.{site, room, IsKept, IsSamePlaces, CanSetAt, blocks, grid}
+use Rattle.av_world.specs.Turned.{corners, HasRoomAt, HasChunkRoom, CanSetAll}
 use Rattle.av_world.specs.declared.worlds.World.{World}
 
 pub on_ok : {A E : Type 0} (r : Result A E) (P Q : Type 0) → OnOk r P → (P → Q) → OnOk r Q
@@ -59,6 +61,35 @@ not_refused r e P was ok = absurd (true≢false (sym ok ∙ ap is_ok was))
 pub chunk_there : (v w : World) (q : Pos) → IsKept v w → IsTrue ((blocks v).loaded q) → slot w.positions.items (chunk_of q) < length w.positions.items
 chunk_there v w q k t =
     (has_place w.height w.positions.items w.chunks.items w.lawful.parallel (section_of q) (subst (λ (g : Grid). IsTrue ((cells_of g).loaded q)) (sym k.grid_is) t)).chunk
+
+pub chunk_room_lasts : (v w : World) (n : ℕ) (p : Pos) → IsKept v w → HasChunkRoom v n p → HasChunkRoom w n p
+chunk_room_lasts v w n p k h t =
+    let x : n ≤ room v (chunk_of p) = h (subst (λ ps. slot ps.items (chunk_of p) < length ps.items) k.positions t) in
+    let y = k.room_grows (chunk_of p) in
+    omega arith
+
+-- a reservation that did not fail made the room
+pub chunk_room : (v w : World) (n : ℕ) (p : Pos) (c : ChunkPos) (A : Type 0) (r : Result A Fault) → c ≡ chunk_of p → IsKept v w → is_err r ≡ false
+    → OnOk r (slot v.positions.items c < length v.positions.items → n ≤ room w c) → HasChunkRoom w n p
+chunk_room v w n p c A (Ok x) e k ok h =
+    λ t. subst (λ (d : ChunkPos). n ≤ room w d) e (h (subst (λ (d : ChunkPos). slot v.positions.items d < length v.positions.items) (sym e) (subst (λ ps. slot ps.items (chunk_of p) < length ps.items) k.positions t)))
+chunk_room v w n p c A (Err x) e k ok h = absurd (true≢false ok)
+
+-- a chunk with room has room for each loaded block of it
+pub block_room : (w : World) (n : ℕ) (p : Pos) → HasChunkRoom w n p → HasRoomAt w n p
+block_room w n p h t = h (chunk_there w w p (IsKept-refl w) t)
+
+-- the upper corners of a reach are in the chunks of the lower ones
+pub corners_room : (w : World) (n : ℕ) (p : Pos) → All (HasChunkRoom w n) (take 4 (corners p)) → All (HasRoomAt w n) (corners p)
+corners_room w n p all zero d l = block_room w n (get_or (corners p) 0 p) (all 0 p (omega arith))
+corners_room w n p all (suc zero) d l = block_room w n (get_or (corners p) 1 p) (all 1 p (omega arith))
+corners_room w n p all (suc (suc zero)) d l = block_room w n (get_or (corners p) 2 p) (all 2 p (omega arith))
+corners_room w n p all (suc (suc (suc zero))) d l = block_room w n (get_or (corners p) 3 p) (all 3 p (omega arith))
+corners_room w n p all (suc (suc (suc (suc zero)))) d l = block_room w n (get_or (corners p) 4 p) (all 0 p (omega arith))
+corners_room w n p all (suc (suc (suc (suc (suc zero))))) d l = block_room w n (get_or (corners p) 5 p) (all 1 p (omega arith))
+corners_room w n p all (suc (suc (suc (suc (suc (suc zero)))))) d l = block_room w n (get_or (corners p) 6 p) (all 2 p (omega arith))
+corners_room w n p all (suc (suc (suc (suc (suc (suc (suc zero))))))) d l = block_room w n (get_or (corners p) 7 p) (all 3 p (omega arith))
+corners_room w n p all (suc (suc (suc (suc (suc (suc (suc (suc i)))))))) d l = absurd (omega arith)
 
 pub loaded_later : (v w : World) (q : Pos) → IsKept v w → IsTrue ((blocks v).loaded q) → IsTrue ((blocks w).loaded q)
 loaded_later v w q k t = subst (λ (g : Grid). IsTrue ((cells_of g).loaded q)) (sym k.grid_is) t

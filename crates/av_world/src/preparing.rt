@@ -1,10 +1,10 @@
 //! Room for turns and sets to come.
-ghost use Rattle.std.specs.Prelude.{◌≡◌, ◌≤◌, ◌<◌, length, IsTrue, IsOk, OnOk, IfErr, All, [], ◌∷◌};
+ghost use Rattle.std.specs.Prelude.{◌≡◌, ◌≤◌, ◌<◌, length, true, IsTrue, IsOk, OnOk, IfErr, All, [], ◌∷◌};
 ghost use Rattle.av_types.specs.declared.fault.Fault.TheVariants.{OutOfMemory};
 ghost use Rattle.av_types.specs.Places.{section_of, chunk_of};
 ghost use Rattle.av_cells.specs.Grid.{is_here};
 ghost use Rattle.av_cells.specs.Positions.{IsNearOrigin, around};
-ghost use Rattle.av_world.specs.Turned.{corners, turned, HasRoomAt, CanSetAll};
+ghost use Rattle.av_world.specs.Turned.{corners, turned, HasRoomAt, HasChunkRoom, CanSetAll};
 ghost use Rattle.av_world.specs.Index.{slot};
 ghost use Rattle.av_world.specs.Views.{grid, blocks, room, positions_of, CanSetAt, IsKept};
 
@@ -57,6 +57,39 @@ impl World {
             self.reserve_at(*at, count)?;
         }
         Ok(())
+    }
+
+    /// Makes room for so many more entries of the chunks of some blocks, where these are there, and says whether that
+    /// was done.
+    fn reserve_chunks(&mut self, at: &[Pos], count: usize) -> bool
+        ensures kept { IsKept self.old self.new }
+        ensures room { result ≡ true → All (HasChunkRoom self.new count) at.now }
+    {
+        for at in at {
+            let reserved = self.reserve_chunk(at.chunk(), count);
+            if reserved.is_err() {
+                return false;
+            }
+        }
+        true
+    }
+
+    /// Makes room for the entries of a turn in the chunks of a block's reach, which are looked up for it.
+    fn reserve_reach(&mut self, pos: Pos) -> Result<(), Fault>
+        requires { IsNearOrigin pos }
+        ensures kept { IsKept self.old self.new }
+        ensures room { OnOk result (All (HasRoomAt self.new 42) (corners pos)) }
+        ensures fault { IfErr result (λ e. e ≡ OutOfMemory) }
+        ensures succeeds { All (HasRoomAt self.old 42) (corners pos) → IsOk result }
+    {
+        let corners = corners(pos);
+        // The upper corners are in the chunks of the lower ones.
+        self.look_near(&corners[..4]);
+        let reserved = self.reserve_chunks(&corners[..4], 42);
+        if reserved {
+            return Ok(());
+        }
+        self.reserve_all(&corners, 42)
     }
 
     /// Makes room for numbers in a section, where it is loaded.
@@ -122,10 +155,7 @@ impl World {
         ensures succeeds { All (HasRoomAt self.old 42) (corners pos)
             → All (CanSetAll self.old (0 ∷ 1 ∷ 2 ∷ 3 ∷ 4 ∷ 5 ∷ 6 ∷ 7 ∷ 8 ∷ 9 ∷ [])) (turned pos) → IsOk result }
     {
-        let corners = corners(pos);
-        // The lower corners are in the chunks of the upper ones.
-        self.look_near(&corners[..4]);
-        self.reserve_all(&corners, 42)?;
+        self.reserve_reach(pos)?;
         self.prepare_all(&turned(pos), &[0, 1, 2, 3, 4, 5, 6, 7, 8, 9])
     }
 

@@ -7,10 +7,9 @@ use Rattle.av_world.proofs.worlds.World.prepare_turn.Goals as goal
 
 pub returns-clause-room : goal.returns-clause-room
 returns-clause-room c =
-    let old = c.reserve_all.new.self in let new = c.prepare_all.new.self in
+    let old = c.reserve_reach.new.self in let new = c.prepare_all.new.self in
     in_ok c.prepare_all.result _
-    (All-weaker (HasRoomAt old 42) (HasRoomAt new 42) (λ p h. room_lasts old new 42 p c.prepare_all.ensures.kept h) (corners c.args.pos)
-    (subst (λ (xs : List Pos). All (HasRoomAt old 42) xs) c.corners-corners.ensures c.in_ok-reserve_all.ensures.room))
+    (All-weaker (HasRoomAt old 42) (HasRoomAt new 42) (λ p h. room_lasts old new 42 p c.prepare_all.ensures.kept h) (corners c.args.pos) c.in_ok-reserve_reach.ensures.room)
 
 pub returns-clause-prepared : goal.returns-clause-prepared
 returns-clause-prepared c =
@@ -18,18 +17,12 @@ returns-clause-prepared c =
     on_ok c.prepare_all.result _ _ c.prepare_all.ensures.prepared
     (λ h. subst (λ (xs : List Pos). All (CanSetAll new (0 ∷ 1 ∷ 2 ∷ 3 ∷ 4 ∷ 5 ∷ 6 ∷ 7 ∷ 8 ∷ 9 ∷ [])) xs) c.turned.ensures h)
 
-pub returns-in_err-reserve_all-clause-succeeds : goal.returns-in_err-reserve_all-clause-succeeds
-returns-in_err-reserve_all-clause-succeeds c =
-    let w = c.args.self.now in let mid = c.look_near.new.self in
-    λ room numbers. not_refused c.reserve_all.result _ _ c.in_err-reserve_all.was
-    (c.reserve_all.ensures.succeeds
-    (subst (λ (xs : List Pos). All (HasRoomAt mid 42) xs) (sym c.corners-corners.ensures)
-    (All-weaker (HasRoomAt w 42) (HasRoomAt mid 42) (λ p h. room_lasts w mid 42 p c.look_near.ensures h) (corners c.args.pos) room)))
+pub returns-in_err-reserve_reach-clause-succeeds : goal.returns-in_err-reserve_reach-clause-succeeds
+returns-in_err-reserve_reach-clause-succeeds c = λ room numbers. not_refused c.reserve_reach.result _ _ c.in_err-reserve_reach.was (c.reserve_reach.ensures.succeeds room)
 
 pub returns-clause-succeeds : goal.returns-clause-succeeds
 returns-clause-succeeds c =
-    let w = c.args.self.now in let mid = c.look_near.new.self in let old = c.reserve_all.new.self in let ns : List ℕ = (0 ∷ 1 ∷ 2 ∷ 3 ∷ 4 ∷ 5 ∷ 6 ∷ 7 ∷ 8 ∷ 9 ∷ []) in
-    let kept = IsKept-trans w mid old c.look_near.ensures c.reserve_all.ensures.kept in
+    let w = c.args.self.now in let old = c.reserve_reach.new.self in let ns : List ℕ = (0 ∷ 1 ∷ 2 ∷ 3 ∷ 4 ∷ 5 ∷ 6 ∷ 7 ∷ 8 ∷ 9 ∷ []) in
     λ room numbers. c.prepare_all.ensures.succeeds
     (subst (λ (xs : List Pos). All (CanSetAll old ns) xs) (sym c.turned.ensures)
-    (All-weaker (CanSetAll w ns) (CanSetAll old ns) (λ p h. numbers_last w old ns p kept h) (turned c.args.pos) numbers))
+    (All-weaker (CanSetAll w ns) (CanSetAll old ns) (λ p h. numbers_last w old ns p c.reserve_reach.ensures.kept h) (turned c.args.pos) numbers))
