@@ -1,5 +1,5 @@
 -- What a look-up by key says of the entries.
-use Rattle.std.proofs.Common.{◌≡◌, ℤ, Bool, true, false, cond, ◌&&◌, List, [], ◌∷◌, ◌++◌, map, Option, Some, None, is_some, refl, sym, ap, subst, ◌∙◌, true≢false, if◌then◌else◌}
+use Rattle.std.proofs.Common.{◌≡◌, ℕ, zero, suc, ◌<◌, length, take, get_or, arith, ℤ, Bool, true, false, cond, ◌&&◌, List, [], ◌∷◌, ◌++◌, map, Option, Some, None, is_some, refl, sym, ap, subst, ◌∙◌, true≢false, if◌then◌else◌}
 use Rattle.std.specs.Ordering.{int_eq}
 use Rattle.std.specs.Map.{keys_of, values_of, lookup}
 use Rattle.std.proofs.lemmas.Cmp.{int_eq_equiv}
@@ -46,7 +46,7 @@ is_pending-push p (x ∷ es) e h g = by (same_pos p x.pos) refl (λ i. is_pendin
   by false i rest = rw i (rest (rw i at h))
 
 -- an entry of a new position keeps the positions apart
-are_apart-push : (es : List Entry) (e : Entry) → are_apart es ≡ true → is_pending e.pos es ≡ false → are_apart (es ++ e ∷ []) ≡ true
+pub are_apart-push : (es : List Entry) (e : Entry) → are_apart es ≡ true → is_pending e.pos es ≡ false → are_apart (es ++ e ∷ []) ≡ true
 are_apart-push [] e apart new = refl
 are_apart-push (x ∷ es) e apart new = by (same_pos e.pos x.pos) refl (is_pending x.pos es) refl (λ a n. are_apart-push es e a n) where
   by : (b : Bool) → same_pos e.pos x.pos ≡ b → (c : Bool) → is_pending x.pos es ≡ c → (are_apart es ≡ true → is_pending e.pos es ≡ false → are_apart (es ++ e ∷ []) ≡ true) → are_apart ((x ∷ es) ++ e ∷ []) ≡ true
@@ -75,3 +75,24 @@ put true es e k a new =
       apart = subst (λ l. are_apart l ≡ true) (sym vs) (are_apart-push (values_of es) e a new);
       values = vs;
     }
+
+apart_from : (q : Pos) (es : List Entry) (i : ℕ) (d : Entry) → is_pending q es ≡ false → i < length es → same_pos (get_or es i d).pos q ≡ false
+apart_from q [] i d none less = absurd (omega (arith, less))
+apart_from q (e ∷ es) zero d none less = at (same_pos q e.pos) refl where
+  at : (b : Bool) → same_pos q e.pos ≡ b → same_pos e.pos q ≡ false
+  at true h = absurd (true≢false (rw h at none))
+  at false h = same_pos_symm e.pos q ∙ h
+apart_from q (e ∷ es) (suc i) d none less = at (same_pos q e.pos) refl (λ n. apart_from q es i d n (omega (arith, less))) where
+  at : (b : Bool) → same_pos q e.pos ≡ b → (is_pending q es ≡ false → same_pos (get_or es i d).pos q ≡ false) → same_pos (get_or es i d).pos q ≡ false
+  at true h rest = absurd (true≢false (rw h at none))
+  at false h rest = rest (rw h at none)
+
+-- what comes before an entry has another position
+pub apart_before : (es : List Entry) (i : ℕ) (d : Entry) → are_apart es ≡ true → i < length es → is_pending (get_or es i d).pos (take i es) ≡ false
+apart_before [] i d apart less = absurd (omega (arith, less))
+apart_before (x ∷ es) zero d apart less = refl
+apart_before (x ∷ es) (suc i) d apart less = at (is_pending x.pos es) refl (λ n. apart_from x.pos es i d n (omega (arith, less))) (λ a. apart_before es i d a (omega (arith, less))) where
+  at : (b : Bool) → is_pending x.pos es ≡ b → (is_pending x.pos es ≡ false → same_pos (get_or es i d).pos x.pos ≡ false) → (are_apart es ≡ true → is_pending (get_or es i d).pos (take i es) ≡ false)
+      → is_pending (get_or es i d).pos (x ∷ take i es) ≡ false
+  at true e other rest = absurd (true≢false (sym (rw e at apart)))
+  at false e other rest = rw (other e) (rest (rw e at apart))

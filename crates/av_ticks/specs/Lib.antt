@@ -1,4 +1,5 @@
 pub mod Order
 pub mod Entries
 pub mod Keys
+pub mod Stored
 pub mod Ticks

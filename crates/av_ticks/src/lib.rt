@@ -4,6 +4,7 @@
 pub mod laws;
 pub mod list;
 pub mod merge;
+mod store;
 #[cfg(test)]
 mod tests;
 

@@ -1,15 +1,13 @@
 //! The scheduled water ticks of a chunk.
-ghost use Rattle.std.specs.Prelude.{◌≡◌, int_le, ◌<◌, ◌≤◌, ◌+◌, [], ◌∷◌, ◌++◌, ◌↔◌, map, filter, length, not, false, true, IsTrue, IsOk, IfOk, OnOk, OnErr, IfErr, is_ok, if◌then◌else◌};
-ghost use Rattle.std.specs.Map.{keys_of, values_of};
-ghost use Rattle.indexmap.specs.IndexMap.{spare};
+ghost use Rattle.std.specs.Prelude.{◌≡◌, ◌<◌, ◌≤◌, ◌+◌, [], ◌∷◌, ◌++◌, ◌↔◌, filter, length, not, false, true, IsTrue, IsOk, IfOk, OnOk, OnErr, IfErr, if◌then◌else◌};
 ghost use Rattle.av_types.specs.declared.fault.Fault.TheVariants.{OutOfMemory};
 ghost use Rattle.std.specs.Int.{int_min};
 ghost use Rattle.std.specs.List.{list_any};
 ghost use Rattle.av_ticks.specs.Entries.{are_apart, is_due, is_pending, least_due};
-ghost use Rattle.av_ticks.specs.Keys.{key_of};
+ghost use Rattle.av_ticks.specs.Stored.{stored, spare_in};
 
+use crate::store::Store;
 use av_types::{Entry, Fault, Pos};
-use indexmap::IndexMap;
 use std::alloc::{AllocError, Global};
 use std::slice;
 
@@ -17,51 +15,23 @@ use std::slice;
 /// A position that has one is pending.
 #[derive(Drop)]
 pub struct TickList {
-    by_position: IndexMap<(i32, i32, i32), Entry>,
+    store: Store,
 
     /// The least time of an entry, and the greatest of all times where there is none.
     soonest: i64,
-    ghost keyed: { keys_of by_position.entries ≡ map key_of (values_of by_position.entries) },
-    pub ghost apart: { are_apart (values_of by_position.entries) ≡ true },
-    ghost least: { soonest ≡ least_due (values_of by_position.entries) },
-}
-
-/// The key of a position.
-fn key(pos: Pos) -> (i32, i32, i32)
-    ensures { result ≡ (pos.x, pos.y, pos.z) }
-{
-    (pos.x, pos.y, pos.z)
-}
-
-/// The entries of a map, in order.
-fn values(by_position: &IndexMap<(i32, i32, i32), Entry>) -> &[Entry]
-    ensures { result.now ≡ values_of by_position.now.entries }
-{
-    by_position.values().as_slice()
-}
-
-/// Appends the entry of a position that is not pending.
-fn append(by_position: &mut IndexMap<(i32, i32, i32), Entry>, entry: Entry) -> Result<(), Fault>
-    requires keyed { keys_of by_position.old.entries ≡ map key_of (values_of by_position.old.entries) }
-    requires new { is_pending entry.pos (values_of by_position.old.entries) ≡ false }
-    ensures entries { by_position.new.entries ≡ (if is_ok result then by_position.old.entries ++ (key_of entry, entry) ∷ [] else by_position.old.entries) }
-    ensures err { IfErr result (λ e. e ≡ OutOfMemory) }
-    ensures succeeds { 0 < spare by_position.old → IsOk result }
-    ensures spare { spare by_position.old ≤ spare by_position.new + 1 }
-{
-    by_position.insert(key(entry.pos), entry)?;
-    Ok(())
+    pub ghost apart: { are_apart (stored store) ≡ true },
+    ghost least: { soonest ≡ least_due (stored store) },
 }
 
 /// Appends the entry of a position that is not pending, where there is room.
-fn put(by_position: &mut IndexMap<(i32, i32, i32), Entry>, entry: Entry)
-    requires keyed { keys_of by_position.old.entries ≡ map key_of (values_of by_position.old.entries) }
-    requires new { is_pending entry.pos (values_of by_position.old.entries) ≡ false }
-    requires room { 0 < spare by_position.old }
-    ensures entries { by_position.new.entries ≡ by_position.old.entries ++ (key_of entry, entry) ∷ [] }
-    ensures spare { spare by_position.old ≤ spare by_position.new + 1 }
+fn put(store: &mut Store, entry: Entry)
+    requires apart { are_apart (stored store.old) ≡ true }
+    requires new { is_pending entry.pos (stored store.old) ≡ false }
+    requires room { 0 < spare_in store.old }
+    ensures entries { stored store.new ≡ stored store.old ++ entry ∷ [] }
+    ensures spare { spare_in store.old ≤ spare_in store.new + 1 }
 {
-    let _ = append(by_position, entry);
+    let _ = store.add(entry);
 }
 
 /// The sooner of two times.
@@ -107,7 +77,7 @@ impl TickList {
         ensures { entries result ≡ [] }
     {
         TickList {
-            by_position: IndexMap::new(alloc),
+            store: Store::new(alloc),
             soonest: i64::MAX,
         }
     }
@@ -116,7 +86,7 @@ impl TickList {
     pub fn len(&self) -> usize
         ensures { result ≡ length (entries self.now) }
     {
-        self.by_position.len()
+        self.as_slice().len()
     }
 
     /// Whether there is none.
@@ -138,14 +108,14 @@ impl TickList {
     pub fn as_slice(&self) -> &[Entry]
         ensures { result.now ≡ entries self.now }
     {
-        values(&self.by_position)
+        self.store.as_slice()
     }
 
     /// Whether an entry of a position is there.
     pub fn has(&self, pos: Pos) -> bool
         ensures { result ≡ is_pending pos (entries self.now) }
     {
-        self.by_position.contains_key(&key(pos))
+        self.store.has(pos)
     }
 
     /// The least time of an entry, and the greatest of all times where there is none.
@@ -178,7 +148,7 @@ impl TickList {
         if self.has(entry.pos) {
             return Ok(false);
         }
-        append(&mut self.by_position, entry)?;
+        self.store.add(entry)?;
         self.soonest = sooner(self.soonest, entry.due);
         Ok(true)
     }
@@ -190,7 +160,7 @@ impl TickList {
         ensures entries { entries self.new ≡ entries self.old ++ entry ∷ [] }
         ensures room { room self.old ≤ room self.new + 1 }
     {
-        put(&mut self.by_position, entry);
+        put(&mut self.store, entry);
         self.soonest = sooner(self.soonest, entry.due);
     }
 
@@ -203,8 +173,7 @@ impl TickList {
         ensures succeeds { additional ≤ room self.old → IsOk result }
         ensures room { room self.old ≤ room self.new }
     {
-        self.by_position.reserve(additional)?;
-        Ok(())
+        self.store.reserve(additional)
     }
 
     /// The entries that are due in tick `now` or before it, by their time, then by their priority, the lower first,
@@ -214,7 +183,7 @@ impl TickList {
         ensures err { IfErr result (λ e. e ≡ OutOfMemory) }
         ensures empty { entries self.now ≡ [] → IsOk result }
     {
-        let alloc = *self.by_position.allocator();
+        let alloc = self.store.allocator();
         if self.is_empty() {
             return Ok(Vec::new(alloc));
         }
@@ -229,12 +198,7 @@ impl TickList {
         ensures entries { entries self.new ≡ filter (λ e. not (is_due now e)) (entries self.old) }
         ensures room { room self.old ≤ room self.new }
     {
-        let now = i64::from(now);
-        self.by_position.retain(
-            |_key: &(i32, i32, i32), entry: &mut Entry| -> bool
-                ensures { (result ≡ not (int_le entry.old.due now)) × (entry.new ≡ entry.old) }
-            { entry.due > now },
-        );
-        self.soonest = soonest_of(values(&self.by_position));
+        self.store.drop_due(now);
+        self.soonest = soonest_of(self.store.as_slice());
     }
 }

@@ -68,6 +68,32 @@ fn the_least_time_is_known(rt: HostRuntime) -> Result<(), Fail> {
     Ok(())
 }
 
+/// So many entries that they have an index: each is found, none twice, and those that are due leave.
+#[test]
+fn many_entries_are_found(rt: HostRuntime) -> Result<(), Fail> {
+    let mut list = TickList::new(rt.alloc());
+    list.reserve(42)?;
+    for z in 0..200 {
+        assert!(rt; list.add(entry(z, i64::from(z % 3), 0))?);
+    }
+    list.reserve(100)?;
+    assert_eq!(rt; list.len(), 200);
+    assert_eq!(rt; list.soonest(), 0);
+    for z in 0..200 {
+        assert!(rt; list.has(entry(z, 0, 0).pos));
+        assert!(rt; !list.add(entry(z, 7, 0))?);
+    }
+    assert!(rt; !list.has(entry(200, 0, 0).pos));
+    assert_eq!(rt; list.take_due(0)?.len(), 67);
+    list.drop_due(0);
+    assert_eq!(rt; list.len(), 133);
+    assert_eq!(rt; list.soonest(), 1);
+    for z in 0..200 {
+        assert_eq!(rt; list.has(entry(z, 0, 0).pos), z % 3 != 0);
+    }
+    Ok(())
+}
+
 #[test]
 fn made_entries_go_by_maker_and_number(rt: HostRuntime) -> Result<(), Fail> {
     let first = [made(2, 0), made(2, 1)].to_vec(rt.alloc())?;

@@ -2,7 +2,7 @@
 use Rattle.std.proofs.Common.{◌∙◌}
 use Rattle.av_ticks.proofs.Lookup.{is_at, nothing_found}
 use Rattle.indexmap.proofs.CallerLemmas.{insert_entry-new}
-use Rattle.av_ticks.proofs.list.append.Goals as goal
+use Rattle.av_ticks.proofs.store.append.Goals as goal
 
 pub returns-clause-entries : goal.returns-clause-entries
 returns-clause-entries c =
