@@ -1,9 +1,8 @@
 //! Blocks of small regions, written by hand.
-use crate::documents::joined;
 use av_chunk::block_at;
 use av_state::State;
 use av_types::{Fault, Height, Pos, RegionPos};
-use std::alloc::Global;
+use std::alloc::{AllocError, Global};
 use std::test::Fail;
 
 /// The root's begin: `xPos` and `zPos` of -1.
@@ -54,6 +53,15 @@ const TICK_OUTSIDE: &[u8] = b"\x09\x00\x0bfluid_ticks\x0a\x00\x00\x00\x01\
 const TICK_OF_NOTHING: &[u8] = b"\x09\x00\x0bfluid_ticks\x0a\x00\x00\x00\x01\x01\x00\x01i\x00\x00";
 
 const END: &[u8] = b"\x00";
+
+/// Parts of a document, one after the other.
+fn joined(alloc: Global, parts: &[&[u8]]) -> Result<Vec<u8>, AllocError> {
+    let mut bytes = Vec::new(alloc);
+    for part in parts {
+        bytes.extend_from_slice(*part)?;
+    }
+    Ok(bytes)
+}
 
 /// The region of the chunk (-1, -1) alone, in all the sectors that a chunk can have, with that payload.
 fn region_of(alloc: Global, payload: &[u8]) -> Result<Vec<u8>, Fail> {

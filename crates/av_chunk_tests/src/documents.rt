@@ -1,12 +1,24 @@
 //! Chunks of documents that were put together by hand, read and written back.
-ghost use Rattle.std.specs.Prelude.{◌≤◌, length};
+ghost use Rattle.std.specs.Prelude.{◌≡◌, ◌≤◌, IfOk, length};
+ghost use Rattle.av_state.specs.Table.{states};
+ghost use Rattle.av_rules.specs.declared.kinds.Kinds.{Kinds};
+ghost use Rattle.av_chunk.specs.Writing.{CanWrite, states_of_kinds};
 
-use av_chunk::{Chunk, ChunkLight, Reading};
+use crate::pieces::Piece::{Light, Longs, Number, Tick};
+use crate::pieces::{Piece, joined, push_all, push_light};
+use crate::tags::{
+    ABOVE, AIR, BARE, BEGIN, BELOW, BIOMES, DATA, END, EXTRA, FACING, FLOWING, FURNACE, LAST, LAVA,
+    LEVEL_0, LEVEL_3, LEVEL_8, LEVEL_12, LIT, LIT_AIR, NO_LIST, ODD_TICK, PALETTE_1, PALETTE_2,
+    PALETTE_5, ROOT, SECTIONS_1, SECTIONS_4, SECTIONS_5, SECTIONS_17, SKY, SLAB, STATES, STATUS,
+    STILL, STONE, TICKS_0, TICKS_1, TICKS_4, TICKS_6, TICKS_7, UNKNOWN, WATER, Z_POS,
+};
+use av_chunk::{Chunk, ChunkLight, ChunkRest, Reading};
 use av_nbt::{decode, encode};
 use av_rules::{Kinds, Rules};
 use av_state::StateTable;
 use av_types::{ChunkPos, Entry, Fault, Height, Pos};
-use std::alloc::Global;
+use std::alloc::{AllocError, Global};
+use std::process::Abort;
 use std::test::Fail;
 
 /// The most bytes that a region's sectors hold of a chunk.
@@ -19,150 +31,6 @@ const LOW: Height = Height {
     sections: 16,
 };
 
-/// A root's begin, with its place and its `Status`.
-const ROOT: &[u8] =
-    b"\x0a\x00\x00\x03\x00\x04xPos\x00\x00\x00\x01\x03\x00\x04zPos\xff\xff\xff\xfe\x08\x00\x06Status\x00\x04full";
-
-const NO_LIST: &[u8] = b"\x09\x00\x08sections\x00\x00\x00\x00\x00";
-
-/// `sections` and `fluid_ticks`, with a count.
-const SECTIONS_1: &[u8] = b"\x09\x00\x08sections\x0a\x00\x00\x00\x01";
-
-const SECTIONS_4: &[u8] = b"\x09\x00\x08sections\x0a\x00\x00\x00\x04";
-
-const SECTIONS_5: &[u8] = b"\x09\x00\x08sections\x0a\x00\x00\x00\x05";
-
-const SECTIONS_17: &[u8] = b"\x09\x00\x08sections\x0a\x00\x00\x00\x11";
-
-const TICKS_0: &[u8] = b"\x09\x00\x0bfluid_ticks\x0a\x00\x00\x00\x00";
-
-const TICKS_1: &[u8] = b"\x09\x00\x0bfluid_ticks\x0a\x00\x00\x00\x01";
-
-const TICKS_4: &[u8] = b"\x09\x00\x0bfluid_ticks\x0a\x00\x00\x00\x04";
-
-const TICKS_6: &[u8] = b"\x09\x00\x0bfluid_ticks\x0a\x00\x00\x00\x06";
-
-const TICKS_7: &[u8] = b"\x09\x00\x0bfluid_ticks\x0a\x00\x00\x00\x07";
-
-/// A section's number.
-const Y_0: &[u8] = b"\x01\x00\x01Y\x00";
-
-const Y_1: &[u8] = b"\x01\x00\x01Y\x01";
-
-const Y_2: &[u8] = b"\x01\x00\x01Y\x02";
-
-/// The begin of `block_states`.
-const STATES: &[u8] = b"\x0a\x00\x0cblock_states";
-
-/// `palette`, with a count.
-const PALETTE_1: &[u8] = b"\x09\x00\x07palette\x0a\x00\x00\x00\x01";
-
-const PALETTE_2: &[u8] = b"\x09\x00\x07palette\x0a\x00\x00\x00\x02";
-
-const PALETTE_5: &[u8] = b"\x09\x00\x07palette\x0a\x00\x00\x00\x05";
-
-/// `data` of 256 longs, each of which has 16 indices, that of the lowest place last.
-const DATA: &[u8] = b"\x0c\x00\x04data\x00\x00\x01\x00";
-
-/// `BlockLight` of 2,048 bytes.
-const LIGHT: &[u8] = b"\x07\x00\x0aBlockLight\x00\x00\x08\x00";
-
-/// Entries of palettes, some of them to be ended.
-const AIR: &[u8] = b"\x08\x00\x04Name\x00\x0dminecraft:air\x00";
-
-const LIT_AIR: &[u8] =
-    b"\x0a\x00\x0aProperties\x08\x00\x03lit\x00\x04true\x00\x08\x00\x04Name\x00\x0dminecraft:air\x00";
-
-const STONE: &[u8] = b"\x08\x00\x04Name\x00\x0fminecraft:stone\x00";
-
-const SLAB: &[u8] =
-    b"\x08\x00\x04Name\x00\x12minecraft:oak_slab\x0a\x00\x0aProperties\x08\x00\x0bwaterlogged\x00\x04true\x00\x00";
-
-const FURNACE: &[u8] = b"\x08\x00\x04Name\x00\x11minecraft:furnace\x0a\x00\x0aProperties";
-
-const LIT: &[u8] = b"\x08\x00\x03lit\x00\x04true";
-
-const FACING: &[u8] = b"\x08\x00\x06facing\x00\x05north";
-
-const BARE: &[u8] = b"\x08\x00\x04Name\x00\x0fminecraft:water\x00";
-
-const WATER: &[u8] = b"\x08\x00\x04Name\x00\x0fminecraft:water\x0a\x00\x0aProperties";
-
-const LEVEL_0: &[u8] = b"\x08\x00\x05level\x00\x010\x00\x00";
-
-const LEVEL_3: &[u8] = b"\x08\x00\x05level\x00\x013\x00\x00";
-
-const LEVEL_8: &[u8] = b"\x08\x00\x05level\x00\x018\x00\x00";
-
-const LEVEL_12: &[u8] = b"\x08\x00\x05level\x00\x0212\x00\x00";
-
-/// A tick's fluid.
-const STILL: &[u8] = b"\x08\x00\x01i\x00\x0fminecraft:water";
-
-const FLOWING: &[u8] = b"\x08\x00\x01i\x00\x17minecraft:flowing_water";
-
-const LAVA: &[u8] = b"\x08\x00\x01i\x00\x0eminecraft:lava";
-
-/// Water with too few tags, which is foreign.
-const ODD_TICK: &[u8] = b"\x03\x00\x01x\x00\x00\x00\x01\x08\x00\x01i\x00\x0fminecraft:water\x00";
-
-const END: &[u8] = b"\x00";
-
-/// Parts of another root, which has a name.
-const BEGIN: &[u8] =
-    b"\x0a\x00\x02hi\x04\x00\x0aLastUpdate\x00\x00\x00\x00\x00\x00\x00\x07\x03\x00\x04xPos\x00\x00\x00\x01";
-
-const STATUS: &[u8] = b"\x08\x00\x06Status\x00\x0eminecraft:full";
-
-const Z_POS: &[u8] = b"\x03\x00\x04zPos\xff\xff\xff\xfe";
-
-const UNKNOWN: &[u8] =
-    b"\x09\x00\x0eblock_entities\x00\x00\x00\x00\x00\x0a\x00\x06nobody\x01\x00\x01a\x01\x00";
-
-/// Other tags of a section, and one of its `block_states`.
-const BIOMES: &[u8] =
-    b"\x0a\x00\x06biomes\x09\x00\x07palette\x08\x00\x00\x00\x01\x00\x10minecraft:plains\x00";
-
-const SKY: &[u8] = b"\x07\x00\x08SkyLight\x00\x00\x00\x02\xff\xfe";
-
-const LAST: &[u8] = b"\x02\x00\x04last\x7f\xff";
-
-const EXTRA: &[u8] = b"\x03\x00\x05extra\x00\x00\x00\x05";
-
-/// Section -1, whose `block_states` are a Byte.
-const BELOW: &[u8] = b"\x01\x00\x0cblock_states\x09\x01\x00\x01Y\xff\x00";
-
-/// Section 3.
-const ABOVE: &[u8] = b"\x08\x00\x04note\x00\x02ok\x01\x00\x01Y\x03\x00";
-
-/// Parts of a document, one after the other.
-pub(crate) fn joined(alloc: Global, parts: &[&[u8]]) -> Result<Vec<u8>, Fault> {
-    let mut bytes = Vec::new(alloc);
-    for part in parts {
-        bytes.extend_from_slice(*part)?;
-    }
-    Ok(bytes)
-}
-
-/// The bytes of 256 longs, from the first one and the byte that all others are made of.
-fn longs(alloc: Global, first: [u8; 8], others: u8) -> Result<Vec<u8>, Fault> {
-    let mut bytes = Vec::from_slice(alloc, &first)?;
-    bytes.resize(2048, others)?;
-    Ok(bytes)
-}
-
-/// A tick of a fluid: the block's x, y and z, the ticks until it is due, and its priority.
-fn tick(alloc: Global, fluid: &[u8], numbers: [i32; 5]) -> Result<Vec<u8>, Fault> {
-    let [x, y, z, t, p] = numbers;
-    let mut bytes = Vec::from_slice(alloc, fluid)?;
-    for (name, number) in [(b'x', x), (b'y', y), (b'z', z), (b't', t), (b'p', p)] {
-        bytes.extend_from_slice(&[3, 0, 1, name])?;
-        bytes.extend_from_slice(&number.to_be_bytes())?;
-    }
-    bytes.push(0)?;
-    Ok(bytes)
-}
-
 /// What the chunk that bytes spell is read as, at its place.
 fn read(alloc: Global, bytes: &[u8], height: Height) -> Result<Reading, Fault>
     requires { length bytes.now ≤ 1044475 }
@@ -170,6 +38,42 @@ fn read(alloc: Global, bytes: &[u8], height: Height) -> Result<Reading, Fault>
     let root = decode(alloc, bytes)?;
     let mut table = StateTable::new(alloc)?;
     Chunk::read(alloc, root, PLACE, height, &mut table)
+}
+
+/// The kinds of a table's states.
+fn kinds_of(alloc: Global, table: StateTable) -> Result<Kinds, Fault>
+    ensures { IfOk result (λ kinds. states_of_kinds kinds ≡ states table) }
+{
+    let rules = Rules::read(alloc, b"version = 2")?;
+    Kinds::new(alloc, table, &rules)
+}
+
+/// What is written of a chunk, no tick after it was read.
+fn written(
+    alloc: Global,
+    chunk: &Chunk,
+    rest: &ChunkRest,
+    kinds: &Kinds,
+    light: &ChunkLight,
+) -> Result<Vec<u8>, Fault>
+    requires { CanWrite chunk.now rest.now kinds.now light.now 0 }
+{
+    let root = chunk.write(alloc, rest, kinds, light, 0)?;
+    encode(alloc, &root)
+}
+
+/// The same, by the table of its states.
+fn written_by(
+    alloc: Global,
+    chunk: &Chunk,
+    rest: &ChunkRest,
+    table: StateTable,
+    light: &ChunkLight,
+) -> Result<Vec<u8>, Fault>
+    requires { (kinds : Kinds) → states_of_kinds kinds ≡ states table → CanWrite chunk.now rest.now kinds light.now 0 }
+{
+    let kinds = kinds_of(alloc, table)?;
+    written(alloc, chunk, rest, &kinds, light)
 }
 
 /// What is written of the chunk that bytes spell, no tick after it was read. The light is that of all sections from 0 up.
@@ -188,68 +92,121 @@ pub(crate) fn rewritten(alloc: Global, bytes: &[u8], light: &ChunkLight) -> Resu
     let Reading::Full { chunk, rest } = reading else {
         return Err(Fail::new("a chunk that is not full"));
     };
-    let rules = Rules::read(alloc, b"version = 2")?;
-    let kinds = Kinds::new(alloc, table, &rules)?;
-    let root = chunk.write(alloc, &rest, &kinds, light, 0)?;
-    Ok(encode(alloc, &root)?)
+    Ok(written_by(alloc, &chunk, &rest, table, light)?)
 }
 
-/// Sections in no order: two are out of the height, one has no `block_states`, and one is missing.
+/// A document is written as another one, with this light.
+fn expect_written(
+    rt: &impl Abort,
+    alloc: Global,
+    light: &ChunkLight,
+    document: &[&[Piece]],
+    want: &[&[Piece]],
+) -> Result<(), Fail> {
+    let bytes = joined(alloc, document)?;
+    let written = rewritten(alloc, &bytes, light)?;
+    assert!(rt; written == joined(alloc, want)?);
+    Ok(())
+}
+
+/// Light of three sections, each with one byte throughout.
+fn three_lights(alloc: Global, bytes: [u8; 3]) -> Result<ChunkLight, Fail> {
+    let mut light = Vec::new(alloc);
+    for byte in bytes {
+        push_light(&mut light, byte)?;
+    }
+    if light.len() != 6144 {
+        return Err(Fail::new("not three sections"));
+    }
+    Ok(ChunkLight::from_bytes(3, light))
+}
+
+const Y_0: Piece<'static> = Number(0);
+
+const Y_1: Piece<'static> = Number(1);
+
+const Y_2: Piece<'static> = Number(2);
+
+const DARK: Piece<'static> = Light(0);
+
+const LIGHT_0: Piece<'static> = Light(0x1a);
+
+const LIGHT_1: Piece<'static> = Light(0x2b);
+
+const LIGHT_2: Piece<'static> = Light(0x3c);
+
+const WATER_1: Piece<'static> = Tick(FLOWING, [16, 0, -32, 5, 0]);
+
+const WATER_2: Piece<'static> = Tick(FLOWING, [31, 47, -17, 4, -1]);
+
+const HIGH_LAVA: Piece<'static> = Tick(LAVA, [0, 400, 0, 3, 0]);
+
+/// The first block is air, and all others are stone: by a palette of stone and air, and by one of air and stone.
+const OLD_DATA: Piece<'static> = Longs([0, 0, 0, 0, 0, 0, 0, 1], 0);
+
+const NEW_DATA: Piece<'static> = Longs([17, 17, 17, 17, 17, 17, 17, 16], 17);
+
+/// Sections in no order: two are out of the height, one has no `block_states`, and one is missing. Section 1 has the
+/// light of another.
+const IN_NO_ORDER: &[Piece<'static>] = &[
+    BEGIN, TICKS_4, WATER_1, HIGH_LAVA, WATER_2, ODD_TICK, STATUS, SECTIONS_4, ABOVE, BIOMES,
+    LIGHT_0, Y_1, SKY, STATES, EXTRA, DATA, OLD_DATA, PALETTE_2, STONE, AIR, END, LAST, END, BELOW,
+    Y_0, BIOMES, END, Z_POS, UNKNOWN, END,
+];
+
+/// The same as it is written: section -1, then 0, 1 and 2, and then 3.
+const IN_ORDER: &[Piece<'static>] = &[
+    BEGIN, TICKS_4, HIGH_LAVA, ODD_TICK, WATER_1, WATER_2, STATUS, SECTIONS_5, BELOW, Y_0, BIOMES,
+    STATES, PALETTE_1, AIR, END, LIGHT_0, END, BIOMES, LIGHT_1, Y_1, SKY, STATES, PALETTE_2, AIR,
+    STONE, DATA, NEW_DATA, EXTRA, END, LAST, END, Y_2, STATES, PALETTE_1, AIR, END, LIGHT_2, END,
+    ABOVE, Z_POS, UNKNOWN, END,
+];
+
 #[test]
 fn all_tags_stay_where_they_stood(rt: HostRuntime) -> Result<(), Fail> {
-    let alloc = rt.alloc();
-    let light_0 = vec![in alloc; 0x1au8; 2048]?;
-    let light_1 = vec![in alloc; 0x2bu8; 2048]?;
-    let light_2 = vec![in alloc; 0x3cu8; 2048]?;
-    // the first block is air, and all others are stone
-    let old_data = longs(alloc, [0, 0, 0, 0, 0, 0, 0, 1], 0)?;
-    let new_data = longs(alloc, [17, 17, 17, 17, 17, 17, 17, 16], 17)?;
-    let water_1 = tick(alloc, FLOWING, [16, 0, -32, 5, 0])?;
-    let water_2 = tick(alloc, FLOWING, [31, 47, -17, 4, -1])?;
-    let lava = tick(alloc, LAVA, [0, 400, 0, 3, 0])?;
-    let bytes = joined(
-        alloc,
-        &[
-            BEGIN, TICKS_4, &water_1, &lava, &water_2, ODD_TICK, STATUS, SECTIONS_4, ABOVE,
-            // section 1, with the light of another
-            BIOMES, LIGHT, &light_0, Y_1, SKY, STATES, EXTRA, DATA, &old_data, PALETTE_2, STONE,
-            AIR, END, LAST, END, BELOW, Y_0, BIOMES, END, Z_POS, UNKNOWN, END,
-        ],
-    )?;
-    let written = joined(
-        alloc,
-        &[
-            BEGIN, TICKS_4, &lava, ODD_TICK, &water_1, &water_2, STATUS, SECTIONS_5, BELOW,
-            // sections 0, 1 and 2
-            Y_0, BIOMES, STATES, PALETTE_1, AIR, END, LIGHT, &light_0, END, BIOMES, LIGHT,
-            &light_1, Y_1, SKY, STATES, PALETTE_2, AIR, STONE, DATA, &new_data, EXTRA, END, LAST,
-            END, Y_2, STATES, PALETTE_1, AIR, END, LIGHT, &light_2, END, ABOVE, Z_POS, UNKNOWN,
-            END,
-        ],
-    )?;
-    let light = joined(alloc, &[&light_0, &light_1, &light_2])?;
-    assert_eq!(rt; light.len(), 6144);
-    let light = ChunkLight::from_bytes(3, light);
-    assert!(rt; rewritten(alloc, &bytes, &light)? == written);
-    assert!(rt; rewritten(alloc, &written, &light)? == written);
-    Ok(())
+    let light = three_lights(rt.alloc(), [0x1a, 0x2b, 0x3c])?;
+    expect_written(&rt, rt.alloc(), &light, &[IN_NO_ORDER], &[IN_ORDER])?;
+    expect_written(&rt, rt.alloc(), &light, &[IN_ORDER], &[IN_ORDER])
 }
 
 /// Missing ticks come last, as what is missing of a section does. Both lists are of Compounds.
 #[test]
 fn what_is_absent_comes_last(rt: HostRuntime) -> Result<(), Fail> {
-    let alloc = rt.alloc();
-    let dark = vec![in alloc; 0u8; 2048]?;
-    let bytes = joined(alloc, &[ROOT, NO_LIST, UNKNOWN, END])?;
-    let written = joined(
-        alloc,
-        &[
-            ROOT, SECTIONS_1, Y_0, STATES, PALETTE_1, AIR, END, LIGHT, &dark, END, UNKNOWN,
-            TICKS_0, END,
-        ],
-    )?;
-    let light = ChunkLight::new(alloc, 1)?;
-    assert!(rt; rewritten(alloc, &bytes, &light)? == written);
+    let light = ChunkLight::new(rt.alloc(), 1)?;
+    let written: &[Piece] = &[
+        ROOT, SECTIONS_1, Y_0, STATES, PALETTE_1, AIR, END, DARK, END, UNKNOWN, TICKS_0, END,
+    ];
+    let document: &[Piece] = &[ROOT, NO_LIST, UNKNOWN, END];
+    expect_written(&rt, rt.alloc(), &light, &[document], &[written])
+}
+
+/// What stands behind the one state of a section.
+const WITH_DATA: &[Piece<'static>] = &[DATA, ZEROS, END, END, TICKS_0, END];
+
+const WITHOUT_DATA: &[Piece<'static>] = &[END, END, TICKS_0, END];
+
+/// A section of one state.
+fn one_state(alloc: Global, state: &[Piece], rest: &[Piece]) -> Result<Vec<u8>, AllocError> {
+    let mut bytes = joined(alloc, &[&[ROOT, SECTIONS_1, Y_0, DARK, STATES, PALETTE_1]])?;
+    push_all(&mut bytes, state)?;
+    push_all(&mut bytes, rest)?;
+    Ok(bytes)
+}
+
+/// `data` of 256 longs, all 0.
+const ZEROS: Piece<'static> = Longs([0; 8], 0);
+
+/// A section of this state, with `data`, is written as that one, without.
+fn expect_form(
+    rt: &impl Abort,
+    alloc: Global,
+    light: &ChunkLight,
+    state: &[Piece],
+    want: &[Piece],
+) -> Result<(), Fail> {
+    let bytes = one_state(alloc, state, WITH_DATA)?;
+    let written = rewritten(alloc, &bytes, light)?;
+    assert!(rt; written == one_state(alloc, want, WITHOUT_DATA)?);
     Ok(())
 }
 
@@ -257,10 +214,8 @@ fn what_is_absent_comes_last(rt: HostRuntime) -> Result<(), Fail> {
 /// states with their keys in order.
 #[test]
 fn states_are_written_in_their_form(rt: HostRuntime) -> Result<(), Fail> {
-    let alloc = rt.alloc();
-    let zeros = vec![in alloc; 0u8; 2048]?;
-    let light = ChunkLight::new(alloc, 1)?;
-    let cases: [(&[&[u8]], &[&[u8]]); 5] = [
+    let light = ChunkLight::new(rt.alloc(), 1)?;
+    let cases: [(&[Piece], &[Piece]); 5] = [
         (&[WATER, LIT, LEVEL_12], &[WATER, LEVEL_8]),
         (&[WATER, LEVEL_3], &[WATER, LEVEL_3]),
         (&[BARE], &[WATER, LEVEL_0]),
@@ -270,107 +225,110 @@ fn states_are_written_in_their_form(rt: HostRuntime) -> Result<(), Fail> {
             &[FURNACE, FACING, LIT, END, END],
         ),
     ];
-    for (number, (state, want)) in cases.into_iter().enumerate() {
-        let state = joined(alloc, state)?;
-        let want = joined(alloc, want)?;
-        let bytes = joined(
-            alloc,
-            &[
-                ROOT, SECTIONS_1, Y_0, LIGHT, &zeros, STATES, PALETTE_1, &state, DATA, &zeros, END,
-                END, TICKS_0, END,
-            ],
-        )?;
-        let written = joined(
-            alloc,
-            &[
-                ROOT, SECTIONS_1, Y_0, LIGHT, &zeros, STATES, PALETTE_1, &want, END, END, TICKS_0,
-                END,
-            ],
-        )?;
-        assert!(rt;
-            rewritten(alloc, &bytes, &light)? == written,
-            "state {number}"
-        );
+    for (state, want) in cases {
+        expect_form(&rt, rt.alloc(), &light, state, want)?;
     }
     Ok(())
 }
 
 /// Ticks of five blocks from (16, 0, -32) on: a source, two flows, a soaked slab, and stone. Each has its fluid as it was
-/// read and as it is written.
-const FIVE_TICKS: [(&[u8], &[u8], [i32; 5]); 5] = [
-    (STILL, FLOWING, [20, 0, -32, 9, 0]),
-    (FLOWING, STILL, [16, 0, -32, 7, -1]),
-    (FLOWING, STILL, [19, 0, -32, -3, 0]),
-    (STILL, FLOWING, [17, 0, -32, 7, 0]),
-    (FLOWING, FLOWING, [18, 0, -32, 2, 5]),
+/// read, and below as it is written.
+const READ_TICKS: &[Piece<'static>] = &[
+    Tick(STILL, [20, 0, -32, 9, 0]),
+    Tick(FLOWING, [16, 0, -32, 7, -1]),
+    Tick(FLOWING, [19, 0, -32, -3, 0]),
+    Tick(STILL, [17, 0, -32, 7, 0]),
+    Tick(FLOWING, [18, 0, -32, 2, 5]),
 ];
+
+const WRITTEN_TICKS: &[Piece<'static>] = &[
+    Tick(FLOWING, [20, 0, -32, 9, 0]),
+    Tick(STILL, [16, 0, -32, 7, -1]),
+    Tick(STILL, [19, 0, -32, -3, 0]),
+    Tick(FLOWING, [17, 0, -32, 7, 0]),
+    Tick(FLOWING, [18, 0, -32, 2, 5]),
+];
+
+/// A second entry of a block, which is dropped.
+const SECOND: Piece<'static> = Tick(FLOWING, [16, 0, -32, 0, 0]);
+
+const LOW_LAVA: Piece<'static> = Tick(LAVA, [16, 0, -32, 1, 0]);
+
+/// Stone is the first of five states, and the last that is found.
+const OLD_FIVE: Piece<'static> = Longs([0, 0, 0, 0, 0, 0, 0x43, 0x21], 0);
+
+const NEW_FIVE: Piece<'static> = Longs([68, 68, 68, 68, 68, 68, 0x32, 0x10], 68);
 
 #[test]
 fn water_ticks_keep_their_order(rt: HostRuntime) -> Result<(), Fail> {
-    let alloc = rt.alloc();
-    let dark = vec![in alloc; 0u8; 2048]?;
-    // stone is the first of five states, and the last that is found
-    let old_data = longs(alloc, [0, 0, 0, 0, 0, 0, 0x43, 0x21], 0)?;
-    let new_data = longs(alloc, [68, 68, 68, 68, 68, 68, 0x32, 0x10], 68)?;
-    let lava = tick(alloc, LAVA, [16, 0, -32, 1, 0])?;
-    // a second entry of a block is dropped
-    let second = tick(alloc, FLOWING, [16, 0, -32, 0, 0])?;
-    let mut before = Vec::new(alloc);
-    let mut after = Vec::new(alloc);
-    for (fluid, want, numbers) in FIVE_TICKS {
-        before.extend_from_slice(&tick(alloc, fluid, numbers)?)?;
-        after.extend_from_slice(&tick(alloc, want, numbers)?)?;
+    let light = ChunkLight::new(rt.alloc(), 1)?;
+    let read: &[Piece] = &[
+        SECOND, LOW_LAVA, SECTIONS_1, Y_0, STATES, PALETTE_5, STONE, WATER, LEVEL_0, WATER,
+        LEVEL_3, WATER, LEVEL_8, SLAB, DATA, OLD_FIVE, END, END, END,
+    ];
+    let written: &[Piece] = &[
+        SECTIONS_1, Y_0, STATES, PALETTE_5, WATER, LEVEL_0, WATER, LEVEL_3, WATER, LEVEL_8, SLAB,
+        STONE, DATA, NEW_FIVE, END, DARK, END, END,
+    ];
+    let document = [&[ROOT, TICKS_7], READ_TICKS, read];
+    let want = [&[ROOT, TICKS_6, LOW_LAVA], WRITTEN_TICKS, written];
+    expect_written(&rt, rt.alloc(), &light, &document, &want)
+}
+
+/// Section -1, and 16 sections of air from 0 on.
+fn seventeen_sections(alloc: Global) -> Result<Vec<u8>, AllocError> {
+    let mut bytes = joined(alloc, &[&[ROOT, SECTIONS_17, BELOW]])?;
+    for y in 0..16u8 {
+        push_all(
+            &mut bytes,
+            &[Number(y), STATES, PALETTE_1, AIR, END, DARK, END],
+        )?;
     }
-    let bytes = joined(
-        alloc,
-        &[
-            ROOT, TICKS_7, &before, &second, &lava, SECTIONS_1, Y_0, STATES, PALETTE_5, STONE,
-            WATER, LEVEL_0, WATER, LEVEL_3, WATER, LEVEL_8, SLAB, DATA, &old_data, END, END, END,
-        ],
-    )?;
-    let written = joined(
-        alloc,
-        &[
-            ROOT, TICKS_6, &lava, &after, SECTIONS_1, Y_0, STATES, PALETTE_5, WATER, LEVEL_0,
-            WATER, LEVEL_3, WATER, LEVEL_8, SLAB, STONE, DATA, &new_data, END, LIGHT, &dark, END,
-            END,
-        ],
-    )?;
-    let light = ChunkLight::new(alloc, 1)?;
-    assert!(rt; rewritten(alloc, &bytes, &light)? == written);
-    Ok(())
+    push_all(&mut bytes, &[TICKS_0, END])?;
+    Ok(bytes)
 }
 
 /// A section of number -1, in a height of 16 sections from 0 on.
 #[test]
 fn a_section_below_the_height_stands_first(rt: HostRuntime) -> Result<(), Fail> {
-    let alloc = rt.alloc();
-    let dark = vec![in alloc; 0u8; 2048]?;
-    let bytes = joined(alloc, &[ROOT, SECTIONS_1, BELOW, TICKS_0, END])?;
-    let section = joined(alloc, &[STATES, PALETTE_1, AIR, END, LIGHT, &dark, END])?;
-    let mut written = joined(alloc, &[ROOT, SECTIONS_17, BELOW])?;
-    for y in 0..16u8 {
-        written.extend_from_slice(&[1, 0, 1, b'Y', y])?;
-        written.extend_from_slice(&section)?;
-    }
-    written.extend_from_slice(TICKS_0)?;
-    written.extend_from_slice(END)?;
-    let light = ChunkLight::new(alloc, 16)?;
-    assert!(rt; rewritten(alloc, &bytes, &light)? == written);
+    let light = ChunkLight::new(rt.alloc(), 16)?;
+    let bytes = joined(rt.alloc(), &[&[ROOT, SECTIONS_1, BELOW, TICKS_0, END]])?;
+    let written = rewritten(rt.alloc(), &bytes, &light)?;
+    assert!(rt; written == seventeen_sections(rt.alloc())?);
     Ok(())
 }
 
-/// An entry at y 300 lies out of that height, and in the game's.
+/// A root of no section, with one entry at y 300.
+fn high_entry(alloc: Global) -> Result<Vec<u8>, AllocError> {
+    let entry = Tick(STILL, [16, 300, -32, 4, -2]);
+    joined(alloc, &[&[ROOT, NO_LIST, TICKS_1, entry, END]])
+}
+
+/// What a chunk is read as.
+fn full(alloc: Global, bytes: &[u8], height: Height) -> Result<Chunk, Fail> {
+    if bytes.len() > MOST_BYTES {
+        return Err(Fail::new("too many bytes"));
+    }
+    match read(alloc, bytes, height)? {
+        Reading::Full { chunk, rest: _ } => Ok(chunk),
+        Reading::Kept => Err(Fail::new("a chunk that is not full")),
+    }
+}
+
+/// The one entry of a chunk of the game's height is pending in the section of this index.
+fn expect_entry(rt: &impl Abort, chunk: &Chunk, entry: Entry, index: usize) -> Result<(), Fail> {
+    assert_eq!(rt; chunk.ticks.as_slice(), [entry].as_slice());
+    assert_eq!(rt; chunk.sections.len(), 24);
+    let slot = chunk.sections.get(index).ok_or("no slot")?;
+    let section = slot.as_ref().ok_or("no section")?;
+    assert!(rt; section.pending(entry.pos.place()));
+    Ok(())
+}
+
+/// An entry at y 300 lies out of that height, and in the game's, where it is in section 18, the 23rd.
 #[test]
 fn an_entry_lies_in_the_height(rt: HostRuntime) -> Result<(), Fail> {
-    let alloc = rt.alloc();
-    let high = tick(alloc, STILL, [16, 300, -32, 4, -2])?;
-    let bytes = joined(alloc, &[ROOT, NO_LIST, TICKS_1, &high, END])?;
-    assert!(rt; bytes.len() <= MOST_BYTES);
-    assert_eq!(rt; read(alloc, &bytes, LOW).err(), Some(Fault::BadTick));
-    let Reading::Full { chunk, rest: _ } = read(alloc, &bytes, Height::game())? else {
-        return Err(Fail::new("a chunk that is not full"));
-    };
+    let bytes = high_entry(rt.alloc())?;
     let pos = Pos {
         x: 16,
         y: 300,
@@ -381,11 +339,10 @@ fn an_entry_lies_in_the_height(rt: HostRuntime) -> Result<(), Fail> {
         due: 4,
         priority: -2,
     };
-    assert_eq!(rt; chunk.ticks.as_slice(), [entry].as_slice());
-    // section 18 is the 23rd of the game's height
-    assert_eq!(rt; chunk.sections.len(), 24);
-    let section = chunk.sections[22].as_ref().ok_or("no section")?;
-    assert!(rt; section.pending(pos.place()));
+    let chunk = full(rt.alloc(), &bytes, Height::game())?;
+    expect_entry(&rt, &chunk, entry, 22)?;
+    assert!(rt; bytes.len() <= MOST_BYTES);
+    assert_eq!(rt; read(rt.alloc(), &bytes, LOW).err(), Some(Fault::BadTick));
     Ok(())
 }
 
@@ -399,12 +356,19 @@ fn a_chunk_that_is_not_full_is_kept(rt: HostRuntime) -> Result<(), Fail> {
 }
 
 #[test]
-fn light_goes_by_sections(rt: HostRuntime) -> Result<(), Fail> {
-    let alloc = rt.alloc();
-    let dark = vec![in alloc; 0u8; 4096]?;
+fn new_light_is_dark(rt: HostRuntime) -> Result<(), Fail> {
+    let dark = vec![in rt.alloc(); 0u8; 4096]?;
     assert_eq!(rt; dark.len(), 4096);
-    assert_eq!(rt; ChunkLight::new(alloc, 2)?, ChunkLight::from_bytes(2, dark));
-    let mut bytes = vec![in alloc; 0u8; 4096]?;
+    assert_eq!(rt;
+        ChunkLight::new(rt.alloc(), 2)?,
+        ChunkLight::from_bytes(2, dark)
+    );
+    Ok(())
+}
+
+#[test]
+fn light_goes_by_sections(rt: HostRuntime) -> Result<(), Fail> {
+    let mut bytes = vec![in rt.alloc(); 0u8; 4096]?;
     assert_eq!(rt; bytes.len(), 4096);
     bytes[2047] = 1;
     bytes[2048] = 2;

@@ -12,10 +12,14 @@ mod parts;
 #[cfg(test)]
 mod payloads;
 #[cfg(test)]
+mod pieces;
+#[cfg(test)]
 mod sections;
 #[cfg(test)]
 mod sectors;
 #[cfg(test)]
 mod stored;
+#[cfg(test)]
+mod tags;
 #[cfg(test)]
 mod writing;

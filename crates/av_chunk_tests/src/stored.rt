@@ -1,9 +1,14 @@
 //! Sections by hand, read, set and written.
+ghost use Rattle.std.specs.Prelude.{length};
+ghost use Rattle.av_state.specs.Table.{states};
+ghost use Rattle.av_section.specs.Section.{HasNumbersBelow};
+
 use av_nbt::{Kind, Named, Tag};
 use av_section::Section;
 use av_state::StateTable;
 use av_types::{Fault, Place};
 use std::alloc::Global;
+use std::process::Abort;
 use std::test::Fail;
 
 /// A text under a name.
@@ -45,20 +50,28 @@ fn fault_of(alloc: Global, states: u16, longs: usize, first: i64) -> Result<Opti
     Ok(Section::read(alloc, Some(&palette), Some(&longs), &mut table).err())
 }
 
+/// States, longs, the first of them, and the fault.
+type LongsCase = (u16, usize, i64, Option<Fault>);
+
 #[test]
 fn longs_fit_their_palette(rt: HostRuntime) -> Result<(), Fail> {
-    let alloc = rt.alloc();
-    // A palette of one entry has 256 longs of 0, or none.
-    assert_eq!(rt; fault_of(alloc, 1, 256, 0)?, None);
-    assert_eq!(rt; fault_of(alloc, 1, 0, 0)?, None);
-    assert_eq!(rt; fault_of(alloc, 1, 255, 0)?, Some(Fault::BadPacked));
-    // An index of 2 into a palette of two entries.
-    assert_eq!(rt; fault_of(alloc, 2, 256, 1)?, None);
-    assert_eq!(rt; fault_of(alloc, 2, 256, 2)?, Some(Fault::BadPacked));
-    // The four bits that no index of 5 bits has.
-    assert_eq!(rt; fault_of(alloc, 17, 342, 0x7000_0000_0000_0000)?, None);
-    assert_eq!(rt; fault_of(alloc, 17, 256, 0)?, Some(Fault::BadPacked));
-    assert_eq!(rt; fault_of(alloc, 0, 0, 0)?, Some(Fault::BadPalette));
+    let cases: [LongsCase; 8] = [
+        // A palette of one entry has 256 longs of 0, or none.
+        (1, 256, 0, None),
+        (1, 0, 0, None),
+        (1, 255, 0, Some(Fault::BadPacked)),
+        // An index of 2 into a palette of two entries.
+        (2, 256, 1, None),
+        (2, 256, 2, Some(Fault::BadPacked)),
+        // The four bits that no index of 5 bits has.
+        (17, 342, 0x7000_0000_0000_0000, None),
+        (17, 256, 0, Some(Fault::BadPacked)),
+        (0, 0, 0, Some(Fault::BadPalette)),
+    ];
+    for (states, longs, first, want) in cases {
+        let fault = fault_of(rt.alloc(), states, longs, first)?;
+        assert_eq!(rt; fault, want, "{longs} longs of {states} states");
+    }
     Ok(())
 }
 
@@ -84,65 +97,123 @@ fn entry_fault(
     Ok(Section::read(alloc, Some(&palette), None, &mut table).err())
 }
 
+/// A palette with that entry is refused.
+fn expect_bad(
+    rt: &impl Abort,
+    alloc: Global,
+    name: &[u8],
+    keys: &[&[u8]],
+    value: &[u8],
+) -> Result<(), Fail> {
+    let fault = entry_fault(alloc, name, keys, value)?;
+    assert_eq!(rt; fault, Some(Fault::BadPalette));
+    Ok(())
+}
+
 /// A text of a file has at most 65,535 bytes, and a Compound has no name twice.
 #[test]
 fn states_that_no_file_has_are_refused(rt: HostRuntime) -> Result<(), Fail> {
-    let alloc = rt.alloc();
-    let bytes = vec![in alloc; b'a'; 65536]?;
+    let bytes = vec![in rt.alloc(); b'a'; 65536]?;
     let long = bytes.as_slice();
     let short = &long[..65535];
-    assert_eq!(rt; entry_fault(alloc, short, &[short, b"b"], short)?, None);
-    let refused = Some(Fault::BadPalette);
-    assert_eq!(rt; entry_fault(alloc, long, &[b"a", b"b"], short)?, refused);
-    assert_eq!(rt; entry_fault(alloc, short, &[long, b"b"], short)?, refused);
-    assert_eq!(rt; entry_fault(alloc, short, &[b"a", b"b"], long)?, refused);
+    expect_bad(&rt, rt.alloc(), long, &[b"a", b"b"], short)?;
+    expect_bad(&rt, rt.alloc(), short, &[long, b"b"], short)?;
+    expect_bad(&rt, rt.alloc(), short, &[b"a", b"b"], long)?;
+    expect_bad(&rt, rt.alloc(), short, &[b"a", b"b", b"a"], short)?;
     assert_eq!(rt;
-        entry_fault(alloc, short, &[b"a", b"b", b"a"], short)?,
-        refused
+        entry_fault(rt.alloc(), short, &[short, b"b"], short)?,
+        None
     );
     Ok(())
 }
 
-/// A palette of one entry, with 256 longs of 0 or without any, is that state at every place, and it is written without.
+/// How many numbers and longs a section has, and the bits of an index.
+fn sizes(section: &Section) -> (usize, usize, u32) {
+    let (numbers, longs, bits) = section.parts();
+    (numbers.len(), longs.len(), bits)
+}
+
+/// A section is written with this palette and these longs.
+fn expect_written(
+    rt: &impl Abort,
+    alloc: Global,
+    section: &Section,
+    table: &StateTable,
+    palette: &Tag,
+    longs: Option<&Tag>,
+) -> Result<(), Fail>
+    requires { HasNumbersBelow section.now (length (states table.now)) }
+{
+    let (written, packed) = section.write(alloc, table)?;
+    assert!(rt; written == *palette);
+    assert!(rt; packed.as_ref() == longs);
+    Ok(())
+}
+
+/// A palette of one entry with these longs is that state at every place, and it is written without.
+fn expect_one_state(
+    rt: &impl Abort,
+    alloc: Global,
+    table: &mut StateTable,
+    palette: &Tag,
+    longs: Option<&Tag>,
+) -> Result<(), Fail> {
+    let section = Section::read(alloc, Some(palette), longs, table)?;
+    let ends = (section.get(Place::new(0)), section.get(Place::new(4095)));
+    assert_eq!(rt; ends, (10, 10));
+    expect_written(rt, alloc, &section, table, palette, None)
+}
+
+/// 256 longs of 0.
+fn zeros(alloc: Global) -> Result<Tag, Fault> {
+    Ok(Tag::long_array(vec![in alloc; 0; 256]?))
+}
+
+/// Longs of 0 are 256, and a second section has the same state.
 #[test]
 fn one_state_has_no_longs(rt: HostRuntime) -> Result<(), Fail> {
-    let alloc = rt.alloc();
-    let palette = palette(alloc, 1)?;
-    let longs = Tag::long_array(vec![in alloc; 0; 256]?);
-    let mut table = StateTable::new(alloc)?;
-    let section = Section::read(alloc, Some(&palette), Some(&longs), &mut table)?;
-    assert_eq!(rt; section.get(Place::new(4095)), 10);
-    let (written, longs) = section.write(alloc, &table)?;
-    assert_eq!(rt; written, palette);
-    assert!(rt; longs.is_none());
-    let section = Section::read(alloc, Some(&palette), None, &mut table)?;
+    let palette = palette(rt.alloc(), 1)?;
+    let longs = zeros(rt.alloc())?;
+    let mut table = StateTable::new(rt.alloc())?;
+    expect_one_state(&rt, rt.alloc(), &mut table, &palette, Some(&longs))?;
+    expect_one_state(&rt, rt.alloc(), &mut table, &palette, None)?;
     assert_eq!(rt; table.len(), 11);
-    assert_eq!(rt; section.get(Place::new(0)), 10);
-    assert_eq!(rt; section.get(Place::new(4095)), 10);
     Ok(())
+}
+
+/// A section of so many states with these longs.
+fn section_of(
+    alloc: Global,
+    table: &mut StateTable,
+    states: u16,
+    longs: Vec<i64>,
+) -> Result<Section, Fault> {
+    let palette = palette(alloc, states)?;
+    let longs = Tag::long_array(longs);
+    Section::read(alloc, Some(&palette), Some(&longs), table)
+}
+
+/// The longs of indices of 5 bits: long 1 is 12 and the last is 506284.
+fn two_longs(alloc: Global) -> Result<Vec<i64>, Fault> {
+    let mut packed = vec![in alloc; 0; 342]?;
+    if packed.len() == 342 {
+        packed[1] = 12;
+        packed[341] = 506284;
+    }
+    Ok(packed)
 }
 
 /// 17 states, numbered from 10 on, and twelve indices of 5 bits in a long. All longs are 0 except long 1, which is 12,
 /// and the last: place 12 has index 12, places 4092 to 4095 have 12, 13, 14 and 15, and all others have 0.
 #[test]
 fn places_have_the_numbers_of_their_states(rt: HostRuntime) -> Result<(), Fail> {
-    let alloc = rt.alloc();
-    let mut table = StateTable::new(alloc)?;
-    let palette = palette(alloc, 17)?;
-    let mut packed = vec![in alloc; 0; 342]?;
-    assert_eq!(rt; packed.len(), 342);
-    packed[1] = 12;
-    packed[341] = 506284;
-    let longs = Tag::long_array(packed);
-    let section = Section::read(alloc, Some(&palette), Some(&longs), &mut table)?;
+    let mut table = StateTable::new(rt.alloc())?;
+    let section = section_of(rt.alloc(), &mut table, 17, two_longs(rt.alloc())?)?;
     assert_eq!(rt; table.len(), 27);
-    assert_eq!(rt; section.get(Place::new(12)), 22);
-    assert_eq!(rt; section.get(Place::new(4092)), 22);
-    assert_eq!(rt; section.get(Place::new(4095)), 25);
-    let (numbers, longs, bits) = section.parts();
-    assert_eq!(rt; numbers.len(), 17);
-    assert_eq!(rt; longs.len(), 342);
-    assert_eq!(rt; bits, 5);
+    assert_eq!(rt; sizes(&section), (17, 342, 5));
+    for (place, number) in [(12, 22), (4092, 22), (4095, 25)] {
+        assert_eq!(rt; section.get(Place::new(place)), number);
+    }
     Ok(())
 }
 
@@ -151,20 +222,19 @@ fn places_have_the_numbers_of_their_states(rt: HostRuntime) -> Result<(), Fail> 
 fn a_prepared_section_reads_as_before(rt: HostRuntime) -> Result<(), Fail> {
     let mut section = Section::filled(rt.alloc(), 3)?;
     let place = Place::new(700);
-    assert_eq!(rt; section.parts().1.len(), 0);
+    assert_eq!(rt; sizes(&section).1, 0);
     section.set(place, 3);
     section.add_pending(place);
-    section.prepare([0, 1, 2, 3, 4, 5, 6, 7, 8, 9, 10, 11, 12, 13, 14, 15].as_slice())?;
-    assert_eq!(rt; section.parts().1.len(), 256);
-    assert_eq!(rt; section.parts().2, 4);
-    section.prepare([16, 2].as_slice())?;
-    let (numbers, longs, bits) = section.parts();
-    assert_eq!(rt; numbers.len(), 17);
-    assert_eq!(rt; longs.len(), 342);
-    assert_eq!(rt; bits, 5);
-    assert_eq!(rt; section.get(place), 3);
-    assert_eq!(rt; section.get(Place::new(4095)), 3);
-    assert!(rt; section.pending(place));
+    section.prepare(&[0, 1, 2, 3, 4, 5, 6, 7, 8, 9, 10, 11, 12, 13, 14, 15])?;
+    assert_eq!(rt; sizes(&section), (16, 256, 4));
+    section.prepare(&[16, 2])?;
+    assert_eq!(rt; sizes(&section), (17, 342, 5));
+    let found = (
+        section.get(place),
+        section.get(Place::new(4095)),
+        section.pending(place),
+    );
+    assert_eq!(rt; found, (3, 3, true));
     section.remove_pending(place);
     assert!(rt; !section.pending(place));
     Ok(())
@@ -172,7 +242,7 @@ fn a_prepared_section_reads_as_before(rt: HostRuntime) -> Result<(), Fail> {
 
 /// Sets a place to a number that the palette need not have.
 fn set_prepared(section: &mut Section, place: Place, number: u16) -> Result<(), Fault> {
-    section.prepare([number].as_slice())?;
+    section.prepare(&[number])?;
     section.set(place, number);
     Ok(())
 }
@@ -180,25 +250,20 @@ fn set_prepared(section: &mut Section, place: Place, number: u16) -> Result<(), 
 /// 16 states in use, the index of place i being i mod 16, and one more number: the states are numbered from 10 on.
 #[test]
 fn wider_indices_keep_every_place(rt: HostRuntime) -> Result<(), Fail> {
-    let alloc = rt.alloc();
-    let mut table = StateTable::new(alloc)?;
-    let palette = palette(alloc, 16)?;
-    let longs = Tag::long_array(vec![in alloc; 0xFEDC_BA98_7654_3210_u64.cast_signed(); 256]?);
-    let mut section = Section::read(alloc, Some(&palette), Some(&longs), &mut table)?;
-    assert_eq!(rt; section.parts().2, 4);
-    section.prepare([3].as_slice())?;
-    let (numbers, longs, bits) = section.parts();
-    assert_eq!(rt; numbers.len(), 17);
-    assert_eq!(rt; longs.len(), 342);
-    assert_eq!(rt; longs[341], 506284);
-    assert_eq!(rt; bits, 5);
+    let mut table = StateTable::new(rt.alloc())?;
+    let longs = vec![in rt.alloc(); 0xFEDC_BA98_7654_3210_u64.cast_signed(); 256]?;
+    let mut section = section_of(rt.alloc(), &mut table, 16, longs)?;
+    assert_eq!(rt; sizes(&section).2, 4);
+    section.prepare(&[3])?;
+    assert_eq!(rt; sizes(&section), (17, 342, 5));
+    assert_eq!(rt; section.parts().1.last(), Some(&506284));
     for index in 0..4096 {
         assert_eq!(rt; section.get(Place::new(index)), 10 + index % 16);
     }
     set_prepared(&mut section, Place::new(100), 3)?;
-    assert_eq!(rt; section.get(Place::new(99)), 13);
-    assert_eq!(rt; section.get(Place::new(100)), 3);
-    assert_eq!(rt; section.get(Place::new(101)), 15);
+    for (place, number) in [(99, 13), (100, 3), (101, 15)] {
+        assert_eq!(rt; section.get(Place::new(place)), number);
+    }
     Ok(())
 }
 
@@ -217,32 +282,22 @@ fn rising_longs(alloc: Global) -> Result<Vec<i64>, Fault> {
 /// 4,096 states, one a place, and then air and the nine water states, which no place has.
 #[test]
 fn unused_numbers_are_not_written(rt: HostRuntime) -> Result<(), Fail> {
-    let alloc = rt.alloc();
-    let mut table = StateTable::new(alloc)?;
-    let palette = palette(alloc, 4096)?;
-    let longs = Tag::long_array(rising_longs(alloc)?);
-    let mut section = Section::read(alloc, Some(&palette), Some(&longs), &mut table)?;
-    section.prepare([0, 1, 2, 3, 4, 5, 6, 7, 8, 9].as_slice())?;
-    let (numbers, packed, bits) = section.parts();
-    assert_eq!(rt; numbers.len(), 4106);
-    assert_eq!(rt; packed.len(), 1024);
-    assert_eq!(rt; bits, 13);
-    let (written, packed) = section.write(alloc, &table)?;
-    assert_eq!(rt; written, palette);
-    assert_eq!(rt; packed, Some(longs));
-    Ok(())
+    let mut table = StateTable::new(rt.alloc())?;
+    let palette = palette(rt.alloc(), 4096)?;
+    let longs = Tag::long_array(rising_longs(rt.alloc())?);
+    let mut section = Section::read(rt.alloc(), Some(&palette), Some(&longs), &mut table)?;
+    section.prepare(&[0, 1, 2, 3, 4, 5, 6, 7, 8, 9])?;
+    assert_eq!(rt; sizes(&section), (4106, 1024, 13));
+    expect_written(&rt, rt.alloc(), &section, &table, &palette, Some(&longs))
 }
 
 /// A section of air alone has no longs.
 #[test]
 fn air_is_written_without_longs(rt: HostRuntime) -> Result<(), Fail> {
-    let alloc = rt.alloc();
-    let table = StateTable::new(alloc)?;
-    let section = Section::filled(alloc, 0)?;
-    let (palette, longs) = section.write(alloc, &table)?;
-    let mut entries = Vec::new(alloc);
-    entries.push(entry(alloc, b"minecraft:air")?)?;
-    assert_eq!(rt; palette, Tag::list(Kind::Compound, entries));
-    assert!(rt; longs.is_none());
-    Ok(())
+    let mut entries = Vec::new(rt.alloc());
+    entries.push(entry(rt.alloc(), b"minecraft:air")?)?;
+    let palette = Tag::list(Kind::Compound, entries);
+    let table = StateTable::new(rt.alloc())?;
+    let section = Section::filled(rt.alloc(), 0)?;
+    expect_written(&rt, rt.alloc(), &section, &table, &palette, None)
 }

@@ -23,7 +23,7 @@ read-can_write c h d old new reading chunk rest kinds light is reads same lit =
     let loaded : IsLoaded c h d old new chunk rest = rw is at reads in
     loaded-can_write c h d old new chunk rest kinds light loaded (record { more = []; grown = same ∙ sym (append-nil new) }) lit
 
-pub write-requires : goal.write-requires
-write-requires c =
-    read-can_write _ _ _ _ _ c.in_ok-reading.reading c.in-Full.chunk c.in-Full.rest c.in_ok-kinds.kinds c.args.light.now
-    c.in-Full.is c.in_ok-reading.ensures.ok c.in_ok-kinds.ensures.table (sym c.len-sections.ensures)
+pub written_by-requires : goal.written_by-requires
+written_by-requires c kinds same =
+    read-can_write _ _ _ _ _ c.in_ok-reading.reading c.in-Full.chunk c.in-Full.rest kinds c.args.light.now
+    c.in-Full.is c.in_ok-reading.ensures.ok same (sym c.len-sections.ensures)

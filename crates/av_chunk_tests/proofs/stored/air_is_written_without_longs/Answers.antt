@@ -2,5 +2,5 @@
 use Rattle.std.proofs.Common.{arith}
 use Rattle.av_chunk_tests.proofs.stored.air_is_written_without_longs.Goals as goal
 
-pub write-requires : goal.write-requires
-write-requires g c i low = rw (c.in_ok-section.ensures.ok.numbers i low, c.in_ok-table.ensures.ok) (omega arith)
+pub expect_written-requires : goal.expect_written-requires
+expect_written-requires g c i low = rw (c.in_ok-section.ensures.ok.numbers i low, c.in_ok-table.ensures.ok) (omega arith)
