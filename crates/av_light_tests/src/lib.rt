@@ -2,6 +2,8 @@
 #![tactic(auto)]
 
 #[cfg(test)]
+mod states;
+#[cfg(test)]
 mod sweeps;
 #[cfg(test)]
 mod tests;
