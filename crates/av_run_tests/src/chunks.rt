@@ -1,13 +1,16 @@
 //! Several chunks, their light, and other heights than the game's.
 use crate::given::{
-    Given, at, expect, expect_by, file_after, flat, only_file, run_region, table_with,
+    Given, at, expect, expect_by, file_after, flat, flows, only_file, run_region, springs,
+    table_with, wet,
 };
 use av_image_tests::flat::Block::{Glowstone, Water};
-use av_image_tests::flat::{Flat, Waiting, flat_region, up_to_light};
+use av_image_tests::flat::{Flat, flat_region, up_to_light};
 use av_region::Region;
-use av_types::{ChunkPos, Height, Pos};
+use av_types::{ChunkPos, Height};
 use std::alloc::Global;
+use std::sync::Wait;
 use std::test::Fail;
+use std::thread::Threads;
 
 const TWO: &str = "1 8 64 8 minecraft:water[level=0]\n1 24 64 8 minecraft:water[level=0]\n";
 
@@ -17,42 +20,61 @@ const THREE: &str =
 /// Entries of two chunks, each in its own chunk's list.
 #[test]
 fn water_in_two_chunks(rt: HostRuntime) -> Result<(), Fail> {
-    let mut blocks = Vec::new(rt.alloc());
-    let mut woken = Vec::new(rt.alloc());
-    for x in [8, 24] {
-        for (dx, dz, level) in [(0, -1, 1), (0, 0, 0), (0, 1, 1), (-1, 0, 1), (1, 0, 1)] {
-            let pos = at(x + dx, 64, 8 + dz);
-            blocks.push((pos, Water(level)))?;
-            woken.push((pos, 5, level == 0))?;
-        }
-    }
-    let after = flat(blocks.as_slice(), woken.as_slice());
+    let blocks = [
+        wet(8, 7, 1),
+        wet(8, 8, 0),
+        wet(8, 9, 1),
+        wet(7, 8, 1),
+        wet(9, 8, 1),
+        wet(24, 7, 1),
+        wet(24, 8, 0),
+        wet(24, 9, 1),
+        wet(23, 8, 1),
+        wet(25, 8, 1),
+    ];
+    let woken = [
+        flows(8, 7),
+        springs(8, 8),
+        flows(8, 9),
+        flows(7, 8),
+        flows(9, 8),
+        flows(24, 7),
+        springs(24, 8),
+        flows(24, 9),
+        flows(23, 8),
+        flows(25, 8),
+    ];
+    let after = flat(&blocks, &woken);
     expect(&rt, rt.alloc(), flat(&[], &[]), TWO, (6, 2, 2), after)
+}
+
+/// The chunks, the turns and the file after six ticks of three sources, with so many workers.
+fn by_workers(
+    rt: &(impl Threads + Wait + Sync),
+    alloc: Global,
+    workers: u32,
+) -> Result<(u64, u128, Vec<u8>), Fail> {
+    let table = table_with(alloc, "version = 1")?;
+    let given = Given {
+        table: table.as_slice(),
+        edits: THREE,
+        ticks: 6,
+        workers,
+    };
+    let outcome = run_region(rt, alloc, flat_region(alloc, flat(&[], &[]), 2)?, given)?;
+    Ok((outcome.chunks, outcome.turns, only_file(outcome)?))
 }
 
 /// A third source by the edge of two chunks, with each number of workers.
 #[test]
 fn workers_make_no_difference(rt: HostRuntime) -> Result<(), Fail> {
-    let alloc = rt.alloc();
-    let table = table_with(alloc, "version = 1")?;
-    let mut first = Vec::new(alloc);
-    for workers in [1, 2, 8] {
-        let bytes = flat_region(alloc, flat(&[], &[]), 2)?;
-        let given = Given {
-            table: table.as_slice(),
-            edits: THREE,
-            ticks: 6,
-            workers,
-        };
-        let outcome = run_region(&rt, alloc, bytes, given)?;
-        assert_eq!(rt; outcome.chunks, 2);
-        assert_eq!(rt; outcome.turns, 3);
-        let file = only_file(outcome)?;
-        if first.is_empty() {
-            first = file;
-        } else {
-            assert!(rt; file == first, "{workers} workers");
-        }
+    let alone = by_workers(&rt, rt.alloc(), 1)?;
+    assert_eq!(rt; (alone.0, alone.1), (2, 3));
+    for workers in [2, 8] {
+        assert!(rt;
+            by_workers(&rt, rt.alloc(), workers)? == alone,
+            "{workers} workers"
+        );
     }
     Ok(())
 }
@@ -100,16 +122,24 @@ fn a_height_of_16_sections(rt: HostRuntime) -> Result<(), Fail> {
         blocks: &[],
         entries: &[],
     };
-    let mut blocks = Vec::new(rt.alloc());
-    let mut woken: Vec<Waiting> = Vec::new(rt.alloc());
-    for (x, z, level) in [(8, 7, 1), (8, 8, 0), (8, 9, 1), (7, 8, 1), (9, 8, 1)] {
-        blocks.push((at(x, 0, z), Water(level)))?;
-        woken.push((at(x, 0, z), 5, level == 0))?;
-    }
+    let blocks = [
+        (at(8, 0, 7), Water(1)),
+        (at(8, 0, 8), Water(0)),
+        (at(8, 0, 9), Water(1)),
+        (at(7, 0, 8), Water(1)),
+        (at(9, 0, 8), Water(1)),
+    ];
+    let woken = [
+        (at(8, 0, 7), 5, false),
+        (at(8, 0, 8), 5, true),
+        (at(8, 0, 9), 5, false),
+        (at(7, 0, 8), 5, false),
+        (at(9, 0, 8), 5, false),
+    ];
     let after = Flat {
         height,
-        blocks: blocks.as_slice(),
-        entries: woken.as_slice(),
+        blocks: &blocks,
+        entries: &woken,
     };
     let head = "version = 3\nmin_section = 0\nsections = 16";
     expect_by(

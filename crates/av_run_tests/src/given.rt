@@ -1,6 +1,7 @@
 //! Runs of flat worlds, and what they must answer.
 use av_chunk::block_at;
 use av_crew::NoGate;
+use av_image_tests::flat::Block::Water;
 use av_image_tests::flat::{Block, Flat, Waiting, flat_region};
 use av_run::{Outcome, RegionFile, run};
 use av_types::{Fault, Height, Pos, RegionPos, Wet};
@@ -121,8 +122,43 @@ pub fn flat<'a>(blocks: &'a [(Pos, Block)], entries: &'a [Waiting]) -> Flat<'a> 
     }
 }
 
+/// A block of water at y 64.
+pub fn wet(x: i32, z: i32, level: u8) -> (Pos, Block) {
+    (at(x, 64, z), Water(level))
+}
+
+/// An entry at y 64 that is due in 5 ticks, of flowing water.
+pub fn flows(x: i32, z: i32) -> Waiting {
+    (at(x, 64, z), 5, false)
+}
+
+/// The same of a source.
+pub fn springs(x: i32, z: i32) -> Waiting {
+    (at(x, 64, z), 5, true)
+}
+
 /// The ticks of a run, the chunks and the entries that were taken.
 pub type Counts = (u32, u64, u128);
+
+/// A run of so many flat chunks with 2 workers.
+fn run_flat(
+    rt: &(impl Threads + Wait + Sync),
+    alloc: Global,
+    head: &str,
+    before: Flat<'_>,
+    edits: &str,
+    counts: Counts,
+) -> Result<Outcome, Fail> {
+    let (ticks, chunks, _) = counts;
+    let table = table_with(alloc, head)?;
+    let given = Given {
+        table: table.as_slice(),
+        edits,
+        ticks,
+        workers: 2,
+    };
+    Ok(run_region(rt, alloc, flat_region(alloc, before, chunks)?, given)?)
+}
 
 /// A run of flat chunks with these edits, under a table, is written as those.
 pub fn expect_by(
@@ -134,19 +170,18 @@ pub fn expect_by(
     counts: Counts,
     after: Flat<'_>,
 ) -> Result<(), Fail> {
-    let (ticks, chunks, turns) = counts;
-    let table = table_with(alloc, head)?;
-    let given = Given {
-        table: table.as_slice(),
-        edits,
-        ticks,
-        workers: 2,
-    };
-    let outcome = run_region(rt, alloc, flat_region(alloc, before, chunks)?, given)?;
-    assert_eq!(rt; outcome.chunks, chunks, "chunks after {edits}");
-    assert_eq!(rt; outcome.turns, turns, "turns after {edits}");
-    let want = flat_region(alloc, after, chunks)?;
-    assert!(rt; only_file(outcome)? == want, "the file after {edits}");
+    let (_, chunks, turns) = counts;
+    let outcome = run_flat(rt, alloc, head, before, edits, counts)?;
+    assert_eq!(rt;
+        (outcome.chunks, outcome.turns),
+        (chunks, turns),
+        "after {edits}"
+    );
+    let file = only_file(outcome)?;
+    assert!(rt;
+        file == flat_region(alloc, after, chunks)?,
+        "the file after {edits}"
+    );
     Ok(())
 }
 

@@ -65,48 +65,52 @@ fn an_entry_above_the_height(rt: HostRuntime) -> Result<(), Fail> {
     expect_fault(&rt, alloc, low, bytes, "", "fault 16: BadTick")
 }
 
+/// Where the data of a file's first chunk ends.
+fn end_of_data(file: &[u8]) -> Option<usize> {
+    let length = file.get(8192..8196)?;
+    let mut data = 0;
+    for byte in length {
+        data = data << 8 | usize::from(*byte);
+    }
+    Some(8196 + (data & 0xFF_FFFF))
+}
+
+/// So many bytes of a file.
+fn cut(alloc: Global, file: &[u8], end: usize) -> Result<Vec<u8>, Fail> {
+    let bytes = file.get(..end).ok_or("no data")?;
+    Ok(Vec::from_slice(alloc, bytes)?)
+}
+
 /// A file may be cut in the padding behind its last chunk, and not before.
 #[test]
 fn files_that_are_cut(rt: HostRuntime) -> Result<(), Fail> {
     let alloc = rt.alloc();
     let whole = flat_region(alloc, flat(&[], &[]), 1)?;
-    let length = whole.get(8192..8196).ok_or("no chunk")?;
-    let mut data = 0;
-    for byte in length {
-        data = data << 8 | usize::from(*byte);
-    }
-    let end = 8196 + (data & 0xFF_FFFF);
-    let cut = whole.get(..end).ok_or("no data")?;
-    let file = file_after(&rt, alloc, Vec::from_slice(alloc, cut)?, "", 0)?;
+    let end = end_of_data(&whole).ok_or("no chunk")?;
+    let file = file_after(&rt, alloc, cut(alloc, &whole, end)?, "", 0)?;
     assert!(rt; file == whole);
-    let short = whole.get(..end - 1).ok_or("no data")?;
-    expect_fault(
-        &rt,
-        alloc,
-        "version = 1",
-        Vec::from_slice(alloc, short)?,
-        "",
-        "fault 06: TruncatedChunk",
-    )
+    let short = cut(alloc, &whole, end.saturating_sub(1))?;
+    let line = "fault 06: TruncatedChunk";
+    expect_fault(&rt, alloc, "version = 1", short, "", line)
+}
+
+/// The region of the largest chunk that a file can have, without sections.
+fn largest_chunk(alloc: Global) -> Result<Vec<u8>, Fail> {
+    let mut payload = Vec::new(alloc);
+    push_chunk(&mut payload, ChunkPos { x: 0, z: 0 }, 0)?;
+    push_pad(&mut payload, 1_044_475)?;
+    if payload.len() != 1_044_475 {
+        return Err(Fail::new("another length"));
+    }
+    let mut payloads = Vec::new(alloc);
+    payloads.push(payload)?;
+    Ok(region(alloc, payloads.as_slice())?)
 }
 
 /// The largest chunk that a file can have, without sections: with those that are missing it is too large.
 #[test]
 fn a_chunk_that_grows_too_large(rt: HostRuntime) -> Result<(), Fail> {
-    let alloc = rt.alloc();
-    let mut payload = Vec::new(alloc);
-    push_chunk(&mut payload, ChunkPos { x: 0, z: 0 }, 0)?;
-    push_pad(&mut payload, 1_044_475)?;
-    assert_eq!(rt; payload.len(), 1_044_475);
-    let mut payloads = Vec::new(alloc);
-    payloads.push(payload)?;
-    let bytes = region(alloc, payloads.as_slice())?;
-    expect_fault(
-        &rt,
-        alloc,
-        "version = 1",
-        bytes,
-        "",
-        "fault 24: ChunkTooLarge 0 0",
-    )
+    let bytes = largest_chunk(rt.alloc())?;
+    let line = "fault 24: ChunkTooLarge 0 0";
+    expect_fault(&rt, rt.alloc(), "version = 1", bytes, "", line)
 }

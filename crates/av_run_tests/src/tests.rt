@@ -38,9 +38,8 @@ fn empty_regions(rt: HostRuntime) -> Result<(), Fail> {
     let alloc = rt.alloc();
     let regions = [(1, 0, 8192), (0, 1, 0), (0, -1, 0), (-1, 0, 8192)];
     let outcome = run_zeros(&rt, alloc, regions.as_slice(), b"version = 1", 2)?;
-    assert_eq!(rt; outcome.turns, 0);
-    assert_eq!(rt; outcome.chunks, 0);
-    assert_eq!(rt; outcome.files.len(), 4);
+    let counts = (outcome.turns, outcome.chunks, outcome.files.len());
+    assert_eq!(rt; counts, (0, 0, 4));
     let order = [(0, -1), (-1, 0), (1, 0), (0, 1)];
     for (file, (x, z)) in outcome.files.iter().zip(order.iter()) {
         assert_eq!(rt; file.pos, RegionPos { x: *x, z: *z });
@@ -53,29 +52,39 @@ fn empty_regions(rt: HostRuntime) -> Result<(), Fail> {
 /// The payload of a chunk that is not full.
 const KEPT: &[u8] = b"\x0a\0\0\x01\0\x08sections\x05\x08\0\x06Status\0\x12minecraft:features\0";
 
-/// A chunk that is not full is written byte for byte, and its stamp with those of absent chunks.
-#[test]
-fn a_chunk_that_is_kept(rt: HostRuntime) -> Result<(), Fail> {
-    let alloc = rt.alloc();
-    let table = table_with(alloc, "version = 1")?;
+/// A region of such a chunk.
+fn kept_region(alloc: Global) -> Result<Vec<u8>, Fail> {
     let mut payloads = Vec::new(alloc);
     payloads.push(Vec::from_slice(alloc, KEPT)?)?;
-    let bytes = region(alloc, payloads.as_slice())?;
-    let mut files = Vec::new(alloc);
-    let pos = RegionPos { x: -1, z: 2 };
-    files.push(RegionFile {
-        pos,
-        bytes: bytes.clone()?,
-    })?;
+    Ok(region(alloc, payloads.as_slice())?)
+}
+
+/// A run of three ticks without edits, on one region.
+fn run_three(
+    rt: &(impl Threads + Wait + Sync),
+    alloc: Global,
+    pos: RegionPos,
+    bytes: Vec<u8>,
+) -> Result<Outcome, Fail> {
+    let table = table_with(alloc, "version = 1")?;
     let given = Given {
         table: table.as_slice(),
         edits: "",
         ticks: 3,
         workers: 1,
     };
-    let outcome = run_files(&rt, alloc, files, given)?;
-    assert_eq!(rt; outcome.chunks, 0);
-    assert_eq!(rt; outcome.files.len(), 1);
+    let mut files = Vec::new(alloc);
+    files.push(RegionFile { pos, bytes })?;
+    Ok(run_files(rt, alloc, files, given)?)
+}
+
+/// A chunk that is not full is written byte for byte, and its stamp with those of absent chunks.
+#[test]
+fn a_chunk_that_is_kept(rt: HostRuntime) -> Result<(), Fail> {
+    let pos = RegionPos { x: -1, z: 2 };
+    let bytes = kept_region(rt.alloc())?;
+    let outcome = run_three(&rt, rt.alloc(), pos, bytes.clone()?)?;
+    assert_eq!(rt; (outcome.chunks, outcome.files.len()), (0, 1));
     for file in &outcome.files {
         assert_eq!(rt; file.pos, pos);
         assert!(rt; file.bytes == bytes);

@@ -1,28 +1,15 @@
 //! Water over flat worlds, which have stone at y 63: the files after a run, byte for byte, with entries in the order in
 //! which blocks were woken.
-use crate::given::{Given, at, expect, flat, run_edits, run_region, table_with, wet_at};
+use crate::given::{
+    Given, at, expect, flat, flows, run_edits, run_region, springs, table_with, wet, wet_at,
+};
 use av_image_tests::flat::Block::{Air, Water};
-use av_image_tests::flat::{Block, Waiting, flat_region};
-use av_types::{Pos, Wet};
+use av_image_tests::flat::flat_region;
+use av_types::Wet;
 use std::test::Fail;
 
 /// An edit that sets a source in tick 1.
 const W: &str = "1 8 64 8 minecraft:water[level=0]\n";
-
-/// A block of water at y 64.
-fn wet(x: i32, z: i32, level: u8) -> (Pos, Block) {
-    (at(x, 64, z), Water(level))
-}
-
-/// An entry at y 64 that is due in 5 ticks, of flowing water.
-fn flows(x: i32, z: i32) -> Waiting {
-    (at(x, 64, z), 5, false)
-}
-
-/// The same of a source.
-fn springs(x: i32, z: i32) -> Waiting {
-    (at(x, 64, z), 5, true)
-}
 
 /// A source waits 5 ticks, and then its four sides are wet.
 #[test]
