@@ -2,13 +2,14 @@
 ghost use Rattle.std.specs.Prelude.{◌≡◌, ◌<◌, ◌≤ℤ◌, pos, negsuc};
 ghost use Rattle.av_world_tests.specs.Flat.{IsPlain};
 
+use av_cells::Cells;
 use av_crew::{Gate, run_ticks, tick};
 use av_edits::Edit;
 use av_rules::Kinds;
 use av_serial_tests::runs::{After, all_fit, edits_and_kinds, world_of};
 use av_types::{ChunkPos, Entry, Fault, Pos};
 use av_world::World;
-use av_world_tests::reads::{entries_in, number_at};
+use av_world_tests::reads::entries_in;
 use std::alloc::Global;
 use std::sync::Wait;
 use std::thread::Threads;
@@ -120,7 +121,7 @@ pub fn flat_crew_ran<R: Threads + Wait + Sync, G: Gate + Sync>(
 /// The numbers of the blocks at y 61 to 68 of a chunk, by y, z and x.
 fn numbers_in(world: &World, chunk: ChunkPos, found: &mut Vec<Option<u16>>) -> Result<(), Fault> {
     for index in 0..2048u32 {
-        found.push(number_at(world, block_of(chunk, index)))?;
+        found.push(world.number_at(block_of(chunk, index)))?;
     }
     Ok(())
 }
@@ -139,8 +140,11 @@ fn block_of(chunk: ChunkPos, index: u32) -> Pos
     }
 }
 
+/// The numbers of blocks, and entries.
+pub type Contents = (Vec<Option<u16>>, Vec<Entry>);
+
 /// What stands in a world: the numbers of the blocks at y 61 to 68, and the entries, chunk by chunk.
-pub fn contents(alloc: Global, world: &World) -> Result<(Vec<Option<u16>>, Vec<Entry>), Fault> {
+pub fn contents(alloc: Global, world: &World) -> Result<Contents, Fault> {
     let mut numbers = Vec::new(alloc);
     let mut entries = Vec::new(alloc);
     for chunk in world.positions() {

@@ -1,7 +1,7 @@
 //! Drawn worlds by the crew, with each number of workers, against the ticks of one thread.
 ghost use Rattle.std.specs.Prelude.{◌<◌};
 
-use crate::crews::{contents, crew_ran};
+use crate::crews::{Contents, contents, crew_ran};
 use av_crew::NoGate;
 use av_edits::Edit;
 use av_rules::Kinds;
@@ -68,6 +68,23 @@ fn drawn_edits(alloc: Global, draw: &mut Draw) -> Result<Vec<Edit>, AllocError> 
     Ok(edits)
 }
 
+/// Twelve ticks with these edits give this count, these blocks and these entries by so many workers.
+fn expect_crew<R: Threads + Wait + Sync + Abort>(
+    rt: &R,
+    alloc: Global,
+    kinds: &Kinds,
+    edits: &[Edit],
+    workers: u32,
+    count: u128,
+    want: &Contents,
+) -> Result<(), Fault> {
+    let flat = world_of(alloc, &CHUNKS, &[], &[])?;
+    let after = crew_ran(rt, alloc, flat, kinds, edits, 12, workers, &NoGate)?;
+    assert_eq!(rt; after.count, count);
+    assert!(rt; contents(alloc, &after.world)? == *want);
+    Ok(())
+}
+
 /// Twelve ticks with these edits give the same count, blocks and entries by each number of workers as on one thread.
 fn expect_same<R: Threads + Wait + Sync + Abort>(
     rt: &R,
@@ -77,14 +94,9 @@ fn expect_same<R: Threads + Wait + Sync + Abort>(
 ) -> Result<(), Fault> {
     let flat = world_of(alloc, &CHUNKS, &[], &[])?;
     let serial = run_edits(alloc, flat, kinds, edits, 12)?;
-    let (numbers, entries) = contents(alloc, &serial.world)?;
+    let want = contents(alloc, &serial.world)?;
     for workers in 1..9 {
-        let flat = world_of(alloc, &CHUNKS, &[], &[])?;
-        let after = crew_ran(rt, alloc, flat, kinds, edits, 12, workers, &NoGate)?;
-        assert_eq!(rt; after.count, serial.count);
-        let (others, waiting) = contents(alloc, &after.world)?;
-        assert_eq!(rt; others.as_slice(), numbers.as_slice());
-        assert_eq!(rt; waiting.as_slice(), entries.as_slice());
+        expect_crew(rt, alloc, kinds, edits, workers, serial.count, &want)?;
     }
     Ok(())
 }

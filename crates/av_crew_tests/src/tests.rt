@@ -1,13 +1,20 @@
 //! Ticks on several workers by hand, on chunks with stone at y 63 and air elsewhere.
-use crate::crews::{broken_refusals, contents, crew_ran, crew_run, crew_tick, flat_crew_ran};
+use crate::crews::{
+    Contents, broken_refusals, contents, crew_ran, crew_run, crew_tick, flat_crew_ran,
+};
+use av_cells::Cells;
 use av_crew::NoGate;
+use av_edits::Edit;
+use av_rules::Kinds;
 use av_serial_tests::runs::{edits_and_kinds, flat_ran, world_of};
 use av_types::{ChunkPos, Entry, Fault, Pos};
 use av_world::World;
-use av_world_tests::reads::{entries_in, number_at};
+use av_world_tests::reads::entries_in;
 use std::alloc::Global;
 use std::process::Abort;
+use std::sync::Wait;
 use std::test::Fail;
+use std::thread::Threads;
 
 /// Four chunks in a row.
 const ROW: [ChunkPos; 4] = [
@@ -62,8 +69,22 @@ fn expect_spread(
             priority: 0,
         };
         assert_eq!(rt; *entry, want);
-        assert_eq!(rt; number_at(world, pos), Some(*number));
+        assert_eq!(rt; world.number_at(pos), Some(*number));
     }
+    Ok(())
+}
+
+/// The sources of four chunks in a row spread, and all that stands there is this.
+fn expect_four(
+    rt: &impl Abort,
+    alloc: Global,
+    world: &World,
+    want: &Contents,
+) -> Result<(), Fault> {
+    for (chunk, middle) in ROW.iter().zip(&[8, 24, 40, 56]) {
+        expect_spread(rt, alloc, world, *chunk, *middle)?;
+    }
+    assert!(rt; contents(alloc, world)? == *want);
     Ok(())
 }
 
@@ -75,22 +96,45 @@ fn four_sources_spread(rt: HostRuntime) -> Result<(), Fail> {
     for workers in [1, 2, 3, 8] {
         let after = flat_crew_ran(&rt, alloc, &ROW, FOUR, 6, workers, &NoGate)?;
         assert_eq!(rt; after.count, 4);
-        for (chunk, middle) in ROW.iter().zip(&[8, 24, 40, 56]) {
-            expect_spread(&rt, alloc, &after.world, *chunk, *middle)?;
-        }
-        let (numbers, entries) = contents(alloc, &after.world)?;
-        assert_eq!(rt; numbers.as_slice(), serial.0.as_slice());
-        assert_eq!(rt; entries.as_slice(), serial.1.as_slice());
+        expect_four(&rt, alloc, &after.world, &serial)?;
     }
     Ok(())
 }
 
 /// A source at (8, 64, 8) in tick 1 was not set, and the one entry that waits is still there.
 fn expect_untouched(rt: &impl Abort, alloc: Global, world: &World) -> Result<(), Fault> {
-    assert_eq!(rt; number_at(world, WAITING.pos), Some(0));
+    assert_eq!(rt; world.number_at(WAITING.pos), Some(0));
     let list = entries_in(alloc, world, ROW[0])?;
     assert_eq!(rt; list.as_slice(), [WAITING].as_slice());
     Ok(())
+}
+
+/// With so many workers a tick is refused, and nothing is done.
+fn expect_no_tick<R: Threads + Wait + Sync + Abort>(
+    rt: &R,
+    alloc: Global,
+    kinds: &Kinds,
+    edits: &[Edit],
+    workers: u32,
+) -> Result<(), Fault> {
+    let mut world = world_of(alloc, &ROW, &[], &[WAITING])?;
+    let fault = crew_tick(rt, &mut world, kinds, edits, workers, &NoGate).err();
+    assert!(rt; fault == Some(Fault::BadCount));
+    expect_untouched(rt, alloc, &world)
+}
+
+/// With so many workers a run is refused, and nothing is done.
+fn expect_no_run<R: Threads + Wait + Sync + Abort>(
+    rt: &R,
+    alloc: Global,
+    kinds: &Kinds,
+    edits: &[Edit],
+    workers: u32,
+) -> Result<(), Fault> {
+    let mut world = world_of(alloc, &ROW, &[], &[WAITING])?;
+    let fault = crew_run(rt, alloc, &mut world, kinds, edits, 6, workers, &NoGate).err();
+    assert!(rt; fault == Some(Fault::BadCount));
+    expect_untouched(rt, alloc, &world)
 }
 
 /// With other numbers of workers than 1 to 8 nothing is done.
@@ -99,17 +143,26 @@ fn other_numbers_of_workers_are_refused(rt: HostRuntime) -> Result<(), Fail> {
     let alloc = rt.alloc();
     let flat = world_of(alloc, &ROW, &[], &[])?;
     let (edits, kinds) = edits_and_kinds(alloc, 1, &flat, W, 1)?;
-    let edits = edits.as_slice();
     for workers in [0, 9, 4294967295] {
-        let mut world = world_of(alloc, &ROW, &[], &[WAITING])?;
-        let fault = crew_tick(&rt, &mut world, &kinds, edits, workers, &NoGate).err();
-        assert!(rt; fault == Some(Fault::BadCount));
-        expect_untouched(&rt, alloc, &world)?;
-        let mut world = world_of(alloc, &ROW, &[], &[WAITING])?;
-        let fault = crew_run(&rt, alloc, &mut world, &kinds, edits, 6, workers, &NoGate).err();
-        assert!(rt; fault == Some(Fault::BadCount));
-        expect_untouched(&rt, alloc, &world)?;
+        expect_no_tick(&rt, alloc, &kinds, &edits, workers)?;
+        expect_no_run(&rt, alloc, &kinds, &edits, workers)?;
     }
+    Ok(())
+}
+
+/// A broken world's tick and run are refused for this fault by so many workers.
+fn expect_refused<R: Threads + Wait + Sync + Abort>(
+    rt: &R,
+    alloc: Global,
+    world: &mut World,
+    kinds: &Kinds,
+    edits: &[Edit],
+    workers: u32,
+    fault: &Fault,
+) -> Result<(), Fault> {
+    let (ticked, ran) = broken_refusals(rt, alloc, world, kinds, edits, workers, &NoGate)?;
+    assert!(rt; ticked.as_ref() == Some(fault));
+    assert!(rt; ran.as_ref() == Some(fault));
     Ok(())
 }
 
@@ -120,20 +173,27 @@ fn a_broken_world_refuses(rt: HostRuntime) -> Result<(), Fail> {
     let mut world = world_of(alloc, &ROW, &[], &[WAITING])?;
     let (edits, kinds) = edits_and_kinds(alloc, 1, &world, W, 1)?;
     world.give_up();
-    let edits = edits.as_slice();
     for workers in [1, 4, 8] {
-        let (ticked, ran) = broken_refusals(
-            &rt, alloc, &mut world, &kinds, edits, workers, &NoGate,
+        expect_refused(
+            &rt,
+            alloc,
+            &mut world,
+            &kinds,
+            &edits,
+            workers,
+            &Fault::Broken,
         )?;
-        assert!(rt; ticked == Some(Fault::Broken));
-        assert!(rt; ran == Some(Fault::Broken));
     }
     for workers in [0, 9] {
-        let (ticked, ran) = broken_refusals(
-            &rt, alloc, &mut world, &kinds, edits, workers, &NoGate,
+        expect_refused(
+            &rt,
+            alloc,
+            &mut world,
+            &kinds,
+            &edits,
+            workers,
+            &Fault::BadCount,
         )?;
-        assert!(rt; ticked == Some(Fault::BadCount));
-        assert!(rt; ran == Some(Fault::BadCount));
     }
     expect_untouched(&rt, alloc, &world)?;
     Ok(())
@@ -142,18 +202,23 @@ fn a_broken_world_refuses(rt: HostRuntime) -> Result<(), Fail> {
 /// Ticks without parts start no thread, and a million of them are soon over.
 #[test]
 fn idle_ticks_are_soon_over(rt: HostRuntime) -> Result<(), Fail> {
-    let alloc = rt.alloc();
-    let after = flat_crew_ran(&rt, alloc, &ROW, "", 1000000, 8, &NoGate)?;
+    let after = flat_crew_ran(&rt, rt.alloc(), &ROW, "", 1000000, 8, &NoGate)?;
     assert_eq!(rt; after.count, 0);
+    Ok(())
+}
+
+/// The same with an entry in the last of them.
+#[test]
+fn idle_ticks_come_before_the_last(rt: HostRuntime) -> Result<(), Fail> {
+    let alloc = rt.alloc();
     let entry = Entry {
         pos: Pos { x: 8, y: 64, z: 8 },
         due: 1000000,
         priority: 0,
     };
     let world = world_of(alloc, &ROW, &[], &[entry])?;
-    let (edits, kinds) = edits_and_kinds(alloc, 1, &world, "", 0)?;
-    let edits = edits.as_slice();
-    let after = crew_ran(&rt, alloc, world, &kinds, edits, 1000000, 8, &NoGate)?;
+    let (_, kinds) = edits_and_kinds(alloc, 1, &world, "", 0)?;
+    let after = crew_ran(&rt, alloc, world, &kinds, &[], 1000000, 8, &NoGate)?;
     assert_eq!(rt; after.count, 1);
     Ok(())
 }
