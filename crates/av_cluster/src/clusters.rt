@@ -40,7 +40,7 @@ fn key(section: SectionPos) -> (i32, i32, i32)
 fn is_high(height: Height, section: SectionPos) -> bool
     ensures { result ≡ is_section_of height section.y }
 {
-    height.min_section <= section.y && section.y < height.min_section + height.sections as i32
+    height.has_section(section.y)
 }
 
 /// Notes that the entry at a place touches the section of a block of its reach, where that is loaded. One out of the

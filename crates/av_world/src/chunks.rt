@@ -23,7 +23,7 @@ use std::mem;
 pub(crate) fn is_high(height: Height, at: SectionPos) -> bool
     ensures { result ≡ is_section_of height at.y }
 {
-    height.min_section <= at.y && at.y < height.min_section + height.sections as i32
+    height.has_section(at.y)
 }
 
 /// Where a section stands among those of its chunk.
