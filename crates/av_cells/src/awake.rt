@@ -49,9 +49,12 @@ fn wake<C: Cells, const N: usize>(
     ensures room { (q : Pos) → C.room cells.old q ≤ C.room cells.new q + 1 }
     ensures prepared { (q : Pos) (n : ℕ) → C.can_set cells.old q n → C.can_set cells.new q n }
 {
-    if kind_at(cells, kinds, pos).wet.is_wet() && !cells.pending(pos) {
-        let entry = entry_of(pos, now);
-        cells.add(entry);
+    if !kind_at(cells, kinds, pos).wet.is_wet() {
+        return;
+    }
+    let entry = entry_of(pos, now);
+    let is_new = cells.add(entry);
+    if is_new {
         made.push(entry);
     }
 }
