@@ -14,7 +14,7 @@ if_some : (b : Bool) (xs ys : List ℕ) → indices_if b xs ≡ Some ys → (b �
 if_some true xs ys h = (refl, cc)
 if_some false xs ys h = cc
 
-below_at : (count : ℕ) (xs : List ℕ) → are_below count xs ≡ true → All (λ x. x < count) xs
+pub below_at : (count : ℕ) (xs : List ℕ) → are_below count xs ≡ true → All (λ x. x < count) xs
 below_at count [] h k d low = absurd (omega arith)
 below_at count (x ∷ xs) h zero d low = ltb-true x count (and_parts (nat_lt x count) (are_below count xs) h).0
 below_at count (x ∷ xs) h (suc k) d low = below_at count xs (and_parts (nat_lt x count) (are_below count xs) h).1 k d (omega arith)

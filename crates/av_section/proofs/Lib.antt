@@ -7,6 +7,7 @@ pub mod Once
 pub mod FirstPlaces
 pub mod PackedLemmas
 pub mod PlaceBits
+pub mod Ready
 pub mod Refusals
 pub mod Written
 pub mod WrittenStates

@@ -1,5 +1,6 @@
 -- A palette of numbers, and the indices of 4,096 places into it, packed into longs.
-use Rattle.std.specs.Prelude.{◌≡◌, ◌≢◌, ℕ, ◌<◌, ◌≤◌, ◌^◌, List, [], ℤ, length, All, AllPairs, slice_index}
+use Rattle.std.specs.Prelude.{◌≡◌, ◌≢◌, ℕ, ◌<◌, ◌≤◌, ◌^◌, List, [], ℤ, length, All, AllPairs, IsTrue, nat_eq, slice_index}
+use Rattle.std.specs.List.{list_any}
 use Rattle.av_pack.specs.Packing.{bits_for, longs_for, packed_at}
 
 -- No number is in the palette twice, the indices have the bits that its length asks for, and each is below its length.
@@ -15,6 +16,10 @@ pub record IsPackedSection (palette : List ℕ) (longs : List ℤ) (bits : ℕ) 
   pub count : longs ≢ [] → length longs ≡ longs_for bits
   pub one : longs ≡ [] → length palette ≡ 1
   pub below : (i : ℕ) → i < 4096 → packed_at bits longs i < length palette
+
+-- each number below a limit is in the palette
+abbrev pub HasAllBelow : List ℕ → ℕ → Type 0
+HasAllBelow palette limit = (number : ℕ) → number < limit → IsTrue (list_any (nat_eq number) palette)
 
 -- the number at a place
 abbrev pub number_in : List ℕ → List ℤ → ℕ → ℕ → ℕ

@@ -7,6 +7,7 @@ ghost use Rattle.av_nbt.specs.View.{view};
 ghost use Rattle.av_section.specs.BlockStates.{data_of, packed_indices, are_below};
 ghost use Rattle.av_section.specs.Distinct.{AreDistinct, ArePlaces};
 ghost use Rattle.av_section.specs.Judged.{AreNoIndices};
+ghost use Rattle.av_section.specs.Packed.{HasAllBelow};
 
 use av_nbt::Tag;
 use av_pack::{bits_for, unpack};
@@ -28,7 +29,7 @@ pub(crate) fn data_longs<'a>(tag: Option<&'a Tag>) -> Option<&'a [i64]>
 }
 
 /// Whether each index is below a number.
-fn are_below(indices: &[u16], count: usize) -> bool
+pub(crate) fn are_below(indices: &[u16], count: usize) -> bool
     ensures { result ≡ are_below count indices.now }
 {
     indices.iter().all(|index| usize::from(*index) < count)
@@ -113,24 +114,17 @@ fn marks_of(palette: &[u16]) -> [bool; 16]
     marks
 }
 
-/// Whether a number is marked.
-fn is_marked(marks: &[bool; 16], number: u16) -> bool
-    ensures { result ≡ true → slice_index_or marks.now number false ≡ true }
-{
-    number < 16 && marks[usize::from(number)]
-}
-
-/// Whether numbers below 16 are in a palette, which is gone through once. Of others it says no.
-pub(crate) fn has_marked(palette: &[u16], numbers: &[u16]) -> bool
-    ensures { result ≡ true → All (Contains palette.now) numbers.now }
+/// A number, at most 16, below which each is in a palette: the first one that is not.
+pub(crate) fn first_missing(palette: &[u16]) -> u16
+    ensures { HasAllBelow palette.now result }
 {
     let marks = marks_of(palette);
-    for number in numbers {
-        if !is_marked(&marks, *number) {
-            return false;
+    for number in 0..16 {
+        if !marks[number] {
+            return number as u16;
         }
     }
-    true
+    16
 }
 
 /// Where each number stands in a palette that has it.

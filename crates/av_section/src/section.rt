@@ -2,11 +2,11 @@
 ghost use Rattle.std.specs.Prelude.{◌≡◌, ◌≢◌, ◌<◌, ◌≤◌, ◌^◌, ◌+◌, ◌↔◌, ◌++◌, [], ◌∷◌, ℕ, IsTrue, IfOk, IfErr, is_ok, if◌then◌else◌, length, slice_index, Contains};
 ghost use Rattle.av_types.specs.declared.fault.Fault.TheVariants.{OutOfMemory};
 ghost use Rattle.av_pack.specs.Packing.{bits_for, longs_for, packed_at};
-ghost use Rattle.av_section.specs.Packed.{IsPackedSection, IsRepacked};
+ghost use Rattle.av_section.specs.Packed.{HasAllBelow, IsPackedSection, IsRepacked};
 ghost use Rattle.std.proofs.Props.{props};
 
 use crate::indices::{
-    data_longs, distinct, has_marked, index_of, longs_indices, mapped, places_in,
+    are_below, data_longs, distinct, first_missing, index_of, longs_indices, mapped, places_in,
 };
 use crate::numbering::number_states;
 use crate::order::written_order;
@@ -29,7 +29,11 @@ pub struct Section {
     longs: Vec<i64>,
     bits: u32,
     pending: PlaceSet,
+
+    /// Each number below it is in the palette.
+    ready: u16,
     pub ghost packed: { IsPackedSection palette.items longs.items bits } by { Prim.hlevel props },
+    pub ghost known: { HasAllBelow palette.items ready } by { Prim.hlevel props },
 }
 
 /// Whether a number is in the palette.
@@ -158,6 +162,7 @@ impl Section {
             longs: Vec::from_slice(alloc, longs)?,
             bits: bits_for(numbers.len()),
             pending: PlaceSet::new(),
+            ready: 0,
         })
     }
 
@@ -184,6 +189,7 @@ impl Section {
             longs,
             bits,
             pending: PlaceSet::new(),
+            ready: 0,
         })
     }
 
@@ -238,6 +244,7 @@ impl Section {
             longs: Vec::new(alloc),
             bits: 4,
             pending: PlaceSet::new(),
+            ready: 0,
         })
     }
 
@@ -263,10 +270,12 @@ impl Section {
         // Numbers that can be set already take no memory.
         ensures succeeds { All (CanSet self.old) numbers.now → IsOk result }
     {
-        if has_marked(self.palette.as_slice(), numbers) {
+        if are_below(numbers, usize::from(self.ready)) {
             return Ok(());
         }
-        self.prepare_each(numbers)
+        self.prepare_each(numbers)?;
+        self.ready = first_missing(self.palette.as_slice());
+        Ok(())
     }
 
     /// Makes room for numbers, one after the other.

@@ -3,12 +3,16 @@ use Rattle.std.proofs.Common.{[], ◌∷◌, ◌++◌, ◌∙◌, ap, refl, arit
 use Rattle.std.proofs.lemmas.Bool.{lt-ltb}
 use Rattle.av_pack.proofs.Laws.{packed_at-zeros}
 use Rattle.av_section.proofs.PackedLemmas.{packed_one}
+use Rattle.av_section.proofs.Ready.{none_below}
 use Rattle.av_section.proofs.section.Section.filled.Goals as goal
 
-pub invariant_of-result : goal.invariant_of-result
-invariant_of-result c =
+pub invariant_of-result-clause-packed : goal.invariant_of-result-clause-packed
+invariant_of-result-clause-packed c =
     let palette = c.in_ok-push.ensures.items ∙ ap (λ l. l ++ c.args.number ∷ []) c.new-palette.ensures.items in
-    rw (palette, c.new.ensures.items) (record { packed = packed_one c.args.number c.ranges.number.fits })
+    rw (palette, c.new.ensures.items) (packed_one c.args.number c.ranges.number.fits)
+
+pub invariant_of-result-clause-known : goal.invariant_of-result-clause-known
+invariant_of-result-clause-known c = none_below _
 
 pub returns-clause-ok : goal.returns-clause-ok
 returns-clause-ok c =

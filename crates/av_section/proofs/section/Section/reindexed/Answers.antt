@@ -5,6 +5,7 @@ use Rattle.std.proofs.lemmas.List.Elements.{All-weaker}
 use Rattle.std.proofs.lemmas.Bool.{lt-ltb}
 use Rattle.av_pack.specs.Packing.{bits_for}
 use Rattle.av_section.proofs.FromLongs.{placed_below, packed_places, number_placed}
+use Rattle.av_section.proofs.Ready.{none_below}
 use Rattle.av_section.proofs.section.Section.reindexed.Goals as goal
 
 pub places_in-requires-clause-there : goal.places_in-requires-clause-there
@@ -19,14 +20,17 @@ pack-requires-clause-fit c =
     let fit : length palette ≤ 2 ^ c.bits_for-bits.result = omega (arith, c.len.ensures, c.bits_for-bits.ensures.enough) in
     rw values (All-weaker (λ v. v < length palette) (λ v. v < 2 ^ c.bits_for-bits.result) (λ v h. omega (arith, fit, h)) (map (λ i. get_or places i 0) c.args.indices.now) (placed_below palette c.args.numbers.now places c.args.indices.now p c.requires.below))
 
-pub invariant_of-result : goal.invariant_of-result
-invariant_of-result c =
+pub invariant_of-result-clause-packed : goal.invariant_of-result-clause-packed
+invariant_of-result-clause-packed c =
     let p = rw c.as_slice.ensures.value at c.in_ok-places.ensures in
     let values = c.as_slice-3.ensures.value ∙ c.in_ok-indices.ensures ∙ ap (λ l. map (slice_index l) c.args.indices.now) c.as_slice-2.ensures.value in
     let meaning = rw values at c.in_ok-longs.ensures.meaning in
     let long : c.len.result ≡ length c.args.palette.items = omega (arith, c.len.ensures) in
     let needed = c.bits_for-bits.ensures.value ∙ ap bits_for long in
-    record { packed = packed_places c.args.numbers.now c.args.palette.items c.in_ok-places.places.items c.args.indices.now c.in_ok-longs.longs.items c.bits_for-bits.result c.requires.palette c.requires.few needed p c.requires.count c.requires.below meaning }
+    packed_places c.args.numbers.now c.args.palette.items c.in_ok-places.places.items c.args.indices.now c.in_ok-longs.longs.items c.bits_for-bits.result c.requires.palette c.requires.few needed p c.requires.count c.requires.below meaning
+
+pub invariant_of-result-clause-known : goal.invariant_of-result-clause-known
+invariant_of-result-clause-known c = none_below c.args.palette.items
 
 pub returns-clause-ok : goal.returns-clause-ok
 returns-clause-ok c =
