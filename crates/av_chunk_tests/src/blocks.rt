@@ -342,3 +342,17 @@ fn states_can_be_too_many(rt: HostRuntime) -> Result<(), Fail> {
     }
     Ok(())
 }
+
+/// A bad tick comes before one state too many.
+#[test]
+fn a_bad_tick_comes_before_too_many_states(rt: HostRuntime) -> Result<(), Fail> {
+    let alloc = rt.alloc();
+    let mut payload = crowded(alloc, 4085, STONE)?;
+    // in the place of the root's end
+    payload.truncate(payload.len().saturating_sub(1));
+    payload.extend_from_slice(TICK_OF_NOTHING)?;
+    payload.push(0)?;
+    let file = region_of(alloc, &payload)?;
+    assert_eq!(rt; found(alloc, &file, -1, 64).err(), Some(Fault::BadTick));
+    Ok(())
+}

@@ -288,6 +288,25 @@ fn a_set_wakes_what_does_not_wait(rt: HostRuntime) -> Result<(), Fail> {
     Ok(())
 }
 
+/// Of two entries the one that was added first is taken out. Its block waits no longer, and a block of no column never.
+#[test]
+fn entries_are_taken_in_order(rt: HostRuntime) -> Result<(), Fail> {
+    let kinds = kinds(rt.alloc(), &rt)?;
+    let mut column = flat(rt.alloc())?;
+    put(&mut column, at(8, 65, 8), SOURCE);
+    set_in(&rt, &mut column, &kinds, at(8, 64, 8), SOURCE)?;
+    let taken = column.take_first().ok_or("no entry")?;
+    assert_eq!(rt; taken.pos, at(8, 64, 8));
+    let waits = (
+        column.pending(at(8, 64, 8)),
+        column.pending(at(8, 65, 8)),
+        column.pending(at(16, 64, 8)),
+    );
+    assert_eq!(rt; waits, (false, true, false));
+    assert_eq!(rt; number_at(&column, at(8, 64, 8)), Some(SOURCE));
+    Ok(())
+}
+
 /// Whether a loaded block has a hole.
 #[tactic(auto, using(crate::proofs::Slots::there_is_inner))]
 fn drops_at(rt: &impl Abort, column: &Column, kinds: &Kinds, pos: Pos) -> bool {

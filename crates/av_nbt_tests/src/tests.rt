@@ -88,10 +88,11 @@ fn documents_are_read_and_written(rt: HostRuntime) -> Result<(), Fail> {
 
 #[test]
 fn other_bytes_are_refused(rt: HostRuntime) -> Result<(), Fail> {
-    let cases: [&[u8]; 14] = [
+    let cases: [&[u8]; 16] = [
         &[],
-        // a root of another kind, and one without an end
+        // roots of another kind, and one without an end
         &[9, 0, 0, 0, 0, 0, 0, 0],
+        &[9, 0, 0, 0],
         &[10, 0, 0, 9, 0, 1, 97, 0, 255, 255, 255, 255],
         // arrays longer than the bytes, and of a negative length
         &[10, 0, 0, 12, 0, 1, 97, 127, 255, 255, 255, 0],
@@ -101,8 +102,9 @@ fn other_bytes_are_refused(rt: HostRuntime) -> Result<(), Fail> {
         // a List of one tag of no kind, and of a kind that there is not
         &[10, 0, 0, 9, 0, 1, 97, 0, 0, 0, 0, 1, 0],
         &[10, 0, 0, 9, 0, 1, 97, 13, 0, 0, 0, 0, 0],
-        // a name twice
+        // a name twice, also with another one between
         &[10, 0, 0, 1, 0, 1, 97, 0, 1, 0, 1, 97, 0, 0],
+        &[10, 0, 0, 1, 0, 1, 97, 0, 1, 0, 1, 98, 0, 1, 0, 1, 97, 0, 0],
         // a name twice in a Compound of the root
         &[10, 0, 0, 10, 0, 0, 1, 0, 1, 97, 0, 1, 0, 1, 97, 0, 0, 0],
         // bytes after the root
@@ -130,6 +132,16 @@ fn beginnings_are_refused(rt: HostRuntime) -> Result<(), Fail> {
             "at {end}"
         );
     }
+    Ok(())
+}
+
+/// A text's length has no sign.
+#[test]
+fn a_text_of_65535_bytes(rt: HostRuntime) -> Result<(), Fail> {
+    let mut bytes = Vec::from_slice(rt.alloc(), &[10, 0, 0, 8, 0, 0, 255, 255])?;
+    bytes.resize(65543, b'a')?;
+    bytes.push(0)?;
+    assert!(rt; rewritten(rt.alloc(), &bytes)? == bytes);
     Ok(())
 }
 
@@ -321,5 +333,22 @@ fn values_by_kind(rt: HostRuntime) -> Result<(), Fail> {
     assert_eq!(rt; copy_tags(alloc, &root.tags)?, root.tags);
     spelling_is_unique();
     written_is_spelling();
+    Ok(())
+}
+
+/// A value is read of a tag of its own kind alone: of an Int and not of a Byte or a Short, of a Long Array and not of an
+/// Int Array.
+#[test]
+fn values_of_other_kinds(rt: HostRuntime) -> Result<(), Fail> {
+    let root = decode(rt.alloc(), &ALL_KINDS)?;
+    for named in &root.tags {
+        let (name, tag) = (named.name(), named.tag());
+        assert_eq!(rt; tag.as_byte().is_some(), name == b"a".as_slice());
+        assert_eq!(rt; tag.as_int().is_some(), name == b"c".as_slice());
+        assert_eq!(rt; tag.as_text().is_some(), name == b"h".as_slice());
+        assert_eq!(rt; tag.as_items().is_some(), name == b"i".as_slice());
+        assert_eq!(rt; tag.as_members().is_some(), name == b"j".as_slice());
+        assert_eq!(rt; tag.as_longs().is_some(), name == b"l".as_slice());
+    }
     Ok(())
 }

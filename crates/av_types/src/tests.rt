@@ -14,6 +14,8 @@ fn conversions_round_down(rt: HostRuntime) {
     assert_eq!(rt; pos.section().chunk(), ChunkPos { x: -1, z: 1 });
     // x 15, y 0, z 15 in the section
     assert_eq!(rt; pos.place().index, 255);
+    // A place counts x within z, and z within y: 256 * 2 + 16 * 3 + 1.
+    assert_eq!(rt; Pos { x: 1, y: 2, z: 3 }.place().index, 561);
     let chunk = ChunkPos { x: -1, z: -33 };
     assert_eq!(rt; chunk.region(), RegionPos { x: -1, z: -2 });
     assert_eq!(rt; chunk.index(), 31 + 32 * 31);
