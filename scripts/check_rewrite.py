@@ -6,7 +6,7 @@
 `PROGRAM rewrite IN OUT` reads every chunk and writes it back, dark, with no tick run and with no block table, so
 that nothing is soaked. Each chunk of the sample is decoded here and put into the form in which it is to be written;
 what the program wrote, decoded, has to be that. Then the program's file, read and written again, has to stay the
-same byte for byte. The reader is this script's own: it shares nothing with the program or with make_samples.py.
+same byte for byte. `PROGRAM recode IN OUT` has to leave the tags of each chunk and each timestamp as they are. The reader is this script's own: it shares nothing with the program or with make_samples.py.
 """
 import os
 import struct
@@ -202,6 +202,18 @@ def check(program, once, twice):
     with open(once, "rb") as first, open(twice, "rb") as second:
         if first.read() != second.read():
             yield "read and written again, the written region is another"
+    yield from recoded_differences(program, once)
+
+
+def recoded_differences(program, path):
+    """Lines that say what a region loses when its chunks are decoded and encoded again."""
+    subprocess.run([program, "recode", SAMPLE, path], check=True, stdout=subprocess.DEVNULL)
+    (payloads, stamps), (recoded, recoded_stamps) = region(SAMPLE), region(path)
+    if stamps != recoded_stamps:
+        yield "recoded: other timestamps"
+    for index, (one, other) in enumerate(zip(payloads, recoded)):
+        if (one and document(one)) != (other and document(other)):
+            yield "recoded chunk %d: not the same tags" % index
 
 
 def main():

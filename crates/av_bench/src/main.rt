@@ -3,13 +3,12 @@
 
 mod decoding;
 mod flowing;
-mod recoding;
-mod rewriting;
 mod running;
 mod tally;
 mod ticking;
 
 use anyhow::{Result, bail};
+use av_rewrite::{recode, rewrite};
 use av_types::Height;
 use std::alloc::{AllocError, Global};
 use std::rt::{Clock, Env, Files};
@@ -31,14 +30,14 @@ fn run<R: Clock + Env + Files + AllocGlobal + Threads + Wait + Sync>(
         }
         ["recode", input, output] => {
             let bytes = fs::read(rt, *input)?;
-            let written = recoding::recode(alloc, bytes.as_slice())?;
+            let written = recode(alloc, bytes.as_slice())?;
             fs::write(rt, *output, written.as_slice())?;
             let size = written.len();
             Ok(format!(in alloc; "bytes {size}")?)
         }
         ["rewrite", input, output] => {
             let bytes = fs::read(rt, *input)?;
-            let written = rewriting::rewrite(alloc, bytes.as_slice(), Height::game())?;
+            let written = rewrite(alloc, bytes.as_slice(), Height::game())?;
             fs::write(rt, *output, written.as_slice())?;
             let size = written.len();
             Ok(format!(in alloc; "bytes {size}")?)

@@ -1,5 +1,0 @@
-use Rattle.av_bench.specs.Regions.{AreStamps}
-use Rattle.av_bench.proofs.recoding.stamps_of.Given as goal
-
-abbrev pub invariant-loop-index : goal.invariant-loop-index
-invariant-loop-index l = AreStamps l.region.bytes.now l.index l.stamps.items
