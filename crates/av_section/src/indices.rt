@@ -1,16 +1,17 @@
 //! The indices of a section's places into its palette.
-ghost use Rattle.std.specs.Prelude.{◌≡◌, ◌<◌, ◌≤◌, ◌+◌, ◌⊎◌, ℕ, nat_eq, Some, true, false, map, option_map, length, slice_index, slice_index_or, All, Contains, IfOk, IfErr, OnOk};
+ghost use Rattle.std.specs.Prelude.{◌≡◌, ◌<◌, ◌≤◌, ◌^◌, ◌+◌, ◌⊎◌, ℕ, nat_eq, Some, true, false, map, option_map, length, slice_index, slice_index_or, All, Contains, IfOk, IfErr, OnOk};
 ghost use Rattle.indexmap.specs.IndexSet.{insert_key};
 ghost use Rattle.std.specs.Option.{option_copied};
 ghost use Rattle.av_types.specs.declared.fault.Fault.TheVariants.{OutOfMemory};
 ghost use Rattle.av_nbt.specs.View.{view};
+ghost use Rattle.av_pack.specs.Packing.{longs_for, packed_at};
 ghost use Rattle.av_section.specs.BlockStates.{data_of, packed_indices, are_below};
 ghost use Rattle.av_section.specs.Distinct.{AreDistinct, ArePlaces};
 ghost use Rattle.av_section.specs.Judged.{AreNoIndices};
-ghost use Rattle.av_section.specs.Packed.{HasAllBelow};
+ghost use Rattle.av_section.specs.Packed.{HasAllBelow, IsRepacked};
 
 use av_nbt::Tag;
-use av_pack::{bits_for, unpack};
+use av_pack::{bits_for, pack, unpack};
 use av_types::Fault;
 use indexmap::IndexSet;
 use std::alloc::{AllocError, Global};
@@ -47,6 +48,27 @@ pub(crate) fn longs_indices(alloc: Global, longs: &[i64], count: usize) -> Resul
         return Err(Fault::BadPacked);
     }
     Ok(indices)
+}
+
+/// The same indices with `wider` bits each.
+pub(crate) fn repacked(
+    alloc: Global,
+    longs: &[i64],
+    bits: u32,
+    wider: u32,
+) -> Result<Vec<i64>, Fault>
+    requires low { 4 ≤ bits }
+    requires high { bits ≤ 16 }
+    requires wider_low { 4 ≤ wider }
+    requires wider_high { wider ≤ 16 }
+    requires count { length longs.now ≡ longs_for bits }
+    requires fit { (i : ℕ) → i < 4096 → packed_at bits longs.now i < 2 ^ wider }
+    ensures ok { IfOk result (λ new. IsRepacked bits longs.now wider new.items) }
+    ensures err { IfErr result (λ e. e ≡ OutOfMemory) }
+{
+    let indices = unpack(alloc, longs, bits)?;
+    let longs = pack(alloc, indices.as_slice(), wider)?;
+    Ok(longs)
 }
 
 /// Puts a number at the end, where it is not there yet.

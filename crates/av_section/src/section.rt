@@ -1,12 +1,13 @@
 //! A section in memory: numbers of block states by place.
 ghost use Rattle.std.specs.Prelude.{◌≡◌, ◌≢◌, ◌<◌, ◌≤◌, ◌^◌, ◌+◌, ◌↔◌, ◌++◌, [], ◌∷◌, ℕ, IsTrue, IfOk, IfErr, is_ok, if◌then◌else◌, length, slice_index, Contains};
 ghost use Rattle.av_types.specs.declared.fault.Fault.TheVariants.{OutOfMemory};
-ghost use Rattle.av_pack.specs.Packing.{bits_for, longs_for, packed_at};
-ghost use Rattle.av_section.specs.Packed.{HasAllBelow, IsPackedSection, IsRepacked};
+ghost use Rattle.av_pack.specs.Packing.{bits_for, longs_for};
+ghost use Rattle.av_section.specs.Packed.{HasAllBelow, IsPackedSection};
 ghost use Rattle.std.proofs.Props.{props};
 
 use crate::indices::{
     are_below, data_longs, distinct, first_missing, index_of, longs_indices, mapped, places_in,
+    repacked,
 };
 use crate::numbering::number_states;
 use crate::order::written_order;
@@ -49,22 +50,6 @@ fn push_number(palette: &mut Vec<u16>, number: u16) -> Result<(), AllocError>
 {
     palette.push(number)?;
     Ok(())
-}
-
-/// The same indices with `wider` bits each.
-fn repacked(alloc: Global, longs: &[i64], bits: u32, wider: u32) -> Result<Vec<i64>, Fault>
-    requires low { 4 ≤ bits }
-    requires high { bits ≤ 16 }
-    requires wider_low { 4 ≤ wider }
-    requires wider_high { wider ≤ 16 }
-    requires count { length longs.now ≡ longs_for bits }
-    requires fit { (i : ℕ) → i < 4096 → packed_at bits longs.now i < 2 ^ wider }
-    ensures ok { IfOk result (λ new. IsRepacked bits longs.now wider new.items) }
-    ensures err { IfErr result (λ e. e ≡ OutOfMemory) }
-{
-    let indices = unpack(alloc, longs, bits)?;
-    let longs = pack(alloc, indices.as_slice(), wider)?;
-    Ok(longs)
 }
 
 impl Section {

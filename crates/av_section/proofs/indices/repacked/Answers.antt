@@ -1,7 +1,7 @@
 -- The indices are unpacked and packed again.
 use Rattle.std.proofs.Common.{◌∙◌, ap, subst, length, ◌<◌}
 use Rattle.av_pack.proofs.Laws.{length-unpacked, get_or-unpacked}
-use Rattle.av_section.proofs.section.repacked.Goals as goal
+use Rattle.av_section.proofs.indices.repacked.Goals as goal
 
 pub pack-requires-clause-count : goal.pack-requires-clause-count
 pack-requires-clause-count c = rw (c.as_slice.ensures.value, c.in_ok-indices.ensures.ok) (length-unpacked c.args.bits c.args.longs.now)
