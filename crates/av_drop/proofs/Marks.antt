@@ -1,36 +1,73 @@
--- A loop that marks the places of a board in order.
-use Rattle.std.proofs.Common.{◌≡◌, ℕ, zero, suc, ◌+◌, ◌<◌, ◌&&◌, List, [], ◌∷◌, Bool, true, false, nat_eq, length, get_or, set, replicate, refl, sym, subst, ◌∙◌, arith, below_more}
+-- Boards on which one more place is noted.
+use Rattle.std.proofs.Common.{◌≡◌, ℕ, ◌<◌, Bool, true, false, not, ◌&&◌, ◌||◌, nat_eq, refl, sym, ap, subst, ◌∙◌, arith}
+use Rattle.std.proofs.lemmas.Bool.{true≢false}
 use Rattle.std.proofs.lemmas.Bool.Decides.{nat_tests}
-use Rattle.std.proofs.lemmas.List.{get_or-set_same, get_or-set_other}
+use Rattle.av_drop.specs.declared.board.Board.{Board}
+use Rattle.av_drop.specs.Board.{is_on}
 
-pub marked_below : (R : ℕ → Type 0) (f : ℕ → Bool) (xs : List Bool) (n : ℕ) (b : Bool) → n < length xs → (R n → b ≡ f n) → ((i : ℕ) → i < n → R i → get_or xs i false ≡ f i)
-    → (i : ℕ) → i < n + 1 → R i → get_or (set xs n b) i false ≡ f i
-marked_below R f xs n b within here below =
-    below_more (λ i. R i → get_or (set xs n b) i false ≡ f i) n
-    (λ i less r. get_or-set_other xs n i b false (λ e. omega (arith, e)) ∙ below i less r)
-    (λ r. get_or-set_same xs n b false within ∙ here r)
+pub is_same : (i j : ℕ) → nat_eq i j ≡ true → j ≡ i
+is_same i j e = grind (arith, nat_tests)
 
--- no place of a new board is marked
-pub unmarked : {A : Type 0} (n i : ℕ) (a : A) → get_or (replicate n a) i a ≡ a
-unmarked zero i a = refl
-unmarked (suc n) zero a = refl
-unmarked (suc n) (suc i) a = unmarked n i a
+-- what is noted of each known place is so, also of the place that is known now
+pub marked_one : (f : ℕ → Bool) (known knows marks now : Board) (at : ℕ) → ((i : ℕ) → nat_eq i at ≡ false → is_on knows i ≡ is_on known i) → ((i : ℕ) → nat_eq i at ≡ false → is_on now i ≡ is_on marks i)
+    → ((i : ℕ) → is_on known i ≡ true → is_on marks i ≡ f i) → is_on now at ≡ f at → (i : ℕ) → is_on knows i ≡ true → is_on now i ≡ f i
+marked_one f known knows marks now at same other before here i on = by (nat_eq i at) refl where
+  by : (b : Bool) → nat_eq i at ≡ b → is_on now i ≡ f i
+  by true e = subst (λ j. is_on now j ≡ f j) (is_same i at e) here
+  by false e = other i e ∙ before i (sym (same i e) ∙ on)
 
--- what holds of each item holds after one of which it holds was set
-pub set_all : {A : Type 0} (P : ℕ → A → Type 0) (xs : List A) (n : ℕ) (a d : A) → P n a → ((i : ℕ) → P i (get_or xs i d)) → (i : ℕ) → P i (get_or (set xs n a) i d)
-set_all P [] n a d h all i = all i
-set_all P (x ∷ xs) zero a d h all zero = h
-set_all P (x ∷ xs) zero a d h all (suc i) = all (suc i)
-set_all P (x ∷ xs) (suc n) a d h all zero = all zero
-set_all P (x ∷ xs) (suc n) a d h all (suc i) = set_all (λ j. P (suc j)) xs n a d h (λ j. all (suc j)) i
+-- nothing is noted of a place that is not known
+pub kept_off : (known knows marks now : Board) (at : ℕ) → is_on knows at ≡ true → ((i : ℕ) → nat_eq i at ≡ false → is_on knows i ≡ is_on known i) → ((i : ℕ) → nat_eq i at ≡ false → is_on now i ≡ is_on marks i)
+    → ((i : ℕ) → is_on known i ≡ false → is_on marks i ≡ false) → (i : ℕ) → is_on knows i ≡ false → is_on now i ≡ false
+kept_off known knows marks now at here same other before i off = by (nat_eq i at) refl where
+  by : (b : Bool) → nat_eq i at ≡ b → is_on now i ≡ false
+  by true e = absurd (true≢false (sym here ∙ ap (is_on knows) (is_same i at e) ∙ off))
+  by false e = other i e ∙ before i (sym (same i e) ∙ off)
+
+and_true : (a b : Bool) → a ≡ true → b ≡ false → (a && not b) ≡ true
+and_true true false h g = refl
+and_true true true h g = absurd (true≢false g)
+and_true false b h g = absurd (true≢false (sym h))
+
+and_false : (a b r : Bool) → r ≡ (a && not b) → r ≡ true → b ≡ false
+and_false true false r e h = refl
+and_false true true r e h = absurd (true≢false (sym h ∙ e))
+and_false false b r e h = absurd (true≢false (sym h ∙ e))
+
+not_known : (a b r : Bool) → r ≡ (a && not b) → r ≡ false → a ≡ true → b ≡ true
+not_known true true r e h g = refl
+not_known true false r e h g = absurd (true≢false (sym e ∙ h))
+not_known false b r e h g = absurd (true≢false (sym g))
+
+-- the places that are left to be read of some: none of them is known, and each other is
+pub record AreLeft (places known left : Board) : Type 0 where
+  pub fresh : (i : ℕ) → i < 128 → is_on left i ≡ true → is_on known i ≡ false
+  pub rest : (i : ℕ) → i < 128 → is_on places i ≡ true → is_on left i ≡ false → is_on known i ≡ true
+
+pub left_first : (places known left : Board) → ((i : ℕ) → i < 128 → is_on left i ≡ (is_on places i && not (is_on known i))) → AreLeft places known left
+left_first places known left e =
+    record {
+      fresh = λ i l on. and_false (is_on places i) (is_on known i) (is_on left i) (e i l) on;
+      rest = λ i l on off. not_known (is_on places i) (is_on known i) (is_on left i) (e i l) off on;
+    }
+
+-- one was read
+pub left_less : (places known knows left less : Board) (at : ℕ) → is_on knows at ≡ true → ((i : ℕ) → nat_eq i at ≡ false → is_on knows i ≡ is_on known i) → is_on less at ≡ false
+    → ((i : ℕ) → i < 128 → nat_eq i at ≡ false → is_on less i ≡ is_on left i) → AreLeft places known left → AreLeft places knows less
+left_less places known knows left less at here same gone others h =
+    record { fresh = λ i l on. fresh i l on (nat_eq i at) refl; rest = λ i l on off. rest i l on off (nat_eq i at) refl }
+  where
+    fresh : (i : ℕ) → i < 128 → is_on less i ≡ true → (b : Bool) → nat_eq i at ≡ b → is_on knows i ≡ false
+    fresh i l on true e = absurd (true≢false (sym on ∙ sym (ap (is_on less) (is_same i at e)) ∙ gone))
+    fresh i l on false e = same i e ∙ h.fresh i l (sym (others i l e) ∙ on)
+
+    rest : (i : ℕ) → i < 128 → is_on places i ≡ true → is_on less i ≡ false → (b : Bool) → nat_eq i at ≡ b → is_on knows i ≡ true
+    rest i l on off true e = sym (ap (is_on knows) (is_same i at e)) ∙ here
+    rest i l on off false e = same i e ∙ h.rest i l on (sym (others i l e) ∙ off)
 
 -- one place of a board with no marks
-pub one_marked : (xs : List Bool) (j : ℕ) (b : Bool) → ((i : ℕ) → get_or xs i false ≡ false) → j < length xs → (i : ℕ) → get_or (set xs j b) i false ≡ (nat_eq i j && b)
-one_marked xs j b none less i = by (nat_eq i j) refl where
-  by : (e : Bool) → nat_eq i j ≡ e → get_or (set xs j b) i false ≡ (e && b)
-  by true e = subst (λ n. get_or (set xs j b) n false ≡ b) (same i j e) (get_or-set_same xs j b false less) where
-    same : (i j : ℕ) → nat_eq i j ≡ true → j ≡ i
-    same i j e = grind (arith, nat_tests)
-  by false e = get_or-set_other xs j i b false (λ f. other i j e (sym f)) ∙ none i where
-    other : (i j : ℕ) → nat_eq i j ≡ false → j ≡ i → ⊥
-    other i j e f = grind (arith, nat_tests)
+pub first_marked : (empty now : Board) (at j : ℕ) (b : Bool) → at ≡ j → ((i : ℕ) → is_on empty i ≡ false) → is_on now at ≡ b → ((i : ℕ) → nat_eq i at ≡ false → is_on now i ≡ is_on empty i) → (i : ℕ) → is_on now i ≡ (nat_eq i j && b)
+first_marked empty now at j b e none here others i = subst (λ n. is_on now i ≡ (nat_eq i n && b)) e (by (nat_eq i at) refl) where
+  by : (t : Bool) → nat_eq i at ≡ t → is_on now i ≡ (t && b)
+  by true f = subst (λ n. is_on now n ≡ b) (is_same i at f) here
+  by false f = others i f ∙ none i

@@ -1,5 +1,5 @@
 -- The sides from which the fewest steps come to a drop are the chosen ones.
-use Rattle.std.proofs.Common.{◌≡◌, ℕ, List, zero, suc, ◌+◌, ◌-◌, ◌<◌, ◌≤◌, ◌&&◌, ◌||◌, min, Option, Some, None, refl, sym, ap, subst, ◌∙◌, arith, Bool, true, false, cond, nat_lt, nat_eq, not}
+use Rattle.std.proofs.Common.{◌≡◌, ℕ, zero, suc, ◌+◌, ◌-◌, ◌<◌, ◌≤◌, ◌&&◌, ◌||◌, min, Option, Some, None, refl, sym, ap, subst, ◌∙◌, arith, Bool, true, false, cond, nat_lt, nat_eq, not}
 use Rattle.std.proofs.lemmas.Bool.{true≢false}
 use Rattle.std.proofs.lemmas.Bool.Decides.{nat_tests}
 use Rattle.av_types.specs.declared.place.Pos.{Pos}
@@ -13,6 +13,7 @@ use Rattle.av_cells.specs.Positions.{step}
 use Rattle.av_cells.specs.World.{World}
 use Rattle.av_cells.specs.Rule.{can_enter, can_pass, can_drop, has_hole, found_or, found_below, opens_at, wet_at}
 use Rattle.av_cells.specs.Turn.{drop_of, rank_of, rank_at, least_rank, is_chosen}
+use Rattle.av_drop.specs.declared.board.Board.{Board}
 use Rattle.av_drop.specs.declared.search.Sides.{Sides}
 use Rattle.av_drop.specs.Sides.{has_side, AreWays, AreChosen}
 use Rattle.av_drop.specs.Board.{is_on, side_place}
@@ -204,12 +205,12 @@ by_sides P n s w e West = w
 by_sides P n s w e East = e
 
 -- the front of a side that can be entered, before the first step
-pub first_side : (k : ℕ → Kind) (w : World) (p : Pos) (d : Direction) (b : Bool) (board : List Bool) → ((i : ℕ) → is_on board i ≡ (nat_eq i (side_place d) && b)) → b ≡ can_enter k w (step p d)
+pub first_side : (k : ℕ → Kind) (w : World) (p : Pos) (d : Direction) (b : Bool) (board : Board) → ((i : ℕ) → is_on board i ≡ (nat_eq i (side_place d) && b)) → b ≡ can_enter k w (step p d)
     → b ≡ true → IsFront k w p (step p d) 0 board
 first_side k w p d b board marks way is = first_is_front k w p d b board marks (is ∙ sym (entered_passes k w (step p d) (sym way ∙ is)))
 
 -- a side one step on
-pub drops_side : (k : ℕ → Kind) (w : World) (p s : Pos) (n : ℕ) (old new : List Bool) (b drops : Bool) → b ≡ true → n < 4 → IsFront k w p s n old → IsNext k w p old new drops
+pub drops_side : (k : ℕ → Kind) (w : World) (p s : Pos) (n : ℕ) (old new : Board) (b drops : Bool) → b ≡ true → n < 4 → IsFront k w p s n old → IsNext k w p old new drops
     → drops ≡ (b && can_drop k w (n + 1) s)
 drops_side k w p s n old new true drops way few front next = drops_is k w p s (n + 1) old new drops (next_is_front k w p s n old new drops few front next) next
 drops_side k w p s n old new false drops way few front next = absurd (true≢false (sym way))

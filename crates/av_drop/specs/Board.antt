@@ -1,31 +1,61 @@
--- Working definitions: a board of 13 by 13 blocks around a block, row by row from the north. No public clause cites them.
-use Rattle.std.specs.Prelude.{ℕ, ◌+◌, ◌-◌, ◌||◌, ◌%◌, ◌/◌, ◌≤◌, pos, ◌+ℤ◌, ◌-ℤ◌, List, Bool, false, slice_index_or}
+-- Working definitions: places of a board of 11 by 11 blocks around a block, row by row from the north. No public clause cites them.
+use Rattle.std.specs.Prelude.{◌≡◌, ℕ, ◌+◌, ◌-◌, ◌%◌, ◌/◌, ◌<◌, ◌≤◌, ◌==◌, pos, ◌+ℤ◌, ◌-ℤ◌, Bool, true}
+use Rattle.std.specs.Int.{bit_at}
 use Rattle.av_types.specs.declared.place.Pos.{Pos}
 use Rattle.av_types.specs.declared.water.Direction.{Direction}
 use Rattle.av_types.specs.declared.water.Direction.TheVariants.{North, South, West, East}
+use Rattle.av_drop.specs.declared.board.Board.{Board}
 
 -- the block at a place of the board
 abbrev pub spot : Pos → ℕ → Pos
-spot p i = record { x = p.x +ℤ pos (i % 13) -ℤ pos 6; y = p.y; z = p.z +ℤ pos (i / 13) -ℤ pos 6 }
+spot p i = record { x = p.x +ℤ pos (i % 11) -ℤ pos 5; y = p.y; z = p.z +ℤ pos (i / 11) -ℤ pos 5 }
 
 -- at most 5 - n steps from the middle
 pub record IsWithin (n i : ℕ) : Type 0 where
-  pub south_east : i % 13 + i / 13 + n ≤ 17
-  pub north_west : 7 + n ≤ i % 13 + i / 13
-  pub north_east : i % 13 + n ≤ i / 13 + 5
-  pub south_west : i / 13 + n ≤ i % 13 + 5
+  pub south_east : i % 11 + i / 11 + n ≤ 15
+  pub north_west : 5 + n ≤ i % 11 + i / 11
+  pub north_east : i % 11 + n ≤ i / 11 + 5
+  pub south_west : i / 11 + n ≤ i % 11 + 5
 
 -- a place is marked
-abbrev pub is_on : List Bool → ℕ → Bool
-is_on board i = slice_index_or board i false
+unfoldable pub is_on : Board → ℕ → Bool
+is_on board i = bit_at board.bits i == 1
 
--- one of the four places beside it is marked
-abbrev pub is_beside : List Bool → ℕ → Bool
-is_beside board i = is_on board (i - 13) || is_on board (i + 13) || is_on board (i - 1) || is_on board (i + 1)
+-- a marked place
+pub record HasPlace (board : Board) : Type 0 where
+  pub place : ℕ
+  pub bound : place < 128
+  pub marked : is_on board place ≡ true
+
+-- the place that lies in a direction from another
+abbrev pub toward : ℕ → Direction → ℕ
+toward i North = i - 11
+toward i South = i + 11
+toward i West = i - 1
+toward i East = i + 1
+
+-- a marked place, and the direction in which a place lies from it
+pub record HasNeighbour (board : Board) (i : ℕ) : Type 0 where
+  pub place : ℕ
+  pub side : Direction
+  pub marked : is_on board place ≡ true
+  pub there : toward place side ≡ i
+
+-- the places beside the marked ones; of those in the outer rows not all
+pub record AreBeside (board beside : Board) : Type 0 where
+  pub from : (i : ℕ) → is_on beside i ≡ true → HasNeighbour board i
+  pub to : (i : ℕ) (d : Direction) → 11 ≤ i → i < 110 → is_on board i ≡ true → is_on beside (toward i d) ≡ true
+  pub bound : (i : ℕ) → is_on beside i ≡ true → i < 128
+
+-- a place that is marked on both boards
+pub record SharePlace (a b : Board) : Type 0 where
+  pub place : ℕ
+  pub first : is_on a place ≡ true
+  pub second : is_on b place ≡ true
 
 -- the places of the middle's sides
 abbrev pub side_place : Direction → ℕ
-side_place North = 71
-side_place South = 97
-side_place West = 83
-side_place East = 85
+side_place North = 49
+side_place South = 71
+side_place West = 59
+side_place East = 61

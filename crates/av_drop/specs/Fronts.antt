@@ -1,5 +1,5 @@
 -- Working definitions: the blocks to which walks of so many steps come. No public clause cites them.
-use Rattle.std.specs.Prelude.{◌≡◌, ℕ, ◌+◌, ◌<◌, ◌≤◌, ◌&&◌, List, Bool, true, false, Option, IfSome, slice_index_or, None}
+use Rattle.std.specs.Prelude.{◌≡◌, ℕ, ◌+◌, ◌<◌, ◌≤◌, ◌&&◌, Bool, true, false}
 use Rattle.av_types.specs.declared.place.Pos.{Pos}
 use Rattle.av_types.specs.declared.water.Direction.{Direction}
 use Rattle.av_types.specs.declared.water.Direction.TheVariants.{North, South, West, East}
@@ -7,9 +7,11 @@ use Rattle.av_cells.specs.declared.kind.Kind.{Kind}
 use Rattle.av_cells.specs.Positions.{step}
 use Rattle.av_cells.specs.Rule.{can_pass, can_drop}
 use Rattle.av_cells.specs.World.{World}
-use Rattle.av_drop.specs.Board.{spot, is_on, is_beside, IsWithin}
+use Rattle.av_drop.specs.Board.{spot, is_on, AreBeside, IsWithin}
 use Rattle.av_drop.specs.Sides.{has_side}
-use Rattle.av_drop.specs.declared.board.Seen.{Seen}
+use Rattle.av_drop.specs.declared.around.Seen.{Seen}
+use Rattle.av_drop.specs.declared.around.Around.{Around}
+use Rattle.av_drop.specs.declared.board.Board.{Board}
 use Rattle.av_drop.specs.declared.search.Sides.{Sides}
 
 -- what is known of a block is so
@@ -18,32 +20,35 @@ pub record IsSeen (k : ℕ → Kind) (w : World) (q : Pos) (s : Seen) : Type 0 w
   pub drops_is : s.drops ≡ can_drop k w 0 q
 
 -- what is known of each block that was read is so
-pub record AreSeen (k : ℕ → Kind) (w : World) (p : Pos) (seen : List (Option Seen)) : Type 0 where
-  pub at : (i : ℕ) → IfSome (slice_index_or seen i None) (IsSeen k w (spot p i))
+pub record AreSeen (k : ℕ → Kind) (w : World) (p : Pos) (around : Around) : Type 0 where
+  pub passes_are : (i : ℕ) → is_on around.known i ≡ true → is_on around.passes i ≡ can_pass k w (spot p i)
+  pub drops_are : (i : ℕ) → is_on around.known i ≡ true → is_on around.drops i ≡ can_drop k w 0 (spot p i)
+  pub no_passes : (i : ℕ) → is_on around.known i ≡ false → is_on around.passes i ≡ false
+  pub no_drops : (i : ℕ) → is_on around.known i ≡ false → is_on around.drops i ≡ false
 
 -- a marked block with a walk of m steps to a drop
-pub record Leads (k : ℕ → Kind) (w : World) (p : Pos) (m : ℕ) (board : List Bool) : Type 0 where
+pub record Leads (k : ℕ → Kind) (w : World) (p : Pos) (m : ℕ) (board : Board) : Type 0 where
   pub place : ℕ
   pub marked : is_on board place ≡ true
   pub drops : can_drop k w m (spot p place) ≡ true
 
 -- the marked blocks are those to which n steps lead from s: the walks to a drop of n steps and more go on from these
-pub record IsFront (k : ℕ → Kind) (w : World) (p s : Pos) (n : ℕ) (board : List Bool) : Type 0 where
+pub record IsFront (k : ℕ → Kind) (w : World) (p s : Pos) (n : ℕ) (board : Board) : Type 0 where
   pub within : (i r : ℕ) → r + n ≡ 4 → is_on board i ≡ true → IsWithin r i
   pub passes : (i : ℕ) → is_on board i ≡ true → can_pass k w (spot p i) ≡ true
   pub joins : (i m : ℕ) → is_on board i ≡ true → can_drop k w m (spot p i) ≡ true → can_drop k w (n + m) s ≡ true
   pub leads : (m : ℕ) → can_drop k w (n + m) s ≡ true → Leads k w p m board
 
 -- one step on from the marked blocks, over blocks that a walk may pass; and whether one of these drops
-pub record IsNext (k : ℕ → Kind) (w : World) (p : Pos) (old new : List Bool) (drops : Bool) : Type 0 where
-  pub inside : (i : ℕ) → 19 ≤ i → i < 150 → is_on new i ≡ (is_beside old i && can_pass k w (spot p i))
-  pub low : (i : ℕ) → is_on new i ≡ true → 19 ≤ i
-  pub high : (i : ℕ) → is_on new i ≡ true → i < 150
+pub record IsNext (k : ℕ → Kind) (w : World) (p : Pos) (old new : Board) (drops : Bool) : Type 0 where
+  pub beside : Board
+  pub are_beside : AreBeside old beside
+  pub inside : (i : ℕ) → is_on new i ≡ (is_on beside i && can_pass k w (spot p i))
   pub found : drops ≡ true → Leads k w p 0 new
   pub missed : drops ≡ false → (i : ℕ) → is_on new i ≡ true → can_drop k w 0 (spot p i) ≡ false
 
 -- the fronts of the sides that can be entered
-pub record AreFronts (k : ℕ → Kind) (w : World) (p : Pos) (ways : Sides) (n : ℕ) (north south west east : List Bool) : Type 0 where
+pub record AreFronts (k : ℕ → Kind) (w : World) (p : Pos) (ways : Sides) (n : ℕ) (north south west east : Board) : Type 0 where
   pub north_is : ways.north ≡ true → IsFront k w p (step p North) n north
   pub south_is : ways.south ≡ true → IsFront k w p (step p South) n south
   pub west_is : ways.west ≡ true → IsFront k w p (step p West) n west

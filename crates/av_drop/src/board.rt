@@ -1,121 +1,97 @@
-//! A board of 13 by 13 blocks around a block, row by row from the north.
-ghost use Rattle.std.specs.Prelude.{◌≡◌, ◌≤◌, ◌<◌, ◌+◌, ◌-◌, pos, negsuc, ◌+ℤ◌, ◌-ℤ◌, ◌≤ℤ◌, ℕ, None};
-ghost use Rattle.av_rules.specs.Kinds.{kind_count};
-ghost use Rattle.av_types.specs.declared.place.Pos.{Pos};
-ghost use Rattle.av_cells.specs.declared.kind.Kind.{Kind};
-ghost use Rattle.av_cells.specs.Kinds.{kinds_of};
-ghost use Rattle.av_cells.specs.Positions.{IsNearOrigin, IsInner};
-ghost use Rattle.av_cells.specs.Rule.{can_pass, HasKinds};
-ghost use Rattle.av_cells.specs.World.{World};
-ghost use Rattle.av_drop.specs.Board.{spot, is_beside};
-ghost use Rattle.av_drop.specs.Fronts.{IsSeen, AreSeen};
+//! Places of a board of 11 by 11 blocks around a block, row by row from the north: a bit for each.
+ghost use Rattle.std.specs.Prelude.{◌≡◌, ◌<◌, ◌&&◌, ℕ, nat_eq, not, true, false};
+ghost use Rattle.av_drop.specs.Board.{is_on, HasPlace, AreBeside};
 
-use av_cells::{Cells, has_hole, kind_at};
-use av_rules::Kinds;
-use av_types::Pos;
-
-/// How many places the board has.
-pub const PLACES: usize = 169;
-
-/// Which places of the board are marked.
-pub type Board = [bool; PLACES];
-
-/// A coordinate of a block of the board.
-fn coordinate(middle: i32, steps: usize) -> i32
-    requires low { negsuc 30719999 ≤ℤ middle }
-    requires high { middle ≤ℤ pos 30720511 }
-    requires steps { steps < 13 }
-    ensures { result ≡ middle +ℤ pos steps -ℤ pos 6 }
-{
-    middle + (steps as i32 - 6)
-}
-
-/// The block at a place of the board.
-fn spot(middle: Pos, place: usize) -> Pos
-    requires near { IsNearOrigin middle }
-    requires place { place < 169 }
-    ensures is { result ≡ spot middle place }
-    ensures inner { IsInner result }
-{
-    Pos {
-        x: coordinate(middle.x, place % 13),
-        y: middle.y,
-        z: coordinate(middle.z, place / 13),
-    }
-}
-
-/// Whether a walk to a drop may pass a block: it is open or wet, and no source.
-#[tactic(auto, unfolding(av_cells::specs::Rule::can_pass))]
-fn can_pass<C: Cells>(cells: &C, kinds: &Kinds, pos: Pos) -> bool
-    requires { HasKinds (kind_count kinds.now) (C.world cells.now) }
-    ensures { result ≡ can_pass (kinds_of kinds.now) (C.world cells.now) pos }
-{
-    let kind = kind_at(cells, kinds, pos);
-    (kind.opens || kind.wet.is_wet()) && !kind.wet.is_source()
-}
-
-/// What is known of a block.
+/// Some places of the board.
 #[derive(Clone, Copy)]
-pub struct Seen {
-    /// Whether a walk may pass it.
-    pub passes: bool,
-    /// Whether it has a walk of no steps to a drop.
-    pub drops: bool,
+pub struct Board {
+    bits: u128,
 }
 
-/// Reads a block, and the one below it if a walk may pass it.
-#[tactic(auto, unfolding(av_cells::specs::Rule::can_drop))]
-fn look<C: Cells>(cells: &C, kinds: &Kinds, pos: Pos) -> Seen
-    requires inner { IsInner pos }
-    requires kinds { HasKinds (kind_count kinds.now) (C.world cells.now) }
-    ensures { IsSeen (kinds_of kinds.now) (C.world cells.now) pos result }
-{
-    let passes = can_pass(cells, kinds, pos);
-    Seen {
-        passes,
-        drops: passes && has_hole(cells, kinds, pos),
-    }
-}
-
-/// What is known of the blocks of the board.
-#[derive(Drop)]
-pub struct Around {
-    seen: [Option<Seen>; PLACES],
-}
-
-impl Around {
-    /// Nothing is known.
-    pub fn new() -> Self
-        ensures { (k : ℕ → Kind) (w : World) (p : Pos) → AreSeen k w p result.seen }
+impl Board {
+    /// No place.
+    pub fn empty() -> Self
+        ensures { (i : ℕ) → is_on result i ≡ false }
     {
-        Around {
-            seen: [None; PLACES],
+        Board { bits: 0 }
+    }
+
+    /// Whether there is no place.
+    pub fn is_empty(self) -> bool
+        ensures none { result ≡ true → (i : ℕ) → is_on self i ≡ false }
+        ensures some { result ≡ false → HasPlace self }
+    {
+        self.bits == 0
+    }
+
+    /// The first place of some.
+    pub fn first(self) -> u32
+        requires { HasPlace self }
+        ensures bound { result < 128 }
+        ensures marked { is_on self result ≡ true }
+    {
+        self.bits.trailing_zeros()
+    }
+
+    /// These places and one more.
+    pub fn with(self, place: u32) -> Self
+        requires { place < 128 }
+        ensures here { is_on result place ≡ true }
+        ensures others { (i : ℕ) → nat_eq i place ≡ false → is_on result i ≡ is_on self i }
+    {
+        Board {
+            bits: self.bits | 1 << place,
         }
     }
 
-    /// What is known of the block at a place, which is read where nothing is.
-    pub fn at<C: Cells>(&mut self, cells: &C, kinds: &Kinds, middle: Pos, place: usize) -> Seen
-        requires near { IsNearOrigin middle }
-        requires place { place < 169 }
-        requires kinds { HasKinds (kind_count kinds.now) (C.world cells.now) }
-        requires seen { AreSeen (kinds_of kinds.now) (C.world cells.now) middle self.old.seen }
-        ensures is { IsSeen (kinds_of kinds.now) (C.world cells.now) (spot middle place) result }
-        ensures seen { AreSeen (kinds_of kinds.now) (C.world cells.now) middle self.new.seen }
+    /// These places and one more, where it is meant.
+    pub fn with_if(self, place: u32, meant: bool) -> Self
+        requires { place < 128 }
+        ensures here { is_on self place ≡ false → is_on result place ≡ meant }
+        ensures others { (i : ℕ) → nat_eq i place ≡ false → is_on result i ≡ is_on self i }
     {
-        if let Some(seen) = self.seen[place] {
-            return seen;
-        }
-        let seen = look(cells, kinds, spot(middle, place));
-        self.seen[place] = Some(seen);
-        seen
+        if meant { self.with(place) } else { self }
     }
-}
 
-/// Whether one of the four places beside it is marked.
-pub fn is_beside(board: &Board, place: usize) -> bool
-    requires low { 13 ≤ place }
-    requires high { place < 156 }
-    ensures { result ≡ is_beside board.now place }
-{
-    board[place - 13] | board[place + 13] | board[place - 1] | board[place + 1]
+    /// These places without one of them.
+    pub fn without(self, place: u32) -> Self
+        requires bound { place < 128 }
+        requires there { is_on self place ≡ true }
+        ensures here { is_on result place ≡ false }
+        ensures others { (i : ℕ) → i < 128 → nat_eq i place ≡ false → is_on result i ≡ is_on self i }
+        ensures less { result.bits < self.bits }
+    {
+        Board {
+            bits: self.bits & !(1 << place),
+        }
+    }
+
+    /// Those of these places that are not among others.
+    pub fn apart_from(self, others: Board) -> Self
+        ensures { (i : ℕ) → i < 128 → is_on result i ≡ (is_on self i && not (is_on others i)) }
+    {
+        Board {
+            bits: self.bits & !others.bits,
+        }
+    }
+
+    /// The places that are among these and others.
+    pub fn among(self, others: Board) -> Self
+        ensures { (i : ℕ) → is_on result i ≡ (is_on self i && is_on others i) }
+    {
+        Board {
+            bits: self.bits & others.bits,
+        }
+    }
+
+    /// The places beside these.
+    pub fn beside(self) -> Self
+        ensures { AreBeside self result }
+    {
+        let along_z = self.bits >> 11 | self.bits << 11;
+        let along_x = self.bits >> 1 | self.bits << 1;
+        Board {
+            bits: along_z | along_x,
+        }
+    }
 }

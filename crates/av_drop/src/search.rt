@@ -11,8 +11,9 @@ ghost use Rattle.av_cells.specs.World.{World};
 ghost use Rattle.av_drop.specs.Fronts.{AreSeen, AreFronts, AreDropping, HaveNone, IsFront};
 ghost use Rattle.av_drop.specs.Sides.{AreWays, AreChosen};
 
-use crate::board::{Around, Board};
-use crate::fronts::{Next, advance, first_front, side_place};
+use crate::around::{Around, look};
+use crate::board::Board;
+use crate::fronts::{Next, advance, first_front};
 use av_cells::{Cells, has_hole, step};
 use av_rules::Kinds;
 use av_types::{Direction, Pos};
@@ -63,23 +64,23 @@ fn advance_side<C: Cells>(
     kinds: &Kinds,
     pos: Pos,
     around: &mut Around,
-    front: &Board,
+    front: Board,
     is_way: bool,
 ) -> Next
     requires near { IsNearOrigin pos }
     requires kinds { HasKinds (kind_count kinds.now) (C.world cells.now) }
-    requires seen { AreSeen (kinds_of kinds.now) (C.world cells.now) pos around.old.seen }
+    requires seen { AreSeen (kinds_of kinds.now) (C.world cells.now) pos around.old }
     ensures front { (s : Pos) (n : ℕ) → n < 4
-        → (is_way ≡ true → IsFront (kinds_of kinds.now) (C.world cells.now) pos s n front.now)
+        → (is_way ≡ true → IsFront (kinds_of kinds.now) (C.world cells.now) pos s n front)
         → is_way ≡ true → IsFront (kinds_of kinds.now) (C.world cells.now) pos s (n + 1) result.front }
     ensures drops { (s : Pos) (n : ℕ) → n < 4
-        → (is_way ≡ true → IsFront (kinds_of kinds.now) (C.world cells.now) pos s n front.now)
+        → (is_way ≡ true → IsFront (kinds_of kinds.now) (C.world cells.now) pos s n front)
         → result.drops ≡ (is_way && can_drop (kinds_of kinds.now) (C.world cells.now) (n + 1) s) }
-    ensures seen { AreSeen (kinds_of kinds.now) (C.world cells.now) pos around.new.seen }
+    ensures seen { AreSeen (kinds_of kinds.now) (C.world cells.now) pos around.new }
 {
     if !is_way {
         return Next {
-            front: *front,
+            front,
             drops: false,
         };
     }
@@ -100,33 +101,30 @@ fn advance_all<C: Cells>(
     pos: Pos,
     ways: Sides,
     around: &mut Around,
-    fronts: &Fronts,
+    fronts: Fronts,
 ) -> Advance
     requires near { IsNearOrigin pos }
     requires kinds { HasKinds (kind_count kinds.now) (C.world cells.now) }
-    requires seen { AreSeen (kinds_of kinds.now) (C.world cells.now) pos around.old.seen }
+    requires seen { AreSeen (kinds_of kinds.now) (C.world cells.now) pos around.old }
     ensures fronts { (n : ℕ) → n < 4
-        → AreFronts (kinds_of kinds.now) (C.world cells.now) pos ways n fronts.now.north fronts.now.south fronts.now.west fronts.now.east
+        → AreFronts (kinds_of kinds.now) (C.world cells.now) pos ways n fronts.north fronts.south fronts.west fronts.east
         → AreFronts (kinds_of kinds.now) (C.world cells.now) pos ways (n + 1) result.fronts.north result.fronts.south result.fronts.west result.fronts.east }
     ensures drops { (n : ℕ) → n < 4
-        → AreFronts (kinds_of kinds.now) (C.world cells.now) pos ways n fronts.now.north fronts.now.south fronts.now.west fronts.now.east
+        → AreFronts (kinds_of kinds.now) (C.world cells.now) pos ways n fronts.north fronts.south fronts.west fronts.east
         → AreDropping (kinds_of kinds.now) (C.world cells.now) pos ways (n + 1) result.drops }
-    ensures seen { AreSeen (kinds_of kinds.now) (C.world cells.now) pos around.new.seen }
+    ensures seen { AreSeen (kinds_of kinds.now) (C.world cells.now) pos around.new }
 {
-    let north = advance_side(cells, kinds, pos, around, &fronts.north, ways.north);
-    let south = advance_side(cells, kinds, pos, around, &fronts.south, ways.south);
-    let west = advance_side(cells, kinds, pos, around, &fronts.west, ways.west);
-    let east = advance_side(cells, kinds, pos, around, &fronts.east, ways.east);
-    let (north_front, south_front) = (north.front, south.front);
-    let (west_front, east_front) = (west.front, east.front);
-    let fronts = Fronts {
-        north: north_front,
-        south: south_front,
-        west: west_front,
-        east: east_front,
-    };
+    let north = advance_side(cells, kinds, pos, around, fronts.north, ways.north);
+    let south = advance_side(cells, kinds, pos, around, fronts.south, ways.south);
+    let west = advance_side(cells, kinds, pos, around, fronts.west, ways.west);
+    let east = advance_side(cells, kinds, pos, around, fronts.east, ways.east);
     Advance {
-        fronts,
+        fronts: Fronts {
+            north: north.front,
+            south: south.front,
+            west: west.front,
+            east: east.front,
+        },
         drops: Sides {
             north: north.drops,
             south: south.drops,
@@ -179,7 +177,7 @@ fn nearest_by_walks<C: Cells>(cells: &C, kinds: &Kinds, pos: Pos, ways: Sides) -
     let mut around = Around::new();
     let mut fronts = first_fronts(ways);
     for steps in 0..4u8 {
-        let next = advance_all(cells, kinds, pos, ways, &mut around, &fronts);
+        let next = advance_all(cells, kinds, pos, ways, &mut around, fronts);
         if next.drops.has_any() {
             return next.drops;
         }
@@ -220,14 +218,14 @@ pub fn drop_distance<C: Cells>(
     requires kinds { HasKinds (kind_count kinds.now) (C.world cells.now) }
     ensures { IsDrop (kinds_of kinds.now) (C.world cells.now) (step pos direction) result }
 {
-    let mut around = Around::new();
-    let first = around.at(cells, kinds, pos, side_place(direction));
+    let first = look(cells, kinds, step(pos, direction));
     if first.drops {
         return Some(0);
     }
+    let mut around = Around::new();
     let mut front = first_front(direction, first.passes);
     for steps in 0..4 {
-        let next = advance(cells, kinds, pos, &mut around, &front);
+        let next = advance(cells, kinds, pos, &mut around, front);
         if next.drops {
             return Some(steps + 1);
         }

@@ -1,47 +1,31 @@
-use Rattle.std.proofs.Common.{◌≤◌, ◌&&◌, false, sym, ◌∙◌, arith, length-set}
-use Rattle.std.proofs.lemmas.Bool.{true≢false}
+use Rattle.std.proofs.Common.{◌≡◌, ℕ, ◌&&◌, Bool, true, false, refl, sym, ap, ◌∙◌}
+use Rattle.std.proofs.lemmas.Bool.{and_parts, true≢false}
 use Rattle.av_cells.specs.Kinds.{kinds_of}
-use Rattle.av_cells.specs.Rule.{can_pass}
-use Rattle.av_drop.specs.Board.{spot, is_beside}
-use Rattle.av_drop.proofs.Ahead.{found_more, missed_more, low_more, high_more, marked_low, marked_high}
-use Rattle.av_drop.proofs.Marks.{marked_below, unmarked}
+use Rattle.av_cells.specs.Rule.{can_pass, can_drop}
+use Rattle.av_drop.specs.Board.{spot, is_on}
 use Rattle.av_drop.proofs.fronts.advance.Goals as goal
 
-pub loop-place-init : goal.loop-place-init
-loop-place-init g c =
-    record {
-      long = omega arith;
-      seen = c.requires.seen;
-      inside = λ i l h. absurd (omega (arith, l, h));
-      low = λ i l. unmarked 169 i false;
-      high = λ i l. unmarked 169 i false;
-      found = λ h. absurd (true≢false (sym h));
-      missed = λ h i on. absurd (true≢false (sym on ∙ unmarked 169 i false));
-    }
-
-pub loop-place-preserved : goal.loop-place-preserved
-loop-place-preserved g c =
-    let k = kinds_of c.args.kinds.now in
-    let w = g.C.Cells.world c.args.cells.now in
-    let i = c.loop-place.invariant in
-    let seen = c.reached-seen in
-    record {
-      long = simp length-set i.long;
-      seen = seen.ensures.seen;
-      inside = marked_below (λ j. 19 ≤ j) (λ j. is_beside c.args.front.now j && can_pass k w (spot c.args.middle j)) _ _ _ (omega (arith, i.long)) (λ _. seen.ensures.passes) i.inside;
-      low = low_more _ _ _ c.loop-place.auto.place i.low;
-      high = high_more _ _ _ i.high;
-      found = found_more k w c.args.middle c.args.front.now c.loop-place.next c.loop-place.place c.loop-place.drops seen.result.passes seen.result.drops (omega (arith, i.long)) (i.high c.loop-place.place (omega arith)) seen.ensures.passes seen.ensures.drops i.found;
-      missed = missed_more k w c.args.middle c.args.front.now c.loop-place.next c.loop-place.place c.loop-place.drops seen.result.passes seen.result.drops (omega (arith, i.long)) seen.ensures.passes seen.ensures.drops i.missed;
-    }
+same_and : (a b r : Bool) → (a ≡ true → b ≡ r) → (a && b) ≡ (a && r)
+same_and true b r h = h refl
+same_and false b r h = refl
 
 pub returns-clause-is : goal.returns-clause-is
 returns-clause-is g c =
-    let i = c.loop-place.invariant in
+    let k = kinds_of c.args.kinds.now in
+    let w = g.C.Cells.world c.args.cells.now in
+    let p = c.args.middle in
+    let beside = c.beside-beside.result in
+    let around = c.read.new.self in
+    let seen = c.read.ensures.seen in
+    let next = c.passed-next in
+    let known : (i : ℕ) → is_on beside i ≡ true → is_on around.known i ≡ true = λ i on. c.read.ensures.known i (c.beside-beside.ensures.bound i on) on in
+    let of_beside : (i : ℕ) → is_on next.result i ≡ true → is_on beside i ≡ true = λ i on. (and_parts (is_on beside i) (is_on around.passes i) (sym (next.ensures i) ∙ on)).0 in
     record {
-      inside = λ j low high. i.inside j (omega (arith, high, c.loop-place-test.false)) low;
-      low = marked_low _ i.low;
-      high = λ j on. let l = marked_high _ _ i.high j on in omega (arith, l, c.loop-place.auto.place-end);
-      found = i.found;
-      missed = i.missed;
+      beside = beside;
+      are_beside = c.beside-beside.ensures;
+      inside = λ i. next.ensures i ∙ same_and (is_on beside i) (is_on around.passes i) (can_pass k w (spot p i)) (λ on. seen.passes_are i (known i on));
+      found = λ h.
+          let at = c.drops_at.ensures.some h in
+          record { place = at.place; marked = at.first; drops = sym (seen.drops_are at.place (known at.place (of_beside at.place at.first))) ∙ at.second };
+      missed = λ h i on. sym (seen.drops_are i (known i (of_beside i on))) ∙ c.drops_at.ensures.none h i on;
     }

@@ -1,8 +1,5 @@
-use Rattle.std.proofs.Common.{replicate, false, subst, ◌≡◌, nat_eq, ◌&&◌, get_or, set}
-use Rattle.av_drop.proofs.Marks.{unmarked, one_marked}
+use Rattle.av_drop.proofs.Marks.{first_marked}
 use Rattle.av_drop.proofs.fronts.first_front.Goals as goal
 
 pub returns : goal.returns
-returns c i =
-    subst (λ n. get_or (set (replicate 169 false) c.side_place-place.result c.args.passes) i false ≡ (nat_eq i n && c.args.passes)) c.side_place-place.ensures.is
-    (one_marked (replicate 169 false) c.side_place-place.result c.args.passes (λ j. unmarked 169 j false) c.side_place-place.ensures.bound i)
+returns c i = first_marked c.empty.result c.with_if.result c.side_place.result _ c.args.passes c.side_place.ensures.is c.empty.ensures (c.with_if.ensures.here (c.empty.ensures c.side_place.result)) c.with_if.ensures.others i

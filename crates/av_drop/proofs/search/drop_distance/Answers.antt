@@ -14,18 +14,18 @@ returns-then-first g c =
     let k = kinds_of c.args.kinds.now in
     let w = g.C.Cells.world c.args.cells.now in
     first_is_drop k w (step c.args.pos c.args.direction) 0 (omega arith)
-    (ap (can_drop k w 0) (sym (ap (spot c.args.pos) c.side_place.ensures.is ∙ side_spot c.args.pos c.args.direction)) ∙ sym c.at-first.ensures.is.drops_is ∙ c.if-first.true)
+    (sym (ap (can_drop k w 0) c.step.ensures) ∙ sym c.look-first.ensures.drops_is ∙ c.if-first.true)
     (λ m less. absurd (omega (arith, less)))
 
 pub loop-steps-init : goal.loop-steps-init
 loop-steps-init g c =
     let k = kinds_of c.args.kinds.now in
     let w = g.C.Cells.world c.args.cells.now in
-    let at : spot c.args.pos c.side_place.result ≡ step c.args.pos c.args.direction = ap (spot c.args.pos) c.side_place.ensures.is ∙ side_spot c.args.pos c.args.direction in
+    let at : c.step.result ≡ step c.args.pos c.args.direction = c.step.ensures in
     record {
-      seen = c.at-first.ensures.seen;
-      front = first_is_front k w c.args.pos c.args.direction c.at-first.result.passes c.first_front-front.result c.first_front-front.ensures (c.at-first.ensures.is.passes_is ∙ ap (can_pass k w) at);
-      none = none_at_first k w (step c.args.pos c.args.direction) (ap (can_drop k w 0) (sym at) ∙ sym c.at-first.ensures.is.drops_is ∙ c.if-first.false);
+      seen = c.new-around.ensures k w c.args.pos;
+      front = first_is_front k w c.args.pos c.args.direction c.look-first.result.passes c.first_front-front.result c.first_front-front.ensures (c.look-first.ensures.passes_is ∙ ap (can_pass k w) at);
+      none = none_at_first k w (step c.args.pos c.args.direction) (ap (can_drop k w 0) (sym at) ∙ sym c.look-first.ensures.drops_is ∙ c.if-first.false);
     }
 
 pub returns-then-next : goal.returns-then-next

@@ -8,7 +8,7 @@ use Rattle.av_drop.proofs.search.drop_distance.Given as goal
 abbrev pub invariant-loop-steps : goal.invariant-loop-steps
 invariant-loop-steps g l =
     record {
-      seen : AreSeen (kinds_of l.kinds) (g.C.Cells.world l.cells) l.pos l.around.seen;
+      seen : AreSeen (kinds_of l.kinds) (g.C.Cells.world l.cells) l.pos l.around;
       front : IsFront (kinds_of l.kinds) (g.C.Cells.world l.cells) l.pos (step l.pos l.fn.direction) l.steps l.front;
       none : (m : ℕ) → m < l.steps + 1 → can_drop (kinds_of l.kinds) (g.C.Cells.world l.cells) m (step l.pos l.fn.direction) ≡ false;
     }

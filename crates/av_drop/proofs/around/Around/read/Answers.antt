@@ -1,0 +1,5 @@
+use Rattle.av_drop.proofs.Marks.{left_first, left_less}
+use Rattle.av_drop.proofs.around.Around.read.Goals as goal
+
+pub loop-middle-init : goal.loop-middle-init
+loop-middle-init g c = record { seen = c.requires.seen; left = left_first c.args.places c.args.self.now.known c.apart_from-left.result c.apart_from-left.ensures }
