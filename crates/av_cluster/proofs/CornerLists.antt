@@ -1,5 +1,5 @@
 -- The sections of a reach's corners that are there are those of the list of the territory.
-use Rattle.std.proofs.Common.{◌≡◌, ◌↔◌, ℕ, ◌+◌, ◌<◌, pos, ◌+ℤ◌, ◌-ℤ◌, ◌&&◌, Bool, true, false, cond, List, [], ◌∷◌, ◌++◌, length, get_or, take, Some, ◌⊎◌, inl, inr, refl, sym, ap, ◌∙◌, subst, append_assoc, IsTrue}
+use Rattle.std.proofs.Common.{◌≡◌, ◌↔◌, ℕ, ◌+◌, ◌<◌, ◌≤◌, pos, ◌+ℤ◌, ◌-ℤ◌, ◌&&◌, Bool, true, false, cond, List, [], ◌∷◌, ◌++◌, length, get_or, take, Some, slice_get, ◌⊎◌, inl, inr, refl, sym, ap, ◌∙◌, subst, append_assoc, IsTrue, arith}
 use Rattle.std.specs.List.{Contains}
 use Rattle.std.proofs.lemmas.List.{append-nil}
 use Rattle.std.proofs.lemmas.List.Elements.{Contains-append_cases, Contains-append_left, Contains-append_right, Contains-push, Contains-push_cases}
@@ -11,11 +11,13 @@ use Rattle.av_types.specs.Places.{section_of}
 use Rattle.av_cells.specs.Grid.{Grid, is_here, cells_of}
 use Rattle.av_play.specs.Parts.{InTerritory}
 use Rattle.av_play.specs.Corners.{corner}
+use Rattle.av_play.proofs.Corners.{by_corners}
 use Rattle.av_play.proofs.Lists.{none_contained}
-use Rattle.av_cluster.specs.Territory.{is_new, one_if, at_column, at_side, territory_list, corner_if, column_if, side_if, corner_list, sections_there}
-use Rattle.av_cluster.specs.Joining.{Owners, Touches, IsTouchedIf, IsNoted, IsBefore}
+use Rattle.av_cluster.specs.Territory.{is_new, one_if, at_column, at_side, territory_list, corner_if, column_if, side_if, corner_list, sections_there, MeetSameSections}
+use Rattle.av_cluster.specs.Forest.{AreJoined}
+use Rattle.av_cluster.specs.Joining.{Owners, Touches, ArePlacesLinked, IsTouchedIf, IsNoted, IsBefore}
 use Rattle.av_cluster.proofs.Sides.{territory_exact}
-use Rattle.av_cluster.proofs.Joinings.{IsWithin, within_more, within_all, taken_more, taken_all}
+use Rattle.av_cluster.proofs.Joinings.{linked_by, around_itself, noted_beside, IsWithin, within_more, within_all, taken_more, taken_all}
 
 module _ (g : Grid) where
   pub there_append : (xs ys : List Pos) → sections_there g (xs ++ ys) ≡ sections_there g xs ++ sections_there g ys
@@ -130,3 +132,33 @@ item_of xs ys e i l d = subst (λ zs. Contains zs (get_or xs i d)) e (i, l, get_
 -- a section with an owner is there
 pub owned_is_there : (g : Grid) (es : List Entry) (ps : List ℕ) (owners : Owners) (D : ℕ → SectionPos → Type 0) → IsNoted (cells_of g) es ps owners D → (s : SectionPos) (k : ℕ) → owners s ≡ Some k → is_here (g s) ≡ true
 owned_is_there g es ps owners D n s k e = let t = (n.done k s (n.owned s k e)).territory in subst (λ u. IsTrue (is_here (g u))) t.lies t.loaded
+
+pub not_first : (n : ℕ) → (n ≡ 0 → ⊥) → 1 ≤ n
+not_first n e = omega (arith, e)
+
+-- reaches that meet the same sections have the same territory
+module _ (g : Grid) where
+  same_territory : (a b : Pos) → MeetSameSections a b → (s : SectionPos) → InTerritory (cells_of g) b s → InTerritory (cells_of g) a s
+  same_territory a b m s t =
+      let h = (by_corners g b s).0 t in
+      (by_corners g a s).1 (record { here = h.here; east = h.east; high = h.high; south = h.south; lies = m.corners h.east h.high h.south ∙ h.lies })
+
+  pub beside_noted : (es : List Entry) (d : Entry) (b place : ℕ) (old new : List ℕ) (owners : Owners) → b < place → place < length es → MeetSameSections (get_or es b d).pos (get_or es place d).pos
+      → IsTrue ((cells_of g).loaded (get_or es place d).pos) → IsNoted (cells_of g) es old owners (IsBefore (cells_of g) es place) → AreJoined old new b place → IsNoted (cells_of g) es new owners (IsBefore (cells_of g) es (place + 1))
+  beside_noted es d b place old new owners less inside m loaded h j = noted_beside (cells_of g) es old new owners b place h less inside j same link where
+    entry_is : (n : ℕ) (x : Entry) → n < length es → slice_get es n ≡ Some x → x ≡ get_or es n d
+    entry_is n x l e = sym (get_or_from_slice_get es n x d e)
+
+    same : (s : SectionPos) → Touches (cells_of g) es place s → Touches (cells_of g) es b s
+    same s t =
+        record {
+          entry = get_or es b d;
+          is_at = slice_get-get_or es b d (omega (arith, less, inside));
+          territory = same_territory (get_or es b d).pos (get_or es place d).pos m s (subst (λ (x : Entry). InTerritory (cells_of g) x.pos s) (entry_is place t.entry inside t.is_at) t.territory);
+        }
+
+    itself : Touches (cells_of g) es place (section_of (get_or es place d).pos)
+    itself = around_itself (cells_of g) es place (get_or es place d) (slice_get-get_or es place d inside) loaded
+
+    link : ArePlacesLinked (cells_of g) es place b
+    link = linked_by (cells_of g) es place b (section_of (get_or es place d).pos) itself (same (section_of (get_or es place d).pos) itself)

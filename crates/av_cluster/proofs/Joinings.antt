@@ -160,6 +160,37 @@ module _ (w : World) (es : List Entry) (old new : List ℕ) (was now : Owners) (
     by (inl c) = noted_joined c.0 c.1 c.2 c.3
     by (inr c) = noted_owned c.0 c.1 c.2
 
+-- a place that touches the sections of one before it
+module _ (w : World) (es : List Entry) (old new : List ℕ) (owners : Owners) (b place : ℕ) (h : IsNoted w es old owners (IsBefore w es place)) (less : b < place) (inside : place < length es) (j : AreJoined old new b place) (same : (s : SectionPos) → Touches w es place s → Touches w es b s) (link : ArePlacesLinked w es place b) where
+  beside_either : (i : ℕ) → IsEither (first old b) (first old place) i → ArePlacesLinked w es place i
+  beside_either i (inl e) = subst (ArePlacesLinked w es place) (sym e) (linked_places_on w es place b (first old b) link (h.linked b (omega (arith, less, inside))))
+  beside_either i (inr e) = subst (ArePlacesLinked w es place) (sym e) (h.linked place inside)
+
+  linked_beside : (k : ℕ) → k < length es → (first new k ≡ first old k) ⊎ (IsEither (first old b) (first old place) (first old k) × IsEither (first old b) (first old place) (first new k)) → ArePlacesLinked w es k (first new k)
+  linked_beside k l (inl e) = subst (ArePlacesLinked w es k) (sym e) (h.linked k l)
+  linked_beside k l (inr e) =
+      linked_places_on w es k (first old k) (first new k) (h.linked k l)
+      (linked_places_on w es (first old k) place (first new k) (linked_places_back w es place (first old k) (beside_either (first old k) e.0)) (beside_either (first new k) e.1))
+
+  joined_beside : (k : ℕ) (s : SectionPos) → IsBefore w es (place + 1) k s → (i : ℕ) × (owners s ≡ Some i) × (first new i ≡ first new k)
+  joined_beside k s d = by (same_or_other k place) where
+    by : (k ≡ place) ⊎ (¬ (k ≡ place)) → (i : ℕ) × (owners s ≡ Some i) × (first new i ≡ first new k)
+    by (inl g) =
+        let r = h.joined b s (less, same s (subst (λ n. Touches w es n s) g d.1)) in
+        (r.0, r.1, j.kept r.0 b r.2 ∙ j.together ∙ ap (first new) (sym g))
+    by (inr g) = let r = h.joined k s (let l = d.0 in omega (arith, l, g), d.1) in (r.0, r.1, j.kept r.0 k r.2)
+
+  pub noted_beside : IsNoted w es new owners (IsBefore w es (place + 1))
+  noted_beside =
+      record {
+        falling = j.falling;
+        count = j.count ∙ h.count;
+        done = λ k s d. d.1;
+        owned = λ s k e. let d = h.owned s k e in (let l = d.0 in omega (arith, l), d.1);
+        joined = joined_beside;
+        linked = λ k l. linked_beside k l (j.only k);
+      }
+
 -- what was looked at, said otherwise
 pub noted_as : (w : World) (es : List Entry) (ps : List ℕ) (owners : Owners) (D E : ℕ → SectionPos → Type 0) → ((k : ℕ) (s : SectionPos) → D k s → E k s) → ((k : ℕ) (s : SectionPos) → E k s → D k s) → IsNoted w es ps owners D → IsNoted w es ps owners E
 noted_as w es ps owners D E f g h =
@@ -172,7 +203,7 @@ noted_as w es ps owners D E f g h =
       linked = h.linked;
     }
 
-around_itself : (w : World) (es : List Entry) (k : ℕ) (e : Entry) → slice_get es k ≡ Some e → IsTrue (w.loaded e.pos) → Touches w es k (section_of e.pos)
+pub around_itself : (w : World) (es : List Entry) (k : ℕ) (e : Entry) → slice_get es k ≡ Some e → IsTrue (w.loaded e.pos) → Touches w es k (section_of e.pos)
 around_itself w es k e h l =
     record {
       entry = e;

@@ -1,5 +1,5 @@
 -- The order of sections, and the territory of a block as a list.
-use Rattle.std.specs.Prelude.{ℤ, pos, ◌+ℤ◌, ◌-ℤ◌, Bool, true, false, not, ◌&&◌, ◌||◌, if◌then◌else◌, int_lt, IsTrue, List, [], ◌∷◌, ◌++◌}
+use Rattle.std.specs.Prelude.{◌≡◌, ℤ, pos, ◌+ℤ◌, ◌-ℤ◌, Bool, true, false, not, ◌&&◌, ◌||◌, if◌then◌else◌, int_lt, IsTrue, List, [], ◌∷◌, ◌++◌}
 use Rattle.std.specs.Ordering.{int_eq}
 use Rattle.std.specs.List.{AllPairs}
 use Rattle.av_types.specs.Division.{divided}
@@ -59,3 +59,9 @@ corner_list p = side_if p false ++ side_if p true
 abbrev pub sections_there : Grid → List Pos → List SectionPos
 sections_there g [] = []
 sections_there g (c ∷ cs) = one_if (is_here (g (section_of c))) (section_of c) ++ sections_there g cs
+
+-- ---- Reaches that meet the same sections. No public clause cites what follows.
+
+-- each corner of one reach lies in the section of the same corner of the other
+pub record MeetSameSections (a b : Pos) : Type 0 where
+  pub corners : (east high south : Bool) → section_of (corner a east high south) ≡ section_of (corner b east high south)

@@ -15,7 +15,7 @@ ghost use Rattle.av_cluster.specs.Joining.{key_of, owner_in, IsTouchedIf, IsNote
 
 use crate::cluster_part::Cluster;
 use crate::forest::{find, join};
-use crate::territories::corners;
+use crate::territories::{corners, meet_same_sections};
 use av_cells::Cells;
 use av_play::Placed;
 use av_types::{Entry, Fault, Height, Pos, SectionPos};
@@ -96,6 +96,32 @@ fn touch_all(
     Ok(())
 }
 
+/// Notes that the entry at a place touches the sections of its territory. Where these are the sections of the entry
+/// before it, the two are joined, and no section is looked up.
+fn touch_next(
+    world: &World,
+    entries: &[Entry],
+    place: usize,
+    owners: &mut Owners,
+    parents: &mut [usize],
+) -> Result<(), Fault>
+    requires place { place < length entries.now }
+    requires loaded { All (λ e. IsTrue ((blocks world.now).loaded e.pos)) entries.now }
+    requires noted { IsNoted (blocks world.now) entries.now parents.old (owner_in owners.old.entries) (IsBefore (blocks world.now) entries.now place) }
+    ensures ok { OnOk result (IsNoted (blocks world.now) entries.now parents.new (owner_in owners.new.entries) (IsBefore (blocks world.now) entries.now (place + 1))) }
+    ensures fault { IfErr result (λ e. e ≡ OutOfMemory) }
+{
+    if place == 0 {
+        return touch_all(world, entries, place, owners, parents);
+    }
+    let before = place - 1;
+    if !meet_same_sections(entries[before].pos, entries[place].pos) {
+        return touch_all(world, entries, place, owners, parents);
+    }
+    join(parents, before, place);
+    Ok(())
+}
+
 /// Joins the entries that share a section.
 fn connect(
     world: &World,
@@ -109,7 +135,7 @@ fn connect(
     ensures fault { IfErr result (λ e. e ≡ OutOfMemory) }
 {
     for place in 0..entries.len() {
-        touch_all(world, entries, place, owners, parents)?;
+        touch_next(world, entries, place, owners, parents)?;
     }
     Ok(())
 }

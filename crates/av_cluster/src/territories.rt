@@ -1,5 +1,5 @@
 //! The sections that a turn may read or change.
-ghost use Rattle.std.specs.Prelude.{◌≡◌, ◌<◌, ◌≤◌, ◌+◌, ◌++◌, ◌&&◌, ◌↔◌, IsTrue, if◌then◌else◌, pos, ◌+ℤ◌, ◌-ℤ◌};
+ghost use Rattle.std.specs.Prelude.{◌≡◌, ◌<◌, ◌≤◌, ◌+◌, ◌++◌, ◌&&◌, ◌↔◌, IsTrue, true, if◌then◌else◌, pos, ◌+ℤ◌, ◌-ℤ◌};
 ghost use Rattle.std.specs.List.{Contains};
 ghost use Rattle.arrayvec.specs.ArrayVec.{array_vec_len};
 ghost use Rattle.av_types.specs.declared.place.Pos.{Pos};
@@ -10,7 +10,7 @@ ghost use Rattle.av_play.specs.Parts.{InTerritory};
 ghost use Rattle.av_play.specs.Corners.{corner};
 ghost use Rattle.av_types.specs.Places.{section_of};
 ghost use Rattle.av_cells.specs.Grid.{is_here};
-ghost use Rattle.av_cluster.specs.Territory.{is_new, one_if, corner_if, column_if, side_if, corner_list, IsRising};
+ghost use Rattle.av_cluster.specs.Territory.{is_new, one_if, corner_if, column_if, side_if, corner_list, IsRising, MeetSameSections};
 
 use arrayvec::ArrayVec;
 use av_cells::Cells;
@@ -133,6 +133,28 @@ pub(crate) fn corners(at: Pos) -> ArrayVec<Pos, 8>
     add_side(at, false, &mut corners);
     add_side(at, true, &mut corners);
     corners
+}
+
+/// Whether two blocks lie in one section.
+fn share_section(a: Pos, b: Pos) -> bool
+    ensures { result ≡ true → section_of a ≡ section_of b }
+{
+    a.section() == b.section()
+}
+
+/// Whether the reaches of two blocks meet the same sections: their lowest corners lie in one, and their highest.
+pub(crate) fn meet_same_sections(a: Pos, b: Pos) -> bool
+    requires a { IsNearOrigin a }
+    requires b { IsNearOrigin b }
+    ensures { result ≡ true → MeetSameSections a b }
+{
+    share_section(
+        corner_of(a, false, false, false),
+        corner_of(b, false, false, false),
+    ) && share_section(
+        corner_of(a, true, true, true),
+        corner_of(b, true, true, true),
+    )
 }
 
 /// Appends the section of a block, where that is loaded.
