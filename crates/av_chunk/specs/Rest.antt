@@ -8,7 +8,7 @@ use Rattle.av_nbt.specs.Shape.{compound_of, or_else}
 use Rattle.av_nbt.specs.View.{views, named_views}
 use Rattle.av_nbt.specs.declared.tag.Tag.{Tag}
 use Rattle.av_nbt.specs.declared.tag.Named.{Named}
-use Rattle.av_document.specs.Chunk.{SectionRest, Rest, section_rest}
+use Rattle.av_document.specs.Chunk.{SectionRest, RestOfChunk, section_rest}
 use Rattle.av_chunk.specs.declared.rest.SectionTags.{SectionTags}
 use Rattle.av_chunk.specs.declared.rest.OutsideSection.{OutsideSection}
 
@@ -46,7 +46,7 @@ found_outside y [] = None
 found_outside y (o ∷ os) = first_some (found_outside y os) (if int_eq y o.y then Some (named_views o.tags.items) else None)
 
 -- a rest, from its name, its tags, its foreign entries, and the sections in the height and out of it
-abbrev pub rest_with : Height → List ℕ → List Named → List Tag → List (Option SectionTags) → List OutsideSection → Rest
+abbrev pub rest_with : Height → List ℕ → List Named → List Tag → List (Option SectionTags) → List OutsideSection → RestOfChunk
 rest_with h name tags foreign sections outside = record {
   name = name;
   tags = named_views tags;

@@ -8,7 +8,7 @@ use Rattle.av_nbt.specs.Shape.{◌>>=◌, or_else}
 use Rattle.av_state.specs.BlockState.{BlockState, air}
 use Rattle.av_section.specs.Section.{number_at, is_pending}
 use Rattle.av_section.specs.declared.section.Section.{Section}
-use Rattle.av_document.specs.Chunk.{Rest}
+use Rattle.av_document.specs.Chunk.{RestOfChunk}
 use Rattle.av_chunk.specs.Rest.{offset_of, rest_with}
 use Rattle.av_chunk.specs.declared.chunk.Chunk.{Chunk}
 use Rattle.av_chunk.specs.declared.rest.ChunkRest.{ChunkRest}
@@ -32,5 +32,5 @@ cells_of table h chunk p = or_else air (state_in table h chunk p)
 abbrev pub pending_in : Height → Chunk → Pos → Bool
 pending_in h chunk p = or_else false (section_in h chunk (divided p.y 16) >>= λ s. Some (is_pending s (place_of p)))
 
-abbrev pub rest_of : ChunkRest → Rest
+abbrev pub rest_of : ChunkRest → RestOfChunk
 rest_of r = rest_with r.height r.name.items r.tags.items r.foreign.items r.sections.items r.outside.items

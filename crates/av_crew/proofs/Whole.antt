@@ -40,7 +40,7 @@ use Rattle.av_crew.specs.Jobs.{IsJob, AreJobs, world_of, made_of, mended_all, Is
 use Rattle.av_cluster.specs.Clusters.{parts_of}
 use Rattle.av_crew.specs.Parts.{picks_of, IsCut, IsPartIn, HaveParts}
 use Rattle.av_crew.specs.Answer.{AnswersAll}
-use Rattle.av_crew.specs.Gathered.{IsGathered}
+use Rattle.av_crew.specs.Gathered.{AreBroughtTogether}
 use Rattle.av_crew.proofs.MadeInside.{AllMadeIn, made_inside, flat_inside, ordered_all}
 use Rattle.av_crew.proofs.Staying.{done_stays}
 use Rattle.av_crew.proofs.Totals.{flat_zip}
@@ -140,7 +140,7 @@ made_in k now g parts picks L same j i =
 pub gathered : (k : ℕ → Kind) (now : ℕ) (g : Grid) (entries : List Entry) (clusters : List Cluster) → IsCut g entries clusters → (l : Lists) → IsTied (cells_of g) l → (rest : Grid) → IsCarved g (picks_of clusters) (length clusters) rest
     → (jobs : List Job) → AreJobs g (parts_of clusters) (picks_of clusters) 0 jobs → length jobs ≡ length clusters → (dones : List Done) → AnswersAll k now jobs dones → All (λ d. d.fault ≡ None) dones
     → (h : cells.World) → h ≡ mended_all (λ d. parcel_blocks d.parcel) l dones (cells_of rest) → (made : List Made) → made ≡ ordered made_order (flat_map (λ d. d.made.items) dones)
-    → IsGathered k now entries (cells_of g) l h made
+    → AreBroughtTogether k now entries (cells_of g) l h made
 gathered k now g entries clusters cut l tied rest carved jobs are count dones a whole h mended made merged =
     let z : AllZip (IsWholeOf k now) a.order dones = zip_whole k now a.order dones a.answered (recursion_from_All (λ d. d.fault ≡ None) dones whole) in
     let hs : h ≡ mended_all (world_of k now) l a.order (cells_of rest) = mended ∙ mended_zip (IsWholeOf k now) (world_of k now) (λ d. parcel_blocks d.parcel) (λ j d e. e.world) l a.order dones (cells_of rest) z in

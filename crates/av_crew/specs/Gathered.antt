@@ -10,7 +10,7 @@ use Rattle.av_play.specs.Waiting.{AreNew, appended}
 
 -- with these entries at the ends of their chunks' lists, the new blocks are what turning all entries one after the other leaves;
 -- and they can be appended
-pub record IsGathered (k : ℕ → Kind) (now : ℕ) (entries : List Entry) (old : World) (lists : Lists) (new : World) (made : List Made) : Type 0 where
+pub record AreBroughtTogether (k : ℕ → Kind) (now : ℕ) (entries : List Entry) (old : World) (lists : Lists) (new : World) (made : List Made) : Type 0 where
   pub whole : appended new lists (entries_of made) ≡ in_order k now entries old lists
   pub fresh : AreNew new (entries_of made)
   pub loaded : AllByRecursion (λ m. IsTrue (new.loaded m.entry.pos)) made

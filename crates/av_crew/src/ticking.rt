@@ -8,7 +8,7 @@ ghost use Rattle.av_cells.specs.Kinds.{kinds_of};
 ghost use Rattle.av_cells.specs.Rule.{HasKinds};
 ghost use Rattle.av_world.specs.Views.{grid, blocks, lists, is_broken, IsSamePlaces};
 ghost use Rattle.av_crew.specs.Parts.{IsCut};
-ghost use Rattle.av_crew.specs.Gathered.{IsGathered};
+ghost use Rattle.av_crew.specs.Gathered.{AreBroughtTogether};
 
 use crate::gates::Gate;
 use crate::parts::{carve_all, mend_all};
@@ -37,7 +37,7 @@ pub fn turn_parts<R: Threads + Wait + Sync, G: Gate + Sync>(
     requires few { vec_len clusters ≤ 4294967295 }
     requires kinds { HasKinds (kind_count kinds.now) (blocks world.old) }
     requires cut { (entries : List Entry) × IsCut (grid world.old) entries clusters.items × All (λ e. IsTrue ((blocks world.old).loaded e.pos)) entries }
-    ensures ok { IfOk result (λ made. (entries : List Entry) → IsCut (grid world.old) entries clusters.items → IsGathered (kinds_of kinds.now) now entries (blocks world.old) (lists world.old) (blocks world.new) made.items) }
+    ensures ok { IfOk result (λ made. (entries : List Entry) → IsCut (grid world.old) entries clusters.items → AreBroughtTogether (kinds_of kinds.now) now entries (blocks world.old) (lists world.old) (blocks world.new) made.items) }
     ensures same { IsSamePlaces world.old world.new }
     ensures fault { IfErr result (λ e. e ≡ OutOfMemory) }
 {

@@ -11,7 +11,7 @@ use Rattle.av_nbt.specs.Nbt.{byte_array, members_of}
 use Rattle.av_nbt.specs.Place.{place}
 use Rattle.av_state.specs.BlockState.{BlockState}
 use Rattle.av_document.specs.Ticks.{lies_in}
-use Rattle.av_document.specs.Chunk.{Rest}
+use Rattle.av_document.specs.Chunk.{RestOfChunk}
 use Rattle.av_document.specs.Law.{LooksInside}
 use Rattle.av_document.specs.Layout.{section_at, section_layout, states_layout, states_of, section_numbers, all_of, compounds, entry_layout, block_at}
 use Rattle.av_document.proofs.Positions.{lies_in-block_at}
@@ -37,7 +37,7 @@ entries_same a b n (e ∷ es) h =
 states_same : (f g : ℕ → BlockState) → ((i : ℕ) → i < 4096 → f i ≡ g i) → states_of f ≡ states_of g
 states_same f g h = map_range f g 0 4096 (λ i less. h i (omega (arith, less)))
 
-section_same : (c : ChunkPos) (h : Height) (f g : Pos → BlockState) (r : Rest) (l m : ℤ → List ℕ) (y : ℤ) → ((p : Pos) → lies_in c h p ≡ true → f p ≡ g p) → (is_section_of h y ≡ true → l y ≡ m y)
+section_same : (c : ChunkPos) (h : Height) (f g : Pos → BlockState) (r : RestOfChunk) (l m : ℤ → List ℕ) (y : ℤ) → ((p : Pos) → lies_in c h p ≡ true → f p ≡ g p) → (is_section_of h y ≡ true → l y ≡ m y)
     → section_at c h f r l y ≡ section_at c h g r m y
 section_same c h f g r l m y same lit = by (is_section_of h y) refl where
   by : (t : Bool) → is_section_of h y ≡ t → cond t (Some (section_layout (r.section y) (λ i. f (block_at c y i)) (l y))) (r.outside y) ≡ cond t (Some (section_layout (r.section y) (λ i. g (block_at c y i)) (m y))) (r.outside y)

@@ -16,7 +16,7 @@ use Rattle.av_nbt.specs.Writing.{IsWellFormed}
 use Rattle.av_state.specs.BlockState.{BlockState}
 use Rattle.av_ticks.specs.Entries.{is_pending}
 use Rattle.av_document.specs.Ticks.{int_at, fluid_of, is_water_name, numbers_of, water_entry, with_entry, with_water}
-use Rattle.av_document.specs.Chunk.{root_tags, ticks, Rest, DenotesChunk}
+use Rattle.av_document.specs.Chunk.{root_tags, ticks, RestOfChunk, DenotesChunk}
 use Rattle.av_document.specs.Law.{HasInts}
 use Rattle.av_document.proofs.Spelled.{IsSpelled, AreSpelled, member_spelled, list_spelled}
 
@@ -93,5 +93,5 @@ ticks_spelled d well = by (tag_of (codes "fluid_ticks") (root_tags d)) refl wher
     rows None f = tt
     rows (Some all) f = list_spelled t all (member_spelled (codes "fluid_ticks") d.members well.spelled.body t well.spelled.tags.1 e) f
 
-pub ints_read : (c : ChunkPos) (h : Height) (d : Document) (cells : Pos → BlockState) (water : List Entry) (rest : Rest) → IsWellFormed d → DenotesChunk c h d cells water rest → AllByRecursion (HasInts 0) water
+pub ints_read : (c : ChunkPos) (h : Height) (d : Document) (cells : Pos → BlockState) (water : List Entry) (rest : RestOfChunk) → IsWellFormed d → DenotesChunk c h d cells water rest → AllByRecursion (HasInts 0) water
 ints_read c h d cells water rest well denotes = subst (AllByRecursion (HasInts 0)) (sym denotes.water_is) (all_ints [] (ticks (root_tags d)) tt (ticks_spelled d well))

@@ -18,7 +18,7 @@ use Rattle.av_section.specs.Palette.{described_state, written_state, state_in, s
 use Rattle.av_section.specs.BlockStates.{read_states, read_indices}
 use Rattle.av_ticks.specs.Entries.{same_pos, is_pending, are_apart}
 use Rattle.av_document.specs.Ticks.{lies_in, fluid_of, water_entry, is_outside, is_bad_tick, with_entry, with_water}
-use Rattle.av_document.specs.Chunk.{root_tags, ticks, tags_at, block_states_of, palette_tag_of, data_tag_of, block_cell, Rest, DenotesChunk}
+use Rattle.av_document.specs.Chunk.{root_tags, ticks, tags_at, block_states_of, palette_tag_of, data_tag_of, block_cell, RestOfChunk, DenotesChunk}
 use Rattle.av_document.specs.Law.{IsMeant, IsLawful}
 use Rattle.av_document.proofs.Faults.{or_parts}
 use Rattle.av_document.proofs.Numbers.{below_from}
@@ -185,7 +185,7 @@ water_apart found (ms ∷ ts) h = water_apart (with_entry found (water_entry ms)
 
 -- ---- the chunk
 
-pub read_is_lawful : (c : ChunkPos) (h : Height) (d : Document) (cells : Pos → BlockState) (water : List Entry) (rest : Rest) → DenotesChunk c h d cells water rest → IsLawful c h cells water
+pub read_is_lawful : (c : ChunkPos) (h : Height) (d : Document) (cells : Pos → BlockState) (water : List Entry) (rest : RestOfChunk) → DenotesChunk c h d cells water rest → IsLawful c h cells water
 read_is_lawful c h d cells water rest denotes = record {
   meant_states = λ p inside. subst IsMeant (sym (denotes.cells_are p inside)) (cell_meant (block_states_of (tags_at (divided p.y 16) (root_tags d))) (place_of p));
   within = subst (AllByRecursion (λ e. lies_in c h e.pos ≡ true)) (sym denotes.water_is) (water_inside c h [] (ticks (root_tags d)) tt (good_from h c (root_tags d) denotes.full denotes.no_fault).tick_states);

@@ -24,7 +24,7 @@ use Rattle.av_pack.specs.Packing.{bits_for, packed}
 use Rattle.av_pack.proofs.Packed.{length-packed}
 use Rattle.av_pack.proofs.Laws.{bits_for-enough}
 use Rattle.av_document.specs.Ticks.{water_entry, foreign}
-use Rattle.av_document.specs.Chunk.{root_tags, sections, ticks, numbered, tags_at, is_number, section_number, block_states_of, section_rest, Rest, DenotesChunk}
+use Rattle.av_document.specs.Chunk.{root_tags, sections, ticks, numbered, tags_at, is_number, section_number, block_states_of, section_rest, RestOfChunk, DenotesChunk}
 use Rattle.av_document.specs.Layout.{compounds, data_tags, states_layout, states_of, section_layout, section_numbers, block_at, section_at, all_of, kept_section, ticks_layout, chunk_layout}
 use Rattle.av_document.specs.Law.{IsMeant, IsLawful, HasInts, WrittenIsWellFormed}
 use Rattle.av_document.proofs.Numbers.{height_fits}
@@ -171,7 +171,7 @@ list_count n d bytes spelled = by (tag_of n (root_tags d)) refl where
         let found = tag_bytes n d.members spelled.body t spelled.tags.1 e in
         omega (arith, few_compounds t found.bytes all found.spelled f, found.few, ap length spelled.parts, length-append spelled.name spelled.body)
 
-module _ (c : ChunkPos) (h : Height) (d : Document) (bytes : List ℕ) (cells now : Pos → BlockState) (water then : List Entry) (sources : Pos → Bool) (rest : Rest) (light : ℤ → List ℕ) (n : ℕ)
+module _ (c : ChunkPos) (h : Height) (d : Document) (bytes : List ℕ) (cells now : Pos → BlockState) (water then : List Entry) (sources : Pos → Bool) (rest : RestOfChunk) (light : ℤ → List ℕ) (n : ℕ)
     (spelled : SpellsDocument d bytes) (small : length bytes ≤ 1044475) (denotes : DenotesChunk c h d cells water rest) (lawful : IsLawful c h now then)
     (ints : AllByRecursion (HasInts n) then) (lit : (y : ℤ) → is_section_of h y ≡ true → length (light y) ≡ 2048) where
   old_good : AreGood 511 (root_tags d)

@@ -21,7 +21,7 @@ use Rattle.av_nbt.proofs.Trees.{members_in_of}
 use Rattle.av_state.specs.BlockState.{BlockState}
 use Rattle.av_section.specs.BlockStates.{when}
 use Rattle.av_document.specs.Ticks.{lies_in, is_bad_tick, int_at, with_water, foreign}
-use Rattle.av_document.specs.Chunk.{root_tags, has_level, status_of, is_full, sections_of, sections, ticks, section_number, is_in_height, numbered, tags_at, is_other, is_bad_list, is_bad_chunk, is_at, is_elsewhere, block_faults, section_faults, loaded_faults, faults, block_cell, block_states_of, cell_of, section_rest, Rest, outside_at, DenotesChunk}
+use Rattle.av_document.specs.Chunk.{root_tags, has_level, status_of, is_full, sections_of, sections, ticks, section_number, is_in_height, numbered, tags_at, is_other, is_bad_list, is_bad_chunk, is_at, is_elsewhere, block_faults, section_faults, loaded_faults, faults, block_cell, block_states_of, cell_of, section_rest, RestOfChunk, outside_at, DenotesChunk}
 use Rattle.av_document.specs.Layout.{compounds, section_layout, section_numbers, block_at, section_at, all_of, ticks_layout, chunk_layout}
 use Rattle.av_document.specs.Law.{sooner, IsMeant, IsLawful, WrittenDenotes}
 use Rattle.av_document.proofs.Judged.{judged}
@@ -129,7 +129,7 @@ module _ (filled_ticks filled_sections : Nbt) (root : List NamedTag) where
 
 -- ---- the chunk that was written
 
-module _ (c : ChunkPos) (h : Height) (d : Document) (cells now : Pos → BlockState) (water then : List Entry) (sources : Pos → Bool) (rest : Rest) (light : ℤ → List ℕ) (n : ℕ)
+module _ (c : ChunkPos) (h : Height) (d : Document) (cells now : Pos → BlockState) (water then : List Entry) (sources : Pos → Bool) (rest : RestOfChunk) (light : ℤ → List ℕ) (n : ℕ)
     (well : IsWellFormed d) (denotes : DenotesChunk c h d cells water rest) (lawful : IsLawful c h now then) where
   abbrev old : List NamedTag
   old = root_tags d

@@ -177,7 +177,7 @@ section_rest ms = record {
 }
 
 -- all but cells, entries and light of a chunk
-pub record Rest : Type 0 where
+pub record RestOfChunk : Type 0 where
   -- the root's name and tags, with `sections` and `fluid_ticks` as empty places
   pub name : List ℕ
   pub tags : List NamedTag
@@ -192,7 +192,7 @@ abbrev pub outside_at : Height → ℤ → List NamedTag → Option (List NamedT
 outside_at h y root = if is_section_of h y then None else numbered y (sections root)
 
 -- A loaded chunk, from the document of its place. It says nothing of positions out of the chunk.
-pub record DenotesChunk (c : ChunkPos) (h : Height) (d : Document) (cells : Pos → BlockState) (water : List Entry) (rest : Rest) : Type 0 where
+pub record DenotesChunk (c : ChunkPos) (h : Height) (d : Document) (cells : Pos → BlockState) (water : List Entry) (rest : RestOfChunk) : Type 0 where
   pub no_fault : least (faults h c (root_tags d)) ≡ None
   pub full : is_full (root_tags d) ≡ true
   pub cells_are : (p : Pos) → lies_in c h p ≡ true → cells p ≡ cell_of (root_tags d) p

@@ -11,7 +11,7 @@ use Rattle.av_nbt.specs.Nbt.{Nbt, int, text, byte_array, list, compound, NamedTa
 use Rattle.av_nbt.specs.Place.{place}
 use Rattle.av_state.specs.BlockState.{BlockState}
 use Rattle.av_section.specs.BlockStates.{palette_tag, data_tag}
-use Rattle.av_document.specs.Chunk.{SectionRest, Rest}
+use Rattle.av_document.specs.Chunk.{SectionRest, RestOfChunk}
 
 -- a Compound of these tags
 abbrev pub compound_with : List NamedTag → Nbt
@@ -53,7 +53,7 @@ abbrev pub block_at : ChunkPos → ℤ → ℕ → Pos
 block_at c y i = record { x = c.x *ℤ pos 16 +ℤ pos (i % 16); y = y *ℤ pos 16 +ℤ pos (i / 256); z = c.z *ℤ pos 16 +ℤ pos (i / 16 % 16) }
 
 -- the section of a number: always there in the height, and out of it as it was read
-abbrev pub section_at : ChunkPos → Height → (Pos → BlockState) → Rest → (ℤ → List ℕ) → ℤ → Option (List NamedTag)
+abbrev pub section_at : ChunkPos → Height → (Pos → BlockState) → RestOfChunk → (ℤ → List ℕ) → ℤ → Option (List NamedTag)
 section_at c h cells rest light y = if is_section_of h y then Some (section_layout (rest.section y) (λ i. cells (block_at c y i)) (light y)) else rest.outside y
 
 abbrev pub kept_section : Option (List NamedTag) → List (List NamedTag)
@@ -81,7 +81,7 @@ ticks_layout sources others water elapsed = compounds (others ++ map (λ e. entr
 -- ---- the whole
 
 -- From the states of its blocks, its water entries, which blocks hold a source, its rest, and for each section in the height its light.
-abbrev pub chunk_layout : ChunkPos → Height → (Pos → BlockState) → List Entry → (Pos → Bool) → Rest → (ℤ → List ℕ) → ℕ → Document
+abbrev pub chunk_layout : ChunkPos → Height → (Pos → BlockState) → List Entry → (Pos → Bool) → RestOfChunk → (ℤ → List ℕ) → ℕ → Document
 chunk_layout c h cells water sources rest light elapsed = record {
   name = rest.name;
   members = members_of (place (codes "fluid_ticks") (ticks_layout sources rest.foreign water elapsed)

@@ -7,7 +7,7 @@ use Rattle.av_types.specs.declared.tick.Entry.{Entry}
 use Rattle.av_nbt.specs.Nbt.{Document}
 use Rattle.av_nbt.specs.Spelling.{SpellsDocument}
 use Rattle.av_state.specs.BlockState.{BlockState}
-use Rattle.av_document.specs.Chunk.{Rest, DenotesChunk}
+use Rattle.av_document.specs.Chunk.{RestOfChunk, DenotesChunk}
 
 -- a document that a region file's sectors can hold
 pub record IsStored (d : Document) : Type 0 where
@@ -16,7 +16,7 @@ pub record IsStored (d : Document) : Type 0 where
   pub few : length bytes ≤ 1044475
 
 -- some such document is that of a loaded chunk with this rest
-pub record WasRead (c : ChunkPos) (h : Height) (rest : Rest) : Type 0 where
+pub record WasRead (c : ChunkPos) (h : Height) (rest : RestOfChunk) : Type 0 where
   pub read : Document
   pub stored : IsStored read
   pub cells : Pos → BlockState

@@ -9,7 +9,7 @@ use Rattle.av_types.specs.declared.tick.Entry.{Entry}
 use Rattle.av_nbt.specs.Nbt.{Document}
 use Rattle.av_state.specs.BlockState.{BlockState, air}
 use Rattle.av_document.specs.Ticks.{lies_in}
-use Rattle.av_document.specs.Chunk.{Rest as ChunkRest, DenotesChunk}
+use Rattle.av_document.specs.Chunk.{RestOfChunk, DenotesChunk}
 use Rattle.av_land.specs.Land.{Land, has_chunk}
 use Rattle.av_files.specs.Denotes.{Rest, IsSlot, absent, kept, full}
 
@@ -21,7 +21,7 @@ pub record AgreeAt (h : Height) (w v : Land BlockState) (r s : Rest) (c : ChunkP
   pub kept_same : r.kept c ≡ s.kept c
   pub chunk : r.chunk c ≡ s.chunk c
 
-pub denotes_kept : (h : Height) (c : ChunkPos) (d : Document) (cells now : Pos → BlockState) (water then : List Entry) (rest other : ChunkRest) → ((p : Pos) → lies_in c h p ≡ true → cells p ≡ now p) → water ≡ then → rest ≡ other
+pub denotes_kept : (h : Height) (c : ChunkPos) (d : Document) (cells now : Pos → BlockState) (water then : List Entry) (rest other : RestOfChunk) → ((p : Pos) → lies_in c h p ≡ true → cells p ≡ now p) → water ≡ then → rest ≡ other
     → DenotesChunk c h d cells water rest → DenotesChunk c h d now then other
 denotes_kept h c d cells now water then rest other same list is den =
     subst (λ x. DenotesChunk c h d now then x) is (subst (λ x. DenotesChunk c h d now x rest) list (record {

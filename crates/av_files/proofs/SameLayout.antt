@@ -18,7 +18,7 @@ use Rattle.av_nbt.specs.Writing.{written_document}
 use Rattle.av_region.specs.Layout.{region_bytes}
 use Rattle.av_state.specs.BlockState.{BlockState}
 use Rattle.av_rules.specs.Rows.{BlockTable}
-use Rattle.av_document.specs.Chunk.{Rest as ChunkRest}
+use Rattle.av_document.specs.Chunk.{RestOfChunk}
 use Rattle.av_document.specs.Law.{IsSameChunk}
 use Rattle.av_document.specs.Layout.{chunk_layout, section_at, section_layout, section_numbers, all_of, compounds, entry_layout, fluid_name, block_at}
 use Rattle.av_land.specs.Land.{Land, has_chunk}
@@ -54,14 +54,14 @@ entries_same sources n m (e ∷ es) =
 
 -- ---- sections
 
-section_same : (c : ChunkPos) (h : Height) (cells : Pos → BlockState) (r s : ChunkRest) (l m : ℤ → List ℕ) (y : ℤ) → ((z : ℤ) → r.outside z ≡ s.outside z) → ((z : ℤ) → is_section_of h z ≡ true → r.section z ≡ s.section z)
+section_same : (c : ChunkPos) (h : Height) (cells : Pos → BlockState) (r s : RestOfChunk) (l m : ℤ → List ℕ) (y : ℤ) → ((z : ℤ) → r.outside z ≡ s.outside z) → ((z : ℤ) → is_section_of h z ≡ true → r.section z ≡ s.section z)
     → ((z : ℤ) → is_section_of h z ≡ true → l z ≡ m z) → section_at c h cells r l y ≡ section_at c h cells s m y
 section_same c h cells r s l m y o a b = by (is_section_of h y) refl where
   by : (t : Bool) → is_section_of h y ≡ t → cond t (Some (section_layout (r.section y) (λ i. cells (block_at c y i)) (l y))) (r.outside y) ≡ cond t (Some (section_layout (s.section y) (λ i. cells (block_at c y i)) (m y))) (s.outside y)
   by true e = let x = a y e in let z = b y e in λ j. Some (section_layout (x j) (λ i. cells (block_at c y i)) (z j))
   by false e = o y
 
-chunk_same : (c : ChunkPos) (h : Height) (cells : Pos → BlockState) (es : List Entry) (sources : Pos → Bool) (r s : ChunkRest) (l m : ℤ → List ℕ) (n k : ℕ) (then now : Pos → BlockState) (a b : List Entry)
+chunk_same : (c : ChunkPos) (h : Height) (cells : Pos → BlockState) (es : List Entry) (sources : Pos → Bool) (r s : RestOfChunk) (l m : ℤ → List ℕ) (n k : ℕ) (then now : Pos → BlockState) (a b : List Entry)
     → IsSameChunk c h then now a b s r → ((z : ℤ) → is_section_of h z ≡ true → l z ≡ m z)
     → chunk_layout c h cells (map (sooner n) es) sources s l k ≡ chunk_layout c h cells es sources r m (k + n)
 chunk_same c h cells es sources r s l m n k then now a b same lit =

@@ -11,7 +11,7 @@ use Rattle.av_nbt.specs.Nbt.{Document}
 use Rattle.av_nbt.specs.Spelling.{SpellsDocument}
 use Rattle.av_region.specs.Region.{IsShort, IsAbsent, Holds, stamp_of}
 use Rattle.av_state.specs.BlockState.{BlockState, air}
-use Rattle.av_document.specs.Chunk.{Rest as ChunkRest, DenotesChunk, root_tags, is_full, faults}
+use Rattle.av_document.specs.Chunk.{RestOfChunk, DenotesChunk, root_tags, is_full, faults}
 use Rattle.av_land.specs.Land.{Land, has_chunk, is_loaded}
 use Rattle.av_files.specs.Files.{File, in_order, same_region, chunks_rise, regions_rise}
 
@@ -23,7 +23,7 @@ pub record Rest : Type 0 where
   -- the payload of a chunk that is kept
   pub kept : ChunkPos → Option (List ℕ)
   -- of a loaded chunk; of any other it means nothing
-  pub chunk : ChunkPos → ChunkRest
+  pub chunk : ChunkPos → RestOfChunk
 
 -- what stands at an index of a file
 pub data IsSlot (h : Height) (w : Land BlockState) (r : Rest) (file : List ℕ) (c : ChunkPos) (index : ℕ) : Type 0 where

@@ -30,7 +30,7 @@ stated states w = record { height = w.height; chunks = w.chunks; at = λ p. slic
 abbrev pub stated_set : List BlockState → Set ℕ → Set BlockState
 stated_set states e = record { tick = e.tick; pos = e.pos; what = slice_index_or states e.what air }
 
-pub record AreNumbered (states : List BlockState) (w : Land ℕ) (es : List (Set ℕ)) : Type 0 where
+pub record AreNumbersOf (states : List BlockState) (w : Land ℕ) (es : List (Set ℕ)) : Type 0 where
   pub list : IsStateList states
   pub blocks : (p : Pos) → w.at p < length states
   pub edits : AllByRecursion (λ e. e.what < length states) es
@@ -40,7 +40,7 @@ pub record IsRun (t : BlockTable) (w : Land BlockState) (es : List (Set BlockSta
   pub states : List BlockState
   pub numbers : Land ℕ
   pub sets : List (Set ℕ)
-  pub numbered : AreNumbered states numbers sets
+  pub numbered : AreNumbersOf states numbers sets
   pub from : w ≡ stated states numbers
   pub edits : es ≡ map (stated_set states) sets
   pub to : v ≡ stated states (run (kinds_in t states) sets n numbers)

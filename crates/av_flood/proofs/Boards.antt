@@ -13,7 +13,7 @@ use Rattle.av_types.specs.Places.{chunk_of, same_pos}
 use Rattle.av_types.proofs.SamePlaces.{same_pos_is, same_pos-refl}
 use Rattle.av_flood.specs.Offsets.{is_within, offset, IsNth, IsBeyond}
 use Rattle.av_flood.specs.Board.{corner, is_on, index_of, IsOff, IsPlace}
-use Rattle.av_flood.specs.Blocks.{IsNear, IsInner, MayBeLoaded, column_at}
+use Rattle.av_flood.specs.Blocks.{IsNear, IsFarFromEnds, MayBeLoaded, column_at}
 use Rattle.av_flood.specs.Flooding.{Matters, IsNearAlong}
 
 and_false_left : (a b : Bool) → a ≡ false → (a && b) ≡ false
@@ -162,7 +162,7 @@ on_board c h n p most m near =
     along : (from x : ℤ) (k : ℕ) → k ≤ 14 → IsNearAlong from k x → is_within (from -ℤ pos 14) 44 x ≡ true
     along from x k few a = let l = a.low in let g = a.high in between (from -ℤ pos 14) x 44 (omega (arith, ints)) (omega (arith, ints))
 
-pub inner_near : (h : Height) (p : Pos) → IsNear h p → IsInner p
+pub inner_near : (h : Height) (p : Pos) → IsNear h p → IsFarFromEnds p
 inner_near h p near =
     let a = near.west in let b = near.east in let c = near.north in let d = near.south in let e = near.low in let f = near.high in
     let i = h.lowest in let j = h.highest in

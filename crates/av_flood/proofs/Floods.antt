@@ -7,7 +7,7 @@ use Rattle.av_types.specs.Places.{same_pos}
 use Rattle.av_types.proofs.SamePlaces.{same_pos_is, same_pos-refl}
 use Rattle.av_flood.specs.declared.spots.Spot.{Spot}
 use Rattle.av_flood.specs.Light.{Terrain, sides, IsAdjacent, cost, HasLight, IsLight}
-use Rattle.av_flood.specs.Flooding.{Matters, Levels, Has, IsMarked, IsSoundAt, IsFlooding, IsPushed, IsPopped, IsNone, IsGrown, IsOffered, IsReady, IsStarted, IsSettled}
+use Rattle.av_flood.specs.Flooding.{Matters, Levels, Has, IsMarked, IsSoundAt, IsFlooding, IsPushed, IsPopped, IsNone, IsGrown, IsOffered, WaitsIfEmitting, IsStarted, IsSettled}
 use Rattle.std.proofs.lemmas.List.{length-map, get_or-map}
 use Rattle.std.proofs.lemmas.Bool.{false≢true, cases_lt}
 use Rattle.std.proofs.lemmas.Bool.Decides.{eqb_tells, nat_tests}
@@ -222,26 +222,26 @@ above_zero n zero e h = absurd (h e)
 above_zero n (suc m) e h = omega arith
 
 -- blocks that emit light
-pub IsReady-grown : (t : Terrain) (c : ChunkPos) (n : ℕ) (old new : Levels) (p : Pos) → IsGrown t c n old new → IsReady t c old p → IsReady t c new p
-IsReady-grown t c n old new p g h = record { ready = λ l e m. g.kept (t.emission p) p (h.ready l e m) }
+pub WaitsIfEmitting-grown : (t : Terrain) (c : ChunkPos) (n : ℕ) (old new : Levels) (p : Pos) → IsGrown t c n old new → WaitsIfEmitting t c old p → WaitsIfEmitting t c new p
+WaitsIfEmitting-grown t c n old new p g h = record { ready = λ l e m. g.kept (t.emission p) p (h.ready l e m) }
 
-pub IsReady-pushed : (t : Terrain) (c : ChunkPos) (n : ℕ) (old new : Levels) (p : Pos) → n ≡ t.emission p → IsPushed old new n p → IsReady t c new p
-IsReady-pushed t c n old new p is pushed = record { ready = λ l e m. subst (λ v. Contains (new v) p) is (IsPushed-there old new n p pushed) }
+pub WaitsIfEmitting-pushed : (t : Terrain) (c : ChunkPos) (n : ℕ) (old new : Levels) (p : Pos) → n ≡ t.emission p → IsPushed old new n p → WaitsIfEmitting t c new p
+WaitsIfEmitting-pushed t c n old new p is pushed = record { ready = λ l e m. subst (λ v. Contains (new v) p) is (IsPushed-there old new n p pushed) }
 
-pub IsReady-unloaded : (t : Terrain) (c : ChunkPos) (todo : Levels) (p : Pos) → t.loaded p ≡ false → IsReady t c todo p
-IsReady-unloaded t c todo p e = record { ready = λ l g m. absurd (false≢true (sym e ∙ l)) }
+pub WaitsIfEmitting-unloaded : (t : Terrain) (c : ChunkPos) (todo : Levels) (p : Pos) → t.loaded p ≡ false → WaitsIfEmitting t c todo p
+WaitsIfEmitting-unloaded t c todo p e = record { ready = λ l g m. absurd (false≢true (sym e ∙ l)) }
 
-pub IsReady-dark : (t : Terrain) (c : ChunkPos) (todo : Levels) (n : ℕ) (p : Pos) → n ≡ t.emission p → n ≡ 0 → IsReady t c todo p
-IsReady-dark t c todo n p is e = record { ready = λ l g m. absurd (omega arith) }
+pub WaitsIfEmitting-dark : (t : Terrain) (c : ChunkPos) (todo : Levels) (n : ℕ) (p : Pos) → n ≡ t.emission p → n ≡ 0 → WaitsIfEmitting t c todo p
+WaitsIfEmitting-dark t c todo n p is e = record { ready = λ l g m. absurd (omega arith) }
 
-pub IsReady-far : (t : Terrain) (c : ChunkPos) (todo : Levels) (n : ℕ) (p : Pos) → n ≡ t.emission p → (Matters c n p → ⊥) → IsReady t c todo p
-IsReady-far t c todo n p is far = record { ready = λ l g m. absurd (far (subst (λ v. Matters c v p) (sym is) m)) }
+pub WaitsIfEmitting-far : (t : Terrain) (c : ChunkPos) (todo : Levels) (n : ℕ) (p : Pos) → n ≡ t.emission p → (Matters c n p → ⊥) → WaitsIfEmitting t c todo p
+WaitsIfEmitting-far t c todo n p is far = record { ready = λ l g m. absurd (far (subst (λ v. Matters c v p) (sym is) m)) }
 
 pub IsSoundAt-emitted : (t : Terrain) (c : ChunkPos) (n : ℕ) (p : Pos) → n ≡ t.emission p → IsTrue (t.loaded p) → 0 < n → Matters c n p → IsSoundAt t c n p
 IsSoundAt-emitted t c n p is l positive m = record { loaded = l; positive = positive; matters = m; comes = subst (HasLight t p) (sym is) (HasLight-emitted t p l) }
 
 pub IsStarted-all : (t : Terrain) (c : ChunkPos) (old new : Levels) → ((n : ℕ) → old n ≡ []) → IsGrown t c 16 old new
-    → ((p : Pos) → IsTrue (t.loaded p) → Matters c (t.emission p) p → IsReady t c new p) → IsStarted t c new
+    → ((p : Pos) → IsTrue (t.loaded p) → Matters c (t.emission p) p → WaitsIfEmitting t c new p) → IsStarted t c new
 IsStarted-all t c old new none g all =
     record {
       emits = λ p l e m. (all p l m).ready l e m;
@@ -266,8 +266,8 @@ IsFlooding-started t c lit todo dark h =
       low = h.low;
     }
 
-pub IsReady-known : (t : Terrain) (c : ChunkPos) (todo : Levels) (p : Pos) → (0 < t.emission p → IsReady t c todo p) → IsReady t c todo p
-IsReady-known t c todo p known = record { ready = λ l e m. (known e).ready l e m }
+pub WaitsIfEmitting-known : (t : Terrain) (c : ChunkPos) (todo : Levels) (p : Pos) → (0 < t.emission p → WaitsIfEmitting t c todo p) → WaitsIfEmitting t c todo p
+WaitsIfEmitting-known t c todo p known = record { ready = λ l e m. (known e).ready l e m }
 
 -- marks
 pub Has-same : (lit lit' : Pos → ℕ) (todo : Levels) (p : Pos) (n : ℕ) → ((q : Pos) → lit' q ≡ lit q) → Has lit todo p n → Has lit' todo p n

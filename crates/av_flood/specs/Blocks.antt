@@ -16,7 +16,7 @@ pub record IsNear (h : Height) (p : Pos) : Type 0 where
   pub high : p.y <ℤ (pos 16 *ℤ h.min_section +ℤ pos (16 * h.sections))
 
 -- far from the ends of the coordinates' range
-pub record IsInner (p : Pos) : Type 0 where
+pub record IsFarFromEnds (p : Pos) : Type 0 where
   pub west : negsuc 2147483646 ≤ℤ p.x
   pub east : p.x ≤ℤ pos 2147483646
   pub north : negsuc 2147483646 ≤ℤ p.z

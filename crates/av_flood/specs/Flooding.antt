@@ -91,7 +91,7 @@ abbrev pub count_in : Buckets → ℕ → ℕ
 count_in b n = length (todo_of b n)
 
 -- if it emits light that may come to the chunk it waits for it
-pub record IsReady (t : Terrain) (c : ChunkPos) (todo : Levels) (p : Pos) : Type 0 where
+pub record WaitsIfEmitting (t : Terrain) (c : ChunkPos) (todo : Levels) (p : Pos) : Type 0 where
   pub ready : IsTrue (t.loaded p) → 0 < t.emission p → Matters c (t.emission p) p → Contains (todo (t.emission p)) p
 
 -- all that emit light that may come to the chunk wait for it

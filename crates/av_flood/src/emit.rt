@@ -2,7 +2,7 @@
 ghost use Rattle.std.specs.Prelude.{◌≡◌, ◌≤◌, ◌<◌, ℕ, pos, negsuc, ◌+ℤ◌, ◌-ℤ◌, ◌≤ℤ◌, OnOk, [], Contains};
 ghost use Rattle.av_types.specs.declared.place.Pos.{Pos};
 ghost use Rattle.av_flood.specs.Blocks.{MayBeLoaded, AreKnown, column_at};
-ghost use Rattle.av_flood.specs.Flooding.{todo_of, IsGrown, IsStarted, IsReady};
+ghost use Rattle.av_flood.specs.Flooding.{todo_of, IsGrown, IsStarted, WaitsIfEmitting};
 
 use crate::blocks::Blocks;
 use crate::buckets::Buckets;
@@ -18,7 +18,7 @@ fn emit<B: Blocks>(
     buckets: &mut Buckets,
 ) -> Result<(), AllocError>
     ensures grown { OnOk result (IsGrown (B.terrain blocks.now) chunk 16 (todo_of buckets.old) (todo_of buckets.new)) }
-    ensures ready { OnOk result (IsReady (B.terrain blocks.now) chunk (todo_of buckets.new) pos) }
+    ensures ready { OnOk result (WaitsIfEmitting (B.terrain blocks.now) chunk (todo_of buckets.new) pos) }
 {
     let Some(level) = blocks.emission(pos) else {
         return Ok(());
@@ -41,7 +41,7 @@ fn emit_all<B: Blocks>(
     buckets: &mut Buckets,
 ) -> Result<(), AllocError>
     ensures grown { OnOk result (IsGrown (B.terrain blocks.now) chunk 16 (todo_of buckets.old) (todo_of buckets.new)) }
-    ensures ready { OnOk result ((p : Pos) → Contains lamps.now p → IsReady (B.terrain blocks.now) chunk (todo_of buckets.new) p) }
+    ensures ready { OnOk result ((p : Pos) → Contains lamps.now p → WaitsIfEmitting (B.terrain blocks.now) chunk (todo_of buckets.new) p) }
 {
     for lamp in lamps {
         emit(chunk, blocks, *lamp, buckets)?;

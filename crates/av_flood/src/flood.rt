@@ -5,7 +5,7 @@ ghost use Rattle.av_types.specs.declared.place.Pos.{Pos};
 ghost use Rattle.av_flood.specs.Light.{IsAdjacent, HasLight, IsLight};
 ghost use Rattle.av_flood.specs.Board.{is_on, light_of, byte_of};
 ghost use Rattle.av_flood.specs.Spots.{IsSpot};
-ghost use Rattle.av_flood.specs.Blocks.{IsInner, MayBeLoaded, AreKnown};
+ghost use Rattle.av_flood.specs.Blocks.{IsFarFromEnds, MayBeLoaded, AreKnown};
 ghost use Rattle.av_flood.specs.Flooding.{todo_of, IsMarked, IsGrown, IsOffered, IsFlooding};
 
 use crate::blocks::Blocks;
@@ -69,7 +69,7 @@ fn spread<B: Blocks>(
 ) -> Result<(), AllocError>
     requires level { level < 16 }
     requires height { flood.old.height ≡ B.tall blocks.now }
-    requires inner { IsInner pos }
+    requires inner { IsFarFromEnds pos }
     requires on { IsTrue (is_on flood.old.chunk flood.old.height pos) }
     requires comes { HasLight (B.terrain blocks.now) pos level }
     requires bright { (q : Pos) → 0 < light_of flood.old q → level ≤ light_of flood.old q }

@@ -1,13 +1,13 @@
 //! The blocks that share a face with a block.
 ghost use Rattle.std.specs.Prelude.{◌≡◌};
 ghost use Rattle.av_flood.specs.Light.{below, above, north, south, west, east};
-ghost use Rattle.av_flood.specs.Blocks.{IsInner};
+ghost use Rattle.av_flood.specs.Blocks.{IsFarFromEnds};
 
 use av_types::Pos;
 
 /// The block below it.
 pub(crate) fn below(pos: Pos) -> Pos
-    requires { IsInner pos }
+    requires { IsFarFromEnds pos }
     ensures { result ≡ below pos }
 {
     Pos {
@@ -19,7 +19,7 @@ pub(crate) fn below(pos: Pos) -> Pos
 
 /// The block above it.
 pub(crate) fn above(pos: Pos) -> Pos
-    requires { IsInner pos }
+    requires { IsFarFromEnds pos }
     ensures { result ≡ above pos }
 {
     Pos {
@@ -31,7 +31,7 @@ pub(crate) fn above(pos: Pos) -> Pos
 
 /// The block north of it.
 pub(crate) fn north(pos: Pos) -> Pos
-    requires { IsInner pos }
+    requires { IsFarFromEnds pos }
     ensures { result ≡ north pos }
 {
     Pos {
@@ -43,7 +43,7 @@ pub(crate) fn north(pos: Pos) -> Pos
 
 /// The block south of it.
 pub(crate) fn south(pos: Pos) -> Pos
-    requires { IsInner pos }
+    requires { IsFarFromEnds pos }
     ensures { result ≡ south pos }
 {
     Pos {
@@ -55,7 +55,7 @@ pub(crate) fn south(pos: Pos) -> Pos
 
 /// The block west of it.
 pub(crate) fn west(pos: Pos) -> Pos
-    requires { IsInner pos }
+    requires { IsFarFromEnds pos }
     ensures { result ≡ west pos }
 {
     Pos {
@@ -67,7 +67,7 @@ pub(crate) fn west(pos: Pos) -> Pos
 
 /// The block east of it.
 pub(crate) fn east(pos: Pos) -> Pos
-    requires { IsInner pos }
+    requires { IsFarFromEnds pos }
     ensures { result ≡ east pos }
 {
     Pos {

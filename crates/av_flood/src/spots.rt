@@ -89,7 +89,7 @@ fn after(steps: u32, size: u32, index: usize, apart: usize) -> Option<usize>
 impl Flood {
     ghost use Rattle.av_flood.specs.Light.{sides, below, above, north, south, west, east};
     ghost use Rattle.av_flood.specs.Board.{is_on};
-    ghost use Rattle.av_flood.specs.Blocks.{IsInner};
+    ghost use Rattle.av_flood.specs.Blocks.{IsFarFromEnds};
     ghost use Rattle.av_flood.specs.Spots.{IsSpot, AreSteps};
 
     /// How far a block of the board is from its ends.
@@ -106,7 +106,7 @@ impl Flood {
 
     /// The block below one of the board.
     fn spot_below(&self, pos: Pos, steps: Steps) -> Spot
-        requires inner { IsInner pos }
+        requires inner { IsFarFromEnds pos }
         requires steps { AreSteps self.now.chunk self.now.height pos steps }
         ensures pos { result.pos ≡ below pos }
         ensures spot { IsSpot self.now.chunk self.now.height result }
@@ -119,7 +119,7 @@ impl Flood {
 
     /// The block above one of the board.
     fn spot_above(&self, pos: Pos, steps: Steps) -> Spot
-        requires inner { IsInner pos }
+        requires inner { IsFarFromEnds pos }
         requires steps { AreSteps self.now.chunk self.now.height pos steps }
         ensures pos { result.pos ≡ above pos }
         ensures spot { IsSpot self.now.chunk self.now.height result }
@@ -132,7 +132,7 @@ impl Flood {
 
     /// The block north of one of the board.
     fn spot_north(&self, pos: Pos, steps: Steps) -> Spot
-        requires inner { IsInner pos }
+        requires inner { IsFarFromEnds pos }
         requires steps { AreSteps self.now.chunk self.now.height pos steps }
         ensures pos { result.pos ≡ north pos }
         ensures spot { IsSpot self.now.chunk self.now.height result }
@@ -145,7 +145,7 @@ impl Flood {
 
     /// The block south of one of the board.
     fn spot_south(&self, pos: Pos, steps: Steps) -> Spot
-        requires inner { IsInner pos }
+        requires inner { IsFarFromEnds pos }
         requires steps { AreSteps self.now.chunk self.now.height pos steps }
         ensures pos { result.pos ≡ south pos }
         ensures spot { IsSpot self.now.chunk self.now.height result }
@@ -158,7 +158,7 @@ impl Flood {
 
     /// The block west of one of the board.
     fn spot_west(&self, pos: Pos, steps: Steps) -> Spot
-        requires inner { IsInner pos }
+        requires inner { IsFarFromEnds pos }
         requires steps { AreSteps self.now.chunk self.now.height pos steps }
         ensures pos { result.pos ≡ west pos }
         ensures spot { IsSpot self.now.chunk self.now.height result }
@@ -171,7 +171,7 @@ impl Flood {
 
     /// The block east of one of the board.
     fn spot_east(&self, pos: Pos, steps: Steps) -> Spot
-        requires inner { IsInner pos }
+        requires inner { IsFarFromEnds pos }
         requires steps { AreSteps self.now.chunk self.now.height pos steps }
         ensures pos { result.pos ≡ east pos }
         ensures spot { IsSpot self.now.chunk self.now.height result }
@@ -184,7 +184,7 @@ impl Flood {
 
     /// The blocks that share a face with one of the board.
     pub(crate) fn beside(&self, pos: Pos) -> [Spot; 6]
-        requires inner { IsInner pos }
+        requires inner { IsFarFromEnds pos }
         requires on { IsTrue (is_on self.now.chunk self.now.height pos) }
         ensures places { map (λ s. s.pos) result ≡ sides pos }
         ensures spots { All (IsSpot self.now.chunk self.now.height) result }

@@ -14,13 +14,13 @@ use Rattle.av_files.specs.Run.{IsRun}
 use Rattle.av_files.specs.Headline.{Reaches}
 use Rattle.av_files.proofs.SameLayout.{files_resume}
 use Rattle.av_files.proofs.Unique.{denote_one}
-use Rattle.av_headline.specs.Resumed.{IsSplit, SameRun, RunsResume}
+use Rattle.av_headline.specs.Resumed.{AreEditsSplit, SameOutcome, RunsResume}
 use Rattle.av_headline.proofs.SameFiles.{same_layout}
 use Rattle.av_headline.proofs.Alike.{rules_one, reaches_at, stands}
 
 module _ (files mid : List File) (table text first then : List ℕ) (n m i j k : ℕ) (t : BlockTable) (h : Height) (q r s : Rest) (v x u : Land BlockState) (light mine other : Lights) (c d e a b z : ℕ) where
-  three_at : IsSplit text first then n → Reaches files table first n i r t h v light c a → Denotes h mid (shifted n v) r → Reaches mid table then m j s t h x mine d b → Reaches files table text (m + n) k q t h u other e z
-      → SameRun (layout t x s mine m) (layout t u q other (m + n)) c d e b z
+  three_at : AreEditsSplit text first then n → Reaches files table first n i r t h v light c a → Denotes h mid (shifted n v) r → Reaches mid table then m j s t h x mine d b → Reaches files table text (m + n) k q t h u other e z
+      → SameOutcome (layout t x s mine m) (layout t u q other (m + n)) c d e b z
   three_at split one written two all =
       let world = one.world in
       let same = denote_one h files world all.world r q one.accepted.denotes all.accepted.denotes in

@@ -16,15 +16,15 @@ file_in f = record { pos = f.pos; bytes = f.bytes.items }
 abbrev pub placed_order : Placed → Placed → Ordering
 placed_order a b = chunk_order a.at b.at
 
-pub record AreJudged (files sorted : List File) : Type 0 where
+pub record AreFilesInOrder (files sorted : List File) : Type 0 where
   pub limits : AllInLimits files
   pub apart : share_a_region files ≡ false
   pub order : sorted ≡ in_order files
   pub rise : regions_rise (map (λ f. f.pos) sorted) ≡ true
 
-pub data IsListFault (files : List File) (e : Fault) : Type 0 where
-  range : ¬ AllInLimits files → e ≡ RegionRange → IsListFault files e
-  repeated : AllInLimits files → share_a_region files ≡ true → e ≡ RepeatedRegion → IsListFault files e
+pub data IsRegionsFault (files : List File) (e : Fault) : Type 0 where
+  range : ¬ AllInLimits files → e ≡ RegionRange → IsRegionsFault files e
+  repeated : AllInLimits files → share_a_region files ≡ true → e ≡ RepeatedRegion → IsRegionsFault files e
 
 abbrev pub region_before : RegionPos → RegionPos → Bool
 region_before p q = int_lt p.z q.z || (int_eq p.z q.z && int_lt p.x q.x)

@@ -3,7 +3,7 @@ use Rattle.std.specs.Prelude.{ℕ, List, [], ◌∷◌, Option, Some, None, map,
 use Rattle.av_types.specs.Places.{region_of, index_of}
 use Rattle.av_types.specs.declared.place.ChunkPos.{ChunkPos}
 use Rattle.av_types.specs.declared.place.RegionPos.{RegionPos}
-use Rattle.av_document.specs.Chunk.{Rest as ChunkRest}
+use Rattle.av_document.specs.Chunk.{RestOfChunk}
 use Rattle.av_chunk.specs.Views.{rest_of}
 use Rattle.av_files.specs.Files.{same_region}
 use Rattle.av_files.specs.Denotes as files
@@ -35,10 +35,10 @@ kept_in (Some (slots.Kept p)) = Some p.items
 kept_in (Some (slots.Loaded r)) = None
 
 -- of no loaded chunk
-abbrev pub no_rest : ChunkRest
+abbrev pub no_rest : RestOfChunk
 no_rest = record { name = []; tags = []; foreign = []; outside = λ y. None; section = λ y. record { tags = []; states = [] } }
 
-abbrev pub chunk_rest_in : Option Slot → ChunkRest
+abbrev pub chunk_rest_in : Option Slot → RestOfChunk
 chunk_rest_in None = no_rest
 chunk_rest_in (Some slots.Absent) = no_rest
 chunk_rest_in (Some (slots.Kept p)) = no_rest

@@ -13,7 +13,7 @@ ghost use Rattle.av_world.specs.Lands.{land_of, IsWhole};
 ghost use Rattle.av_world.specs.Views.{positions_of, is_broken};
 ghost use Rattle.av_image.specs.Views.{rest_in};
 ghost use Rattle.av_image.specs.Saving.{IsRestOf};
-ghost use Rattle.av_image.specs.Loading.{file_in, placed_order, region_before, comes_after, AreJudged, IsListFault};
+ghost use Rattle.av_image.specs.Loading.{file_in, placed_order, region_before, comes_after, AreFilesInOrder, IsRegionsFault};
 
 use crate::regions::read_regions;
 use crate::rest::Rest;
@@ -90,9 +90,9 @@ fn do_rise(files: &[RegionFile]) -> bool
 
 /// Files of regions within the limits, each region once, in their order.
 fn judged(files: Vec<RegionFile>) -> Result<Vec<RegionFile>, Fault>
-    ensures ok { IfOk result (λ fs. AreJudged (map file_in files.items) (map file_in fs.items)) }
+    ensures ok { IfOk result (λ fs. AreFilesInOrder (map file_in files.items) (map file_in fs.items)) }
     ensures limits { IfOk result (λ fs. All (λ f. IsInLimits f.pos) fs.items) }
-    ensures err { IfErr result (λ e. e ≢ OutOfMemory → IsListFault (map file_in files.items) e) }
+    ensures err { IfErr result (λ e. e ≢ OutOfMemory → IsRegionsFault (map file_in files.items) e) }
 {
     if !are_in_limits(files.as_slice()) {
         return Err(Fault::RegionRange);

@@ -1,5 +1,5 @@
 -- Loaded blocks of a world lie in its height and within the limits of regions. Working lemmas: no public clause cites them.
-use Rattle.std.specs.Prelude.{ℕ, ℤ, ◌≡◌, ◌*◌, ◌<◌, pos, negsuc, ◌+ℤ◌, ◌*ℤ◌, ◌≤ℤ◌, ◌<ℤ◌, int_le, int_lt, List, length, true, IsTrue, ◌&&◌}
+use Rattle.std.specs.Prelude.{ℕ, ℤ, ◌*◌, ◌<◌, pos, negsuc, ◌+ℤ◌, ◌*ℤ◌, ◌≤ℤ◌, ◌<ℤ◌, List, length, IsTrue}
 use Rattle.std.proofs.Common.{arith, subst}
 use Rattle.std.proofs.lemmas.Int.{ints}
 use Rattle.av_types.specs.Division.{divided}
@@ -12,11 +12,8 @@ use Rattle.av_cells.specs.Grid.{cells_of}
 use Rattle.av_flood.specs.Blocks.{IsNear}
 use Rattle.av_world.specs.Index.{slot}
 use Rattle.av_world.specs.Lawful.{IsWorld}
-use Rattle.av_world.specs.Near.{has_place, slot_at, low_end, high_end}
+use Rattle.av_world.specs.Near.{has_place, slot_at, low_end, high_end, le_and_lt}
 use Rattle.av_world.specs.Sections.{grid_of}
-
-both : (a b c d : ℤ) → int_le a b && int_lt c d ≡ true → (a ≤ℤ b) × (c <ℤ d)
-both a b c d h = grind (arith, ints)
 
 lowest : (m y : ℤ) → m ≤ℤ divided y 16 → (pos 16 *ℤ m) ≤ℤ y
 lowest m (pos n) h = omega (arith, ints)
@@ -32,7 +29,7 @@ blocks_near h ps cs w p t =
     let within : slot ps (chunk_of p) < length ps = place.chunk in
     let near : IsInLimits (region_of (chunk_of p)) =
     subst (λ c. IsInLimits (region_of c)) (slot_at ps (chunk_of p) (chunk_of p) within) (w.limits (slot ps (chunk_of p)) (chunk_of p) within) in
-    let high = both h.min_section (divided p.y 16) (divided p.y 16) (h.min_section +ℤ pos h.sections) place.high in
+    let high = le_and_lt h.min_section (divided p.y 16) (divided p.y 16) (h.min_section +ℤ pos h.sections) place.high in
     record {
       west = low_end p.x near.west;
       east = high_end p.x near.east;

@@ -4,10 +4,10 @@ use Rattle.std.specs.List.{slice_get}
 use Rattle.std.proofs.lemmas.Option.{slice_get-get_or}
 use Rattle.av_region.specs.Layout.{HoldsAll}
 use Rattle.av_region.specs.Region.{stamp_of}
-use Rattle.av_rewrite.specs.Regions.{AreMadeOf, AreStamps, HoldsMade, IsRegionOf, none, one}
+use Rattle.av_rewrite.specs.Regions.{AreMadeOf, AreStamps, HoldsMade, IsRegionMadeOf, none, one}
 
 pub made_region : (Made : ℕ → List ℕ → List ℕ → Type 0) (old new : List ℕ) (payloads : List (Option (List ℕ))) (stamps : List ℕ)
-    → AreMadeOf Made old 1024 payloads → AreStamps old 1024 stamps → HoldsAll new payloads stamps → IsRegionOf Made old new
+    → AreMadeOf Made old 1024 payloads → AreStamps old 1024 stamps → HoldsAll new payloads stamps → IsRegionMadeOf Made old new
 made_region Made old new payloads stamps made stamped holds = record {
   chunks = λ index lt. chunk index (get_or payloads index None) (there index lt);
   stamps = λ index lt. stamp index (get_or stamps index 0) (stamp_there index lt);

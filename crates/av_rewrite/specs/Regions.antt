@@ -33,6 +33,6 @@ pub data HoldsMade (Made : ℕ → List ℕ → List ℕ → Type 0) (old new : 
   one : (payload bytes : List ℕ) → Holds old index payload → Made index payload bytes → Holds new index bytes → HoldsMade Made old new index
 
 -- a region of what is made of another one's chunks, each at its index, with all timestamps as they were
-pub record IsRegionOf (Made : ℕ → List ℕ → List ℕ → Type 0) (old new : List ℕ) : Type 0 where
+pub record IsRegionMadeOf (Made : ℕ → List ℕ → List ℕ → Type 0) (old new : List ℕ) : Type 0 where
   pub chunks : (index : ℕ) → index < 1024 → HoldsMade Made old new index
   pub stamps : (index : ℕ) → index < 1024 → stamp_of new index ≡ stamp_of old index

@@ -11,7 +11,7 @@ use Rattle.av_nbt.specs.Spelling.{SpellsDocument}
 use Rattle.av_region.specs.Region.{Holds, IsAbsent}
 use Rattle.av_state.specs.BlockState.{BlockState}
 use Rattle.av_section.specs.Reading.{OnlyGrows}
-use Rattle.av_document.specs.Chunk.{Rest, is_full, root_tags}
+use Rattle.av_document.specs.Chunk.{RestOfChunk, is_full, root_tags}
 use Rattle.av_document.specs.Law.{SpellsChunk}
 use Rattle.av_chunk.specs.Reading.{IsLoaded}
 use Rattle.av_chunk.specs.declared.chunk.Chunk.{Chunk}
@@ -26,7 +26,7 @@ place_at index = chunk_at (record { x = pos 0; z = pos 0 }) index
 -- bytes for a chunk: of one that is not full the payload itself, and of a loaded one bytes that spell the same blocks, water entries and rest
 pub data IsRewritten (h : Height) (index : ℕ) (payload bytes : List ℕ) : Type 0 where
   kept : (d : Document) → SpellsDocument d payload → is_full (root_tags d) ≡ false → bytes ≡ payload → IsRewritten h index payload bytes
-  loaded : (cells : Pos → BlockState) (water : List Entry) (rest : Rest) → SpellsChunk (place_at index) h payload cells water rest → SpellsChunk (place_at index) h bytes cells water rest → IsRewritten h index payload bytes
+  loaded : (cells : Pos → BlockState) (water : List Entry) (rest : RestOfChunk) → SpellsChunk (place_at index) h payload cells water rest → SpellsChunk (place_at index) h bytes cells water rest → IsRewritten h index payload bytes
 
 -- Working definitions from here on.
 

@@ -1,6 +1,6 @@
 //! Decoding every chunk of a region, and writing a region of what was decoded.
 ghost use Rattle.std.specs.Prelude.{◌≤◌, IfOk, map, option_map};
-ghost use Rattle.av_rewrite.specs.Regions.{AreMadeOf, AreStamps, IsMadeOf, IsRecoded, IsRegionOf};
+ghost use Rattle.av_rewrite.specs.Regions.{AreMadeOf, AreStamps, IsMadeOf, IsRecoded, IsRegionMadeOf};
 
 use av_nbt::{decode, encode};
 use av_region::{Region, write};
@@ -54,7 +54,7 @@ pub(crate) fn stamps_of(alloc: Global, region: &Region<'_>) -> Result<Vec<u32>, 
 /// # Errors
 /// What `Region::read`, `Region::payload` and `decode` refuse, and what the new file can't hold. `OutOfMemory`.
 pub fn recode(alloc: Global, bytes: &[u8]) -> Result<Vec<u8>, Fault>
-    ensures { IfOk result (λ file. IsRegionOf (λ _. IsRecoded) bytes.now file.items) }
+    ensures { IfOk result (λ file. IsRegionMadeOf (λ _. IsRecoded) bytes.now file.items) }
 {
     let region = Region::read(bytes)?;
     let payloads = recode_chunks(alloc, &region)?;

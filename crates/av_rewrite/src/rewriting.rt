@@ -6,7 +6,7 @@ ghost use Rattle.av_section.specs.Reading.{OnlyGrows};
 ghost use Rattle.av_region.specs.Region.{Holds};
 ghost use Rattle.av_chunk.specs.Light.{section_count};
 ghost use Rattle.av_chunk.specs.Writing.{states_of_kinds};
-ghost use Rattle.av_rewrite.specs.Regions.{AreMadeOf, IsMadeOf, IsRegionOf};
+ghost use Rattle.av_rewrite.specs.Regions.{AreMadeOf, IsMadeOf, IsRegionMadeOf};
 ghost use Rattle.av_rewrite.specs.Rewriting.{AreSlots, IsRewritten, IsSlot, SlotWasRead, SlotsWereRead};
 
 use crate::recoding::stamps_of;
@@ -142,7 +142,7 @@ fn write_slots(
 /// # Errors
 /// What `Region::read`, `Region::payload`, `decode` and `Chunk::read` refuse, and what the new file can't hold. `OutOfMemory`.
 pub fn rewrite(alloc: Global, bytes: &[u8], height: Height) -> Result<Vec<u8>, Fault>
-    ensures { IfOk result (λ file. IsRegionOf (IsRewritten height) bytes.now file.items) }
+    ensures { IfOk result (λ file. IsRegionMadeOf (IsRewritten height) bytes.now file.items) }
 {
     let region = Region::read(bytes)?;
     let mut table = StateTable::new(alloc)?;

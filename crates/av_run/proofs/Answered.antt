@@ -30,7 +30,7 @@ use Rattle.av_image.specs.Loading.{file_in}
 use Rattle.av_image.specs.Saving.{IsRestOf}
 use Rattle.av_headline.proofs.Alike.{one_refusal, answer_or_refusal}
 use Rattle.av_run.specs.Answer.{IsAnswer}
-use Rattle.av_run.specs.Written.{AreKindsBy, IsWritten, IsNotWritten}
+use Rattle.av_run.specs.Written.{AreKindsBy, AreFilesOf, IsNotWritten}
 use Rattle.av_run.specs.Input.{IsInput, CanRun}
 use Rattle.av_run.specs.Finished.{reached_from, IsFinished}
 use Rattle.av_run.specs.declared.input.Input.{Input}
@@ -63,7 +63,7 @@ run_answers files table edits n k i o counts s f =
     let es = number_sets i.edits.items in
     let out = map file_in o.files.items in
     let is = kinds_are i.kinds s.rules s.kinds in
-    let y : IsWritten s.rules (stated new (run (kinds_in s.rules new) es n w)) r n out = subst (λ (x : ℕ → Kind). IsWritten s.rules (stated new (run x es n w)) r n out) is (f.files s.rules s.kinds) in
+    let y : AreFilesOf s.rules (stated new (run (kinds_in s.rules new) es n w)) r n out = subst (λ (x : ℕ → Kind). AreFilesOf s.rules (stated new (run x es n w)) r n out) is (f.files s.rules s.kinds) in
     let turns : run_count (kinds_in s.rules new) es n w ≡ o.turns = sym (f.turns ∙ ap (λ (x : ℕ → Kind). run_count x es n w) is) in
     let all = headline files table edits n k s.rules s.height s.known new w r es y.light out counts s.spelled s.load s.read y.lit y.bytes y.fits in
     subst (λ m. Headline files table edits n k out o.turns m) (sym f.chunks) (subst (λ m. Headline files table edits n k out m (length w.chunks)) turns all)

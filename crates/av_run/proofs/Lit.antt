@@ -42,7 +42,7 @@ use Rattle.av_image.specs.Saving.{states_in, dark, section_light, lights_in, sav
 use Rattle.av_image.proofs.Ready.{can_save, sources_are}
 use Rattle.av_section_light.specs.Light.{terrain_of, IsChunkLight}
 use Rattle.av_section_light.specs.Sections.{half_byte}
-use Rattle.av_run.specs.Written.{AreKindsBy, IsWritten, IsNotWritten}
+use Rattle.av_run.specs.Written.{AreKindsBy, AreFilesOf, IsNotWritten}
 
 -- ---- the bytes of a section
 
@@ -112,7 +112,7 @@ module _ (t : BlockTable) (k : Kinds) (w : World) (made : AreKindsBy t k) (whole
       blocks = light_is;
     }
 
-    pub is_written : (r : Rest) (n : ℕ) (out : List File) → out ≡ saved w r k ls n → unsaved w r k ls n ≡ None → IsWritten t (states_in k w) (rest_in r) n out
+    pub is_written : (r : Rest) (n : ℕ) (out : List File) → out ≡ saved w r k ls n → unsaved w r k ls n ≡ None → AreFilesOf t (states_in k w) (rest_in r) n out
     is_written r n out is fits =
         let same = sources_are t k w made.wets numbers in
         record {

@@ -13,7 +13,7 @@ use Rattle.av_world.specs.Views.{positions_of}
 use Rattle.av_files.specs.Run.{stated}
 use Rattle.av_image.specs.Loading.{file_in}
 use Rattle.av_image.specs.Views.{rest_in}
-use Rattle.av_run.specs.Written.{AreKindsBy, IsWritten}
+use Rattle.av_run.specs.Written.{AreKindsBy, AreFilesOf}
 use Rattle.av_run.specs.declared.input.Input.{Input}
 use Rattle.av_run.specs.declared.runs.Outcome.{Outcome}
 
@@ -24,4 +24,4 @@ reached_from n i = stated (states (table_in i.kinds)) (run (kinds_of i.kinds) (n
 pub record IsFinished (n : ℕ) (i : Input) (o : Outcome) : Type 0 where
   pub turns : o.turns ≡ run_count (kinds_of i.kinds) (number_sets i.edits.items) n (land_of i.world)
   pub chunks : o.chunks ≡ length (positions_of i.world)
-  pub files : (t : BlockTable) → AreKindsBy t i.kinds → IsWritten t (reached_from n i) (rest_in i.rest) n (map file_in o.files.items)
+  pub files : (t : BlockTable) → AreKindsBy t i.kinds → AreFilesOf t (reached_from n i) (rest_in i.rest) n (map file_in o.files.items)

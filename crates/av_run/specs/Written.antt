@@ -20,7 +20,7 @@ pub record AreKindsBy (t : BlockTable) (k : Kinds) : Type 0 where
   pub wets : wets_in k ≡ map (wet_in t) (states (table_in k))
 
 -- with the light of its brightest paths
-pub record IsWritten (t : BlockTable) (v : Land BlockState) (r : Rest) (n : ℕ) (out : List File) : Type 0 where
+pub record AreFilesOf (t : BlockTable) (v : Land BlockState) (r : Rest) (n : ℕ) (out : List File) : Type 0 where
   pub light : Lights
   pub lit : IsLit t v light
   pub bytes : out ≡ layout t v r light n

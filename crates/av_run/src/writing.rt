@@ -9,7 +9,7 @@ ghost use Rattle.av_world.specs.Views.{height_of, positions_of, is_broken};
 ghost use Rattle.av_image.specs.Loading.{file_in};
 ghost use Rattle.av_image.specs.Views.{rest_in};
 ghost use Rattle.av_image.specs.Saving.{IsRestOf, states_in};
-ghost use Rattle.av_run.specs.Written.{AreKindsBy, IsWritten, IsNotWritten};
+ghost use Rattle.av_run.specs.Written.{AreKindsBy, AreFilesOf, IsNotWritten};
 
 use av_image::{Rest, save};
 use av_light::light_all;
@@ -33,7 +33,7 @@ pub fn written(
     requires sound { is_broken world.now ≡ false }
     requires good { Good (kind_count kinds.now) (IsTimely ticks) (land_of world.now) }
     requires rest { IsRestOf (height_of world.now) (positions_of world.now) rest.now }
-    ensures ok { IfOk result (λ files. (t : BlockTable) → AreKindsBy t kinds.now → IsWritten t (states_in kinds.now world.now) (rest_in rest.now) ticks (map file_in files.items)) }
+    ensures ok { IfOk result (λ files. (t : BlockTable) → AreKindsBy t kinds.now → AreFilesOf t (states_in kinds.now world.now) (rest_in rest.now) ticks (map file_in files.items)) }
     ensures err { IfErr result (λ e. e ≢ OutOfMemory → (t : BlockTable) → AreKindsBy t kinds.now → IsNotWritten t (states_in kinds.now world.now) (rest_in rest.now) ticks e) }
 {
     let lights = light_all(rt, alloc, world, kinds)?;

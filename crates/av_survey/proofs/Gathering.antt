@@ -18,7 +18,7 @@ use Rattle.av_chunk.specs.declared.chunk.Reading.TheVariants.{Full, Kept}
 use Rattle.av_chunk.specs.Reading.{IsReading}
 use Rattle.av_sink.specs.declared.files.RegionFile.{RegionFile}
 use Rattle.av_survey.specs.declared.finding.Finding.{Finding}
-use Rattle.av_survey.specs.Survey.{FindsInAll, FindsInFile, FindsUpTo, IsFirstAt, IsFirstIn, IsPlaceFault, chunk, noted, spelling, document}
+use Rattle.av_survey.specs.Survey.{FindsInAll, FindsInFile, FindsUpTo, IsFirstAt, IsFirstIn, IsFaultAlone, chunk, noted, spelling, document}
 use Rattle.av_chunk.specs.Payload.{IsPayloadFault, no_document, bad_document}
 
 -- bytes that were refused, but not for want of memory, spell no document
@@ -36,7 +36,7 @@ was_read c h d old new Kept is = is.no_fault
 pub first_at : (h : Height) (file payload : List ℕ) (c : ChunkPos) (index : ℕ) (fault : Option Fault) → Holds file index payload → IsFirstIn h payload c fault → IsFirstAt h file c index fault
 first_at h file payload c index None holds good = chunk payload good.document holds good.spelled good.no_fault
 first_at h file payload c index (Some e) holds bad = of_bad bad where
-  of_bad : IsPayloadFault c h payload first_states e → IsPlaceFault h file c index e
+  of_bad : IsPayloadFault c h payload first_states e → IsFaultAlone h file c index e
   of_bad (no_document none is) = spelling payload holds none is
   of_bad (bad_document d spelled fault) = document payload d holds spelled fault
 

@@ -39,7 +39,7 @@ pub data IsListFault (files : List RegionFile) (e : Fault) : Type 0 where
 
 -- ---- working definition
 
-pub record AreJudged (files sorted : List RegionFile) : Type 0 where
+pub record IsListInOrder (files sorted : List RegionFile) : Type 0 where
   pub good : IsList files
   pub order : sorted ≡ in_order files
   pub limits : All (λ f. IsInLimits f.pos) sorted

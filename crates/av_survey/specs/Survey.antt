@@ -19,20 +19,20 @@ use Rattle.av_survey.specs.declared.finding.Finding.{Finding}
 use Rattle.av_survey.specs.Listing.{IsList, in_order}
 
 -- the first fault of what stands at an index of a file, by the number of the fault; the chunk's states are numbered alone
-pub data IsPlaceFault (h : Height) (file : List ℕ) (c : ChunkPos) (index : ℕ) (e : Fault) : Type 0 where
-  sectors : IsChunkFault file index e → IsPlaceFault h file c index e
-  spelling : (payload : List ℕ) → Holds file index payload → SpellsNone payload → e ≡ BadNbt → IsPlaceFault h file c index e
-  document : (payload : List ℕ) (d : Document) → Holds file index payload → SpellsDocument d payload → first_fault h c first_states (root_tags d) ≡ Some (fault_number e) → IsPlaceFault h file c index e
+pub data IsFaultAlone (h : Height) (file : List ℕ) (c : ChunkPos) (index : ℕ) (e : Fault) : Type 0 where
+  sectors : IsChunkFault file index e → IsFaultAlone h file c index e
+  spelling : (payload : List ℕ) → Holds file index payload → SpellsNone payload → e ≡ BadNbt → IsFaultAlone h file c index e
+  document : (payload : List ℕ) (d : Document) → Holds file index payload → SpellsDocument d payload → first_fault h c first_states (root_tags d) ≡ Some (fault_number e) → IsFaultAlone h file c index e
 
 -- there is no chunk, or one without a fault
-pub data IsPlaceGood (h : Height) (file : List ℕ) (c : ChunkPos) (index : ℕ) : Type 0 where
-  absent : IsAbsent file index → IsPlaceGood h file c index
-  chunk : (payload : List ℕ) (d : Document) → Holds file index payload → SpellsDocument d payload → first_fault h c first_states (root_tags d) ≡ None → IsPlaceGood h file c index
+pub data IsGoodAlone (h : Height) (file : List ℕ) (c : ChunkPos) (index : ℕ) : Type 0 where
+  absent : IsAbsent file index → IsGoodAlone h file c index
+  chunk : (payload : List ℕ) (d : Document) → Holds file index payload → SpellsDocument d payload → first_fault h c first_states (root_tags d) ≡ None → IsGoodAlone h file c index
 
 -- the first fault of a place, or none
 abbrev pub IsFirstAt : Height → List ℕ → ChunkPos → ℕ → Option Fault → Type 0
-IsFirstAt h file c index None = IsPlaceGood h file c index
-IsFirstAt h file c index (Some e) = IsPlaceFault h file c index e
+IsFirstAt h file c index None = IsGoodAlone h file c index
+IsFirstAt h file c index (Some e) = IsFaultAlone h file c index e
 
 -- the finding of a chunk, where it has a fault
 abbrev pub noted : RegionPos → ChunkPos → Option Fault → List Finding

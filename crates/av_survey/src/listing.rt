@@ -3,7 +3,7 @@ ghost use Rattle.std.specs.Prelude.{◌≡◌, ◌≢◌, IfOk, IfErr, IsPermuta
 ghost use Rattle.std.specs.List.{All, list_any};
 ghost use Rattle.av_types.specs.declared.fault.Fault.TheVariants.{OutOfMemory};
 ghost use Rattle.av_types.specs.Places.{IsInLimits};
-ghost use Rattle.av_survey.specs.Listing.{AreJudged, IsListFault, in_order, same_region, share_a_region};
+ghost use Rattle.av_survey.specs.Listing.{IsListInOrder, IsListFault, in_order, same_region, share_a_region};
 
 use av_sink::RegionFile;
 use av_types::{Fault, RegionPos};
@@ -64,7 +64,7 @@ fn sorted(files: Vec<RegionFile>) -> Result<Vec<RegionFile>, Fault>
 
 /// At most 1,024 files of regions within the limits, each region once, in their order.
 pub(crate) fn judged(files: Vec<RegionFile>) -> Result<Vec<RegionFile>, Fault>
-    ensures ok { IfOk result (λ fs. AreJudged files.items fs.items) }
+    ensures ok { IfOk result (λ fs. IsListInOrder files.items fs.items) }
     ensures err { IfErr result (λ e. e ≢ OutOfMemory → IsListFault files.items e) }
 {
     if files.len() > MOST_FILES {

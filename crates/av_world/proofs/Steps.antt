@@ -9,7 +9,7 @@ use Rattle.av_types.specs.declared.place.SectionPos.{SectionPos}
 use Rattle.av_cells.specs.Grid.{cells_of, is_here, Grid}
 use Rattle.av_world.specs.Index.{slot}
 use Rattle.av_world.specs.Near.{has_place}
-use Rattle.av_world.specs.Views.{site, room, IsKept, IsSamePlaces, CanSetAt, blocks, grid}
+use Rattle.av_world.specs.Views.{site, room, IsWorldKept, IsSamePlaces, CanSetAt, blocks, grid}
 use Rattle.av_world.specs.Turned.{corners, HasRoomAt, HasChunkRoom, CanSetAll}
 use Rattle.av_world.specs.declared.worlds.World.{World}
 
@@ -17,11 +17,11 @@ pub on_ok : {A E : Type 0} (r : Result A E) (P Q : Type 0) → OnOk r P → (P �
 on_ok (Ok x) P Q h f = f h
 on_ok (Err e) P Q h f = h
 
-pub IsKept-refl : (w : World) → IsKept w w
-IsKept-refl w = record { height = refl; positions = refl; broken = refl; grid_is = refl; lists_are = refl; room_grows = λ c. omega arith; prepared = λ s n g. g }
+pub IsWorldKept-refl : (w : World) → IsWorldKept w w
+IsWorldKept-refl w = record { height = refl; positions = refl; broken = refl; grid_is = refl; lists_are = refl; room_grows = λ c. omega arith; prepared = λ s n g. g }
 
-pub IsKept-trans : (u v w : World) → IsKept u v → IsKept v w → IsKept u w
-IsKept-trans u v w a b = record {
+pub IsWorldKept-trans : (u v w : World) → IsWorldKept u v → IsWorldKept v w → IsWorldKept u w
+IsWorldKept-trans u v w a b = record {
   height = b.height ∙ a.height;
   positions = b.positions ∙ a.positions;
   broken = b.broken ∙ a.broken;
@@ -32,21 +32,21 @@ IsKept-trans u v w a b = record {
 }
 
 -- a block that is loaded after such a step was loaded before it
-pub loaded_before : (v w : World) (q : Pos) → IsKept v w → IsTrue ((blocks w).loaded q) → IsTrue ((blocks v).loaded q)
+pub loaded_before : (v w : World) (q : Pos) → IsWorldKept v w → IsTrue ((blocks w).loaded q) → IsTrue ((blocks v).loaded q)
 loaded_before v w q k t = subst (λ (g : Grid). IsTrue ((cells_of g).loaded q)) k.grid_is t
 
-pub room_lasts : (v w : World) (n : ℕ) (p : Pos) → IsKept v w → HasRoomAt v n p → HasRoomAt w n p
+pub room_lasts : (v w : World) (n : ℕ) (p : Pos) → IsWorldKept v w → HasRoomAt v n p → HasRoomAt w n p
 room_lasts v w n p k h t =
     let x = h (loaded_before v w p k t) in
     let y = k.room_grows (chunk_of p) in
     omega arith
 
 -- what a section was prepared for, it stays prepared for
-pub ready_lasts : (v w : World) (ns : List ℕ) (s : SectionPos) → IsKept v w → (IsTrue (is_here (grid v s)) → All (CanSetAt v s) ns) → IsTrue (is_here (grid w s)) → All (CanSetAt w s) ns
+pub ready_lasts : (v w : World) (ns : List ℕ) (s : SectionPos) → IsWorldKept v w → (IsTrue (is_here (grid v s)) → All (CanSetAt v s) ns) → IsTrue (is_here (grid w s)) → All (CanSetAt w s) ns
 ready_lasts v w ns s k h there =
     All-weaker (CanSetAt v s) (CanSetAt w s) (λ n g. k.prepared s n g) ns (h (subst (λ (g : Grid). IsTrue (is_here (g s))) k.grid_is there))
 
-pub numbers_last : (v w : World) (ns : List ℕ) (p : Pos) → IsKept v w → CanSetAll v ns p → CanSetAll w ns p
+pub numbers_last : (v w : World) (ns : List ℕ) (p : Pos) → IsWorldKept v w → CanSetAll v ns p → CanSetAll w ns p
 numbers_last v w ns p k h = ready_lasts v w ns (section_of p) k h
 
 pub in_ok : {A E : Type 0} (r : Result A E) (P : Type 0) → P → OnOk r P
@@ -58,18 +58,18 @@ pub not_refused : {A E : Type 0} (r : Result A E) (e : E) (P : Type 0) → r ≡
 not_refused r e P was ok = absurd (true≢false (sym ok ∙ ap is_ok was))
 
 -- where a block is loaded, its chunk is there
-pub chunk_there : (v w : World) (q : Pos) → IsKept v w → IsTrue ((blocks v).loaded q) → slot w.positions.items (chunk_of q) < length w.positions.items
+pub chunk_there : (v w : World) (q : Pos) → IsWorldKept v w → IsTrue ((blocks v).loaded q) → slot w.positions.items (chunk_of q) < length w.positions.items
 chunk_there v w q k t =
     (has_place w.height w.positions.items w.chunks.items w.lawful.parallel (section_of q) (subst (λ (g : Grid). IsTrue ((cells_of g).loaded q)) (sym k.grid_is) t)).chunk
 
-pub chunk_room_lasts : (v w : World) (n : ℕ) (p : Pos) → IsKept v w → HasChunkRoom v n p → HasChunkRoom w n p
+pub chunk_room_lasts : (v w : World) (n : ℕ) (p : Pos) → IsWorldKept v w → HasChunkRoom v n p → HasChunkRoom w n p
 chunk_room_lasts v w n p k h t =
     let x : n ≤ room v (chunk_of p) = h (subst (λ ps. slot ps.items (chunk_of p) < length ps.items) k.positions t) in
     let y = k.room_grows (chunk_of p) in
     omega arith
 
 -- a reservation that did not fail made the room
-pub chunk_room : (v w : World) (n : ℕ) (p : Pos) (c : ChunkPos) (A : Type 0) (r : Result A Fault) → c ≡ chunk_of p → IsKept v w → is_err r ≡ false
+pub chunk_room : (v w : World) (n : ℕ) (p : Pos) (c : ChunkPos) (A : Type 0) (r : Result A Fault) → c ≡ chunk_of p → IsWorldKept v w → is_err r ≡ false
     → OnOk r (slot v.positions.items c < length v.positions.items → n ≤ room w c) → HasChunkRoom w n p
 chunk_room v w n p c A (Ok x) e k ok h =
     λ t. subst (λ (d : ChunkPos). n ≤ room w d) e (h (subst (λ (d : ChunkPos). slot v.positions.items d < length v.positions.items) (sym e) (subst (λ ps. slot ps.items (chunk_of p) < length ps.items) k.positions t)))
@@ -77,7 +77,7 @@ chunk_room v w n p c A (Err x) e k ok h = absurd (true≢false ok)
 
 -- a chunk with room has room for each loaded block of it
 pub block_room : (w : World) (n : ℕ) (p : Pos) → HasChunkRoom w n p → HasRoomAt w n p
-block_room w n p h t = h (chunk_there w w p (IsKept-refl w) t)
+block_room w n p h t = h (chunk_there w w p (IsWorldKept-refl w) t)
 
 -- the upper corners of a reach are in the chunks of the lower ones
 pub corners_room : (w : World) (n : ℕ) (p : Pos) → All (HasChunkRoom w n) (take 4 (corners p)) → All (HasRoomAt w n) (corners p)
@@ -91,7 +91,7 @@ corners_room w n p all (suc (suc (suc (suc (suc (suc zero)))))) d l = block_room
 corners_room w n p all (suc (suc (suc (suc (suc (suc (suc zero))))))) d l = block_room w n (get_or (corners p) 7 p) (all 3 p (omega arith))
 corners_room w n p all (suc (suc (suc (suc (suc (suc (suc (suc i)))))))) d l = absurd (omega arith)
 
-pub loaded_later : (v w : World) (q : Pos) → IsKept v w → IsTrue ((blocks v).loaded q) → IsTrue ((blocks w).loaded q)
+pub loaded_later : (v w : World) (q : Pos) → IsWorldKept v w → IsTrue ((blocks v).loaded q) → IsTrue ((blocks w).loaded q)
 loaded_later v w q k t = subst (λ (g : Grid). IsTrue ((cells_of g).loaded q)) (sym k.grid_is) t
 
 pub IsSamePlaces-refl : (w : World) → IsSamePlaces w w
@@ -100,5 +100,5 @@ IsSamePlaces-refl w = record { height = refl; positions = refl; broken = refl; l
 pub IsSamePlaces-trans : (u v w : World) → IsSamePlaces u v → IsSamePlaces v w → IsSamePlaces u w
 IsSamePlaces-trans u v w a b = record { height = b.height ∙ a.height; positions = b.positions ∙ a.positions; broken = b.broken ∙ a.broken; lists_are = b.lists_are ∙ a.lists_are }
 
-pub site_kept : (v w : World) → IsKept v w → site w ≡ site v
+pub site_kept : (v w : World) → IsWorldKept v w → site w ≡ site v
 site_kept v w k = λ i. record { height = Some (k.height i); chunks = (k.positions i).items; broken = k.broken i }

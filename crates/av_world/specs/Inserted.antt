@@ -17,7 +17,7 @@ use Rattle.av_world.specs.Index.{before}
 use Rattle.av_world.specs.Sections.{layer_at, filling_in}
 
 -- where a position belongs in a rising list
-pub record IsPlace (ps : List ChunkPos) (c : ChunkPos) (i : ℕ) : Type 0 where
+pub record BelongsAt (ps : List ChunkPos) (c : ChunkPos) (i : ℕ) : Type 0 where
   pub most : i ≤ length ps
   pub low : (k : ℕ) (d : ChunkPos) → k < i → before (slice_index_or ps k d) c ≡ true
   pub high : (k : ℕ) (d : ChunkPos) → i ≤ k → k < length ps → before c (slice_index_or ps k d) ≡ true
@@ -25,7 +25,7 @@ pub record IsPlace (ps : List ChunkPos) (c : ChunkPos) (i : ℕ) : Type 0 where
 -- a list with one more position, where it belongs
 pub record Inserts (old : List ChunkPos) (c : ChunkPos) (new : List ChunkPos) : Type 0 where
   pub index : ℕ
-  pub place : IsPlace old c index
+  pub place : BelongsAt old c index
   pub is : new ≡ insert old index c
 
 -- the sections of a chunk

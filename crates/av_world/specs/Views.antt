@@ -48,7 +48,7 @@ abbrev pub CanSetAt : World → SectionPos → ℕ → Type 0
 CanSetAt w s n = CanSetIn (sections w s) n
 
 -- the same blocks and lists, and no less room
-pub record IsKept (old new : World) : Type 0 where
+pub record IsWorldKept (old new : World) : Type 0 where
   pub height : new.height ≡ old.height
   pub positions : new.positions ≡ old.positions
   pub broken : new.broken ≡ old.broken

@@ -10,7 +10,7 @@ ghost use Rattle.av_world.specs.Appended.{entries_made, with_entries, with_liste
 ghost use Rattle.av_world.specs.Appending.{entered_all, CanAppend, count_at, HasRoomForAll};
 ghost use Rattle.av_world.specs.Index.{slot};
 ghost use Rattle.av_world.specs.Lands.{land_of};
-ghost use Rattle.av_world.specs.Views.{blocks, lists, room, site, positions_of, is_broken, IsKept};
+ghost use Rattle.av_world.specs.Views.{blocks, lists, room, site, positions_of, is_broken, IsWorldKept};
 
 use crate::worlds::World;
 use av_types::{Entry, Fault, Made, SectionPos};
@@ -69,7 +69,7 @@ impl World {
     /// Makes room for so many more entries of the chunk at an index.
     fn reserve_count(&mut self, index: usize, count: usize) -> Result<(), Fault>
         requires { index < length (positions_of self.old) }
-        ensures kept { IsKept self.old self.new }
+        ensures kept { IsWorldKept self.old self.new }
         ensures room { OnOk result ((d : ChunkPos) → count ≤ room self.new (slice_index_or (positions_of self.old) index d)) }
         ensures fault { IfErr result (λ e. e ≡ OutOfMemory) }
     {
@@ -83,7 +83,7 @@ impl World {
     /// Makes room for so many more entries of each chunk.
     fn reserve_counts(&mut self, counts: &[usize]) -> Result<(), Fault>
         requires { length counts.now ≡ length (positions_of self.old) }
-        ensures kept { IsKept self.old self.new }
+        ensures kept { IsWorldKept self.old self.new }
         ensures room { OnOk result ((k : ℕ) (d : ChunkPos) → k < length counts.now
             → slice_index_or counts.now k 0 ≤ room self.new (slice_index_or (positions_of self.old) k d)) }
         ensures fault { IfErr result (λ e. e ≡ OutOfMemory) }
@@ -96,7 +96,7 @@ impl World {
 
     /// Makes room in each list for those of these entries that it is to get.
     fn reserve_made(&mut self, made: &[Made]) -> Result<(), Fault>
-        ensures kept { IsKept self.old self.new }
+        ensures kept { IsWorldKept self.old self.new }
         ensures room { OnOk result (HasRoomForAll self.new (entries_made made.now)) }
         ensures fault { IfErr result (λ e. e ≡ OutOfMemory) }
     {

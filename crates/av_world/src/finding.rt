@@ -7,7 +7,7 @@ ghost use Rattle.av_world.specs.Chunks.{IsChunkOf};
 ghost use Rattle.av_world.specs.Index.{slot};
 ghost use Rattle.av_world.specs.Inserted.{IsFull};
 ghost use Rattle.av_world.specs.Lands.{IsWhole};
-ghost use Rattle.av_world.specs.Views.{height_of, positions_of, chunks_of, sections, IsKept};
+ghost use Rattle.av_world.specs.Views.{height_of, positions_of, chunks_of, sections, IsWorldKept};
 
 use crate::chunks::layer;
 use crate::slots::slot;
@@ -44,7 +44,7 @@ impl World {
 
     /// Looks the chunks of some blocks up, so that they are found at once.
     pub(crate) fn look_near(&mut self, at: &[Pos])
-        ensures { IsKept self.old self.new }
+        ensures { IsWorldKept self.old self.new }
     {
         for at in at {
             let chunk = at.chunk();

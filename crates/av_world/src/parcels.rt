@@ -58,7 +58,7 @@ impl Parcel {
     ghost use Rattle.av_cells.specs.Positions.{IsNearOrigin};
     ghost use Rattle.av_cells.specs.Grid.{is_here};
     ghost use Rattle.av_cells.specs.World.{with_number, with_entry_if, listed_if};
-    ghost use Rattle.av_world.specs.ParcelViews.{parts, kept_grid, blocks, lists, room, CanSetAt, CanSetAll, IsKept};
+    ghost use Rattle.av_world.specs.ParcelViews.{parts, kept_grid, blocks, lists, room, CanSetAt, CanSetAll, IsParcelKept};
     ghost use Rattle.av_world.specs.Turned.{turned};
 
     /// Where a section stands: where it was looked up last for a turn, or else by a search.
@@ -74,7 +74,7 @@ impl Parcel {
 
     /// Looks the sections of some blocks up, so that they are found at once.
     fn look_near(&mut self, at: &[Pos])
-        ensures { IsKept self.old self.new }
+        ensures { IsParcelKept self.old self.new }
     {
         for at in at {
             let section = at.section();
@@ -121,7 +121,7 @@ impl Parcel {
 
     /// Makes room for so many more entries.
     fn reserve_aside(&mut self, count: usize) -> Result<(), Fault>
-        ensures kept { IsKept self.old self.new }
+        ensures kept { IsParcelKept self.old self.new }
         ensures room { OnOk result (count ≤ room self.new) }
         ensures fault { IfErr result (λ e. e ≡ OutOfMemory) }
         ensures succeeds { count ≤ room self.old → IsOk result }
@@ -131,7 +131,7 @@ impl Parcel {
 
     /// Makes room for numbers in a section, where it is there.
     fn prepare_section(&mut self, at: SectionPos, numbers: &[u16]) -> Result<(), Fault>
-        ensures kept { IsKept self.old self.new }
+        ensures kept { IsParcelKept self.old self.new }
         ensures prepared { OnOk result (IsTrue (is_here (kept_grid self.new at)) → All (CanSetAt self.new at) numbers.now) }
         ensures fault { IfErr result (λ e. e ≡ OutOfMemory) }
         ensures succeeds { (IsTrue (is_here (kept_grid self.old at)) → All (CanSetAt self.old at) numbers.now) → IsOk result }
@@ -151,7 +151,7 @@ impl Parcel {
         numbers: &[u16],
     ) -> Result<(), Fault>
         requires ready { IsTrue (is_here (kept_grid self.old ready)) → All (CanSetAt self.old ready) numbers.now }
-        ensures kept { IsKept self.old self.new }
+        ensures kept { IsParcelKept self.old self.new }
         ensures prepared { OnOk result (IsTrue (is_here (kept_grid self.new at)) → All (CanSetAt self.new at) numbers.now) }
         ensures fault { IfErr result (λ e. e ≡ OutOfMemory) }
         ensures succeeds { (IsTrue (is_here (kept_grid self.old at)) → All (CanSetAt self.old at) numbers.now) → IsOk result }
@@ -165,7 +165,7 @@ impl Parcel {
     /// Makes room for numbers in the sections of some blocks, where they are there. Most are that of the first block.
     fn prepare_all(&mut self, at: &[Pos], numbers: &[u16]) -> Result<(), Fault>
         requires { 0 < length at.now }
-        ensures kept { IsKept self.old self.new }
+        ensures kept { IsParcelKept self.old self.new }
         ensures prepared { OnOk result (All (CanSetAll self.new numbers.now) at.now) }
         ensures fault { IfErr result (λ e. e ≡ OutOfMemory) }
         ensures succeeds { All (CanSetAll self.old numbers.now) at.now → IsOk result }
@@ -181,7 +181,7 @@ impl Parcel {
     /// Makes room for the next turn of a block.
     fn prepare_turn(&mut self, pos: Pos) -> Result<(), Fault>
         requires { IsNearOrigin pos }
-        ensures kept { IsKept self.old self.new }
+        ensures kept { IsParcelKept self.old self.new }
         ensures room { OnOk result (42 ≤ room self.new) }
         ensures prepared { OnOk result (All (CanSetAll self.new (0 ∷ 1 ∷ 2 ∷ 3 ∷ 4 ∷ 5 ∷ 6 ∷ 7 ∷ 8 ∷ 9 ∷ [])) (turned pos)) }
         ensures fault { IfErr result (λ e. e ≡ OutOfMemory) }
@@ -194,7 +194,7 @@ impl Parcel {
 
     /// Makes room for the next set of a block with its waking.
     fn prepare_one(&mut self, pos: Pos, number: u16) -> Result<(), Fault>
-        ensures kept { IsKept self.old self.new }
+        ensures kept { IsParcelKept self.old self.new }
         ensures room { OnOk result (7 ≤ room self.new) }
         ensures prepared { OnOk result (CanSetAll self.new (number ∷ []) pos) }
         ensures fault { IfErr result (λ e. e ≡ OutOfMemory) }

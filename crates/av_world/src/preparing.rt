@@ -6,7 +6,7 @@ ghost use Rattle.av_cells.specs.Grid.{is_here};
 ghost use Rattle.av_cells.specs.Positions.{IsNearOrigin, around};
 ghost use Rattle.av_world.specs.Turned.{corners, turned, HasRoomAt, HasChunkRoom, CanSetAll};
 ghost use Rattle.av_world.specs.Index.{slot};
-ghost use Rattle.av_world.specs.Views.{grid, blocks, room, positions_of, CanSetAt, IsKept};
+ghost use Rattle.av_world.specs.Views.{grid, blocks, room, positions_of, CanSetAt, IsWorldKept};
 
 use crate::chunks::{is_high, offset, prepare_in, reserve_in};
 use crate::turned::{around, corners, turned};
@@ -16,7 +16,7 @@ use av_types::{ChunkPos, Fault, Pos, SectionPos};
 impl World {
     /// Makes room for so many more entries of a chunk, where it is there.
     pub(crate) fn reserve_chunk(&mut self, at: ChunkPos, count: usize) -> Result<(), Fault>
-        ensures kept { IsKept self.old self.new }
+        ensures kept { IsWorldKept self.old self.new }
         ensures room { OnOk result (slot (positions_of self.old) at < length (positions_of self.old) → count ≤ room self.new at) }
         ensures fault { IfErr result (λ e. e ≡ OutOfMemory) }
         ensures succeeds { count ≤ room self.old at → IsOk result }
@@ -31,7 +31,7 @@ impl World {
     /// Makes room for so many more entries of a block's chunk, where the block is loaded. Whether it is loaded is asked only
     /// where memory ran out.
     fn reserve_at(&mut self, at: Pos, count: usize) -> Result<(), Fault>
-        ensures kept { IsKept self.old self.new }
+        ensures kept { IsWorldKept self.old self.new }
         ensures room { OnOk result (HasRoomAt self.new count at) }
         ensures fault { IfErr result (λ e. e ≡ OutOfMemory) }
         ensures succeeds { HasRoomAt self.old count at → IsOk result }
@@ -48,7 +48,7 @@ impl World {
 
     /// Makes room for so many more entries of the chunks of some blocks, where they are loaded.
     fn reserve_all(&mut self, at: &[Pos], count: usize) -> Result<(), Fault>
-        ensures kept { IsKept self.old self.new }
+        ensures kept { IsWorldKept self.old self.new }
         ensures room { OnOk result (All (HasRoomAt self.new count) at.now) }
         ensures fault { IfErr result (λ e. e ≡ OutOfMemory) }
         ensures succeeds { All (HasRoomAt self.old count) at.now → IsOk result }
@@ -62,7 +62,7 @@ impl World {
     /// Makes room for so many more entries of the chunks of some blocks, where these are there, and says whether that
     /// was done.
     fn reserve_chunks(&mut self, at: &[Pos], count: usize) -> bool
-        ensures kept { IsKept self.old self.new }
+        ensures kept { IsWorldKept self.old self.new }
         ensures room { result ≡ true → All (HasChunkRoom self.new count) at.now }
     {
         for at in at {
@@ -77,7 +77,7 @@ impl World {
     /// Makes room for the entries of a turn in the chunks of a block's reach, which are looked up for it.
     fn reserve_reach(&mut self, pos: Pos) -> Result<(), Fault>
         requires { IsNearOrigin pos }
-        ensures kept { IsKept self.old self.new }
+        ensures kept { IsWorldKept self.old self.new }
         ensures room { OnOk result (All (HasRoomAt self.new 42) (corners pos)) }
         ensures fault { IfErr result (λ e. e ≡ OutOfMemory) }
         ensures succeeds { All (HasRoomAt self.old 42) (corners pos) → IsOk result }
@@ -94,7 +94,7 @@ impl World {
 
     /// Makes room for numbers in a section, where it is loaded.
     fn prepare_section(&mut self, at: SectionPos, numbers: &[u16]) -> Result<(), Fault>
-        ensures kept { IsKept self.old self.new }
+        ensures kept { IsWorldKept self.old self.new }
         ensures prepared { OnOk result (IsTrue (is_here (grid self.new at)) → All (CanSetAt self.new at) numbers.now) }
         ensures fault { IfErr result (λ e. e ≡ OutOfMemory) }
         ensures succeeds { (IsTrue (is_here (grid self.old at)) → All (CanSetAt self.old at) numbers.now) → IsOk result }
@@ -118,7 +118,7 @@ impl World {
         numbers: &[u16],
     ) -> Result<(), Fault>
         requires ready { IsTrue (is_here (grid self.old ready)) → All (CanSetAt self.old ready) numbers.now }
-        ensures kept { IsKept self.old self.new }
+        ensures kept { IsWorldKept self.old self.new }
         ensures prepared { OnOk result (IsTrue (is_here (grid self.new at)) → All (CanSetAt self.new at) numbers.now) }
         ensures fault { IfErr result (λ e. e ≡ OutOfMemory) }
         ensures succeeds { (IsTrue (is_here (grid self.old at)) → All (CanSetAt self.old at) numbers.now) → IsOk result }
@@ -132,7 +132,7 @@ impl World {
     /// Makes room for numbers in the sections of some blocks, where they are loaded. Most are that of the first block.
     fn prepare_all(&mut self, at: &[Pos], numbers: &[u16]) -> Result<(), Fault>
         requires { 0 < length at.now }
-        ensures kept { IsKept self.old self.new }
+        ensures kept { IsWorldKept self.old self.new }
         ensures prepared { OnOk result (All (CanSetAll self.new numbers.now) at.now) }
         ensures fault { IfErr result (λ e. e ≡ OutOfMemory) }
         ensures succeeds { All (CanSetAll self.old numbers.now) at.now → IsOk result }
@@ -148,7 +148,7 @@ impl World {
     /// Makes room for the next turn of a block.
     pub(crate) fn prepare_turn(&mut self, pos: Pos) -> Result<(), Fault>
         requires { IsNearOrigin pos }
-        ensures kept { IsKept self.old self.new }
+        ensures kept { IsWorldKept self.old self.new }
         ensures room { OnOk result (All (HasRoomAt self.new 42) (corners pos)) }
         ensures prepared { OnOk result (All (CanSetAll self.new (0 ∷ 1 ∷ 2 ∷ 3 ∷ 4 ∷ 5 ∷ 6 ∷ 7 ∷ 8 ∷ 9 ∷ [])) (turned pos)) }
         ensures fault { IfErr result (λ e. e ≡ OutOfMemory) }
@@ -162,7 +162,7 @@ impl World {
     /// Makes room for the next set of a block with its waking.
     pub(crate) fn prepare_one(&mut self, pos: Pos, number: u16) -> Result<(), Fault>
         requires { IsNearOrigin pos }
-        ensures kept { IsKept self.old self.new }
+        ensures kept { IsWorldKept self.old self.new }
         ensures room { OnOk result (All (HasRoomAt self.new 7) (around pos)) }
         ensures prepared { OnOk result (CanSetAll self.new (number ∷ []) pos) }
         ensures fault { IfErr result (λ e. e ≡ OutOfMemory) }

@@ -1,5 +1,5 @@
 use Rattle.std.proofs.Common.{arith, refl}
-use Rattle.av_flood.proofs.Floods.{IsGrown-pushed, IsSoundAt-emitted, IsReady-pushed, above_zero}
+use Rattle.av_flood.proofs.Floods.{IsGrown-pushed, IsSoundAt-emitted, WaitsIfEmitting-pushed, above_zero}
 use Rattle.av_flood.proofs.emit.emit.Goals as goal
 
 pub returns-clause-grown : goal.returns-clause-grown
@@ -9,4 +9,4 @@ returns-clause-grown g c =
     IsGrown-pushed _ _ _ _ _ _ _ c.in_ok-push.ensures (let e = known.1 in omega arith) (IsSoundAt-emitted _ _ _ _ known.1 known.0 (above_zero _ _ refl c.if-level-eq0.false) (c.if-not-matters.ensures.0 refl))
 
 pub returns-clause-ready : goal.returns-clause-ready
-returns-clause-ready g c = IsReady-pushed _ _ _ _ _ _ (c.in-Some.ensures {u = tt}).1 c.in_ok-push.ensures
+returns-clause-ready g c = WaitsIfEmitting-pushed _ _ _ _ _ _ (c.in-Some.ensures {u = tt}).1 c.in_ok-push.ensures

@@ -1,6 +1,6 @@
 use Rattle.std.proofs.Common.{arith, refl, subst}
-use Rattle.av_flood.specs.Flooding.{IsReady, todo_of}
-use Rattle.av_flood.proofs.Floods.{IsGrown-none, IsGrown-trans, IsReady-grown, offered_more}
+use Rattle.av_flood.specs.Flooding.{WaitsIfEmitting, todo_of}
+use Rattle.av_flood.proofs.Floods.{IsGrown-none, IsGrown-trans, WaitsIfEmitting-grown, offered_more}
 use Rattle.av_flood.proofs.emit.emit_all.Goals as goal
 
 pub loop-lamp-init : goal.loop-lamp-init
@@ -12,9 +12,9 @@ loop-lamp-preserved g c =
     let t = g.B.Blocks.terrain c.args.blocks.now in
     record {
       grown = IsGrown-trans _ _ _ _ _ _ c.loop-lamp.invariant.grown now.grown;
-      ready = offered_more (IsReady t c.args.chunk (todo_of c.loop-lamp.buckets)) (IsReady t c.args.chunk (todo_of c.emit.new.buckets)) c.args.lamps.now c.loop-lamp.lamp-index _ _ c.loop-lamp-test.true refl
-          (λ r. IsReady-grown _ _ _ _ _ _ now.grown) now.ready c.loop-lamp.invariant.ready;
+      ready = offered_more (WaitsIfEmitting t c.args.chunk (todo_of c.loop-lamp.buckets)) (WaitsIfEmitting t c.args.chunk (todo_of c.emit.new.buckets)) c.args.lamps.now c.loop-lamp.lamp-index _ _ c.loop-lamp-test.true refl
+          (λ r. WaitsIfEmitting-grown _ _ _ _ _ _ now.grown) now.ready c.loop-lamp.invariant.ready;
     }
 
 pub returns-clause-ready : goal.returns-clause-ready
-returns-clause-ready g c = λ p w. subst (IsReady (g.B.Blocks.terrain c.args.blocks.now) c.args.chunk (todo_of c.loop-lamp.buckets)) w.2 (c.loop-lamp.invariant.ready w.0 p (let l = w.1 in let m = c.loop-lamp-test.false in omega arith))
+returns-clause-ready g c = λ p w. subst (WaitsIfEmitting (g.B.Blocks.terrain c.args.blocks.now) c.args.chunk (todo_of c.loop-lamp.buckets)) w.2 (c.loop-lamp.invariant.ready w.0 p (let l = w.1 in let m = c.loop-lamp-test.false in omega arith))

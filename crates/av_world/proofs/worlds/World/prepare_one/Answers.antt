@@ -6,7 +6,7 @@ use Rattle.av_cells.specs.Grid.{is_here}
 use Rattle.av_cells.specs.Positions.{around}
 use Rattle.av_world.specs.Views.{grid, CanSetAt}
 use Rattle.av_world.specs.Turned.{HasRoomAt}
-use Rattle.av_world.proofs.Steps.{not_refused, IsKept-trans, numbers_last, room_lasts, in_ok, on_ok}
+use Rattle.av_world.proofs.Steps.{not_refused, IsWorldKept-trans, numbers_last, room_lasts, in_ok, on_ok}
 use Rattle.av_world.proofs.worlds.World.prepare_one.Goals as goal
 
 pub returns-clause-room : goal.returns-clause-room
@@ -33,7 +33,7 @@ returns-in_err-reserve_all-clause-succeeds c =
 pub returns-clause-succeeds : goal.returns-clause-succeeds
 returns-clause-succeeds c =
     let w = c.args.self.now in let mid = c.look_near.new.self in let old = c.reserve_all.new.self in let ns : List ℕ = c.args.number ∷ [] in
-    let kept = IsKept-trans w mid old c.look_near.ensures c.reserve_all.ensures.kept in
+    let kept = IsWorldKept-trans w mid old c.look_near.ensures c.reserve_all.ensures.kept in
     λ room numbers. c.prepare_section.ensures.succeeds
     (subst (λ (s : SectionPos). IsTrue (is_here (grid old s)) → All (CanSetAt old s) ns) (sym c.section.ensures)
     (numbers_last w old ns c.args.pos kept numbers))
