@@ -8,11 +8,11 @@ use Rattle.av_types.specs.declared.fault.Fault.{Fault}
 use Rattle.av_types.specs.declared.fault.Fault.TheVariants.{OutOfMemory, OldLayout, BadChunk, WrongPlace}
 use Rattle.av_nbt.specs.Nbt.{Nbt, NamedTag}
 use Rattle.av_nbt.specs.Place.{tag_of}
-use Rattle.av_nbt.specs.Shape.{◌>>=◌, compounds_of, lacks}
+use Rattle.av_nbt.specs.Shape.{◌>>=◌, compounds_of, lacks, or_else}
 use Rattle.av_state.specs.BlockState.{BlockState}
 use Rattle.av_section.specs.BlockStates.{when}
 use Rattle.av_document.specs.Ticks.{is_bad_tick, int_at}
-use Rattle.av_document.specs.Chunk.{has_level, status_of, is_full, is_bad_chunk, is_elsewhere, is_bad_list, is_other, sections_of, sections, ticks, section_number, is_in_height, section_faults, section_states, block_faults, block_states_of, first_fault}
+use Rattle.av_document.specs.Chunk.{has_level, status_of, is_full, is_bad_chunk, is_elsewhere, is_bad_section, share_a_number, is_bad_list, is_other, sections_of, sections, ticks, section_number, is_in_height, section_faults, section_states, block_faults, block_states_of, first_fault}
 use Rattle.av_chunk.specs.Reading.{IsAdmitted}
 use Rattle.av_chunk.specs.Working.{admitted}
 use Rattle.av_chunk.specs.SectionsRead.{are_too_many}
@@ -187,6 +187,13 @@ pub good_list : (h : Height) (root : List NamedTag) → is_bad_chunk h root ≡ 
 good_list h root e =
     let first = lacks (int_at (codes "xPos") root) || lacks (int_at (codes "zPos") root) in
     or_right first (is_bad_list h (sections_of root)) (or_left (first || is_bad_list h (sections_of root)) (is_other compounds_of (tag_of (codes "fluid_ticks") root)) e)
+
+pub good_apart : (h : Height) (root : List NamedTag) → is_bad_chunk h root ≡ false → share_a_number (sections root) ≡ false
+good_apart h root e = of (sections_of root) (good_list h root e)
+  where
+    of : (o : Option (List (List NamedTag))) → is_bad_list h o ≡ false → share_a_number (or_else [] o) ≡ false
+    of None e = refl
+    of (Some rows) e = or_right (list_any (is_bad_section h) rows) (share_a_number rows) e
 
 pub good_ticks : (h : Height) (root : List NamedTag) → is_bad_chunk h root ≡ false → is_other compounds_of (tag_of (codes "fluid_ticks") root) ≡ false
 good_ticks h root e =

@@ -1,9 +1,8 @@
 -- A chunk that was read, put together.
-use Rattle.std.proofs.Common.{◌≡◌, ℕ, ◌<◌, ◌≤◌, ℤ, Bool, true, false, true≢false, ◌||◌, Option, Some, None, List, [], ◌∷◌, ◌++◌, length, get_or, slice_get, refl, sym, ap, subst, ◌∙◌, arith, min, if◌then◌else◌, codes, Decides}
-use Rattle.std.proofs.lemmas.Bool.Decides.{Decides-int_eq, nat_tests}
+use Rattle.std.proofs.Common.{◌≡◌, ℕ, ◌<◌, ◌≤◌, ℤ, Bool, true, false, ◌||◌, Option, Some, None, List, [], ◌∷◌, ◌++◌, length, get_or, slice_get, refl, sym, ap, subst, ◌∙◌, arith, min, if◌then◌else◌, codes}
+use Rattle.std.proofs.lemmas.Bool.Decides.{nat_tests}
 use Rattle.std.proofs.lemmas.List.Elements.{All-from_recursion}
 use Rattle.std.specs.List.{AllByRecursion, list_any, flat_map}
-use Rattle.std.specs.Ordering.{int_eq}
 use Rattle.av_types.specs.Division.{divided}
 use Rattle.av_types.specs.Faults.{least, lesser}
 use Rattle.av_types.specs.Places.{is_section_of, place_of}
@@ -13,7 +12,7 @@ use Rattle.av_types.specs.declared.place.Height.{Height}
 use Rattle.av_types.specs.declared.tick.Entry.{Entry}
 use Rattle.av_nbt.specs.Nbt.{NamedTag, Document, members_of}
 use Rattle.av_nbt.specs.Place.{emptied}
-use Rattle.av_nbt.specs.Shape.{members_in, or_else}
+use Rattle.av_nbt.specs.Shape.{members_in}
 use Rattle.av_nbt.specs.View.{named_views}
 use Rattle.av_nbt.specs.declared.tag.Named.{Named}
 use Rattle.av_state.specs.BlockState.{BlockState}
@@ -28,88 +27,25 @@ use Rattle.av_document.specs.Ticks.{lies_in}
 use Rattle.av_document.specs.Law.{HasInts}
 use Rattle.av_document.specs.Stored.{IsStored}
 use Rattle.av_document.proofs.Ints.{ints_read}
-use Rattle.av_document.specs.Working.{is_bad_at, with_number, are_bad_sections}
-use Rattle.av_document.proofs.Judged.{judged}
-use Rattle.av_document.specs.Chunk.{root_tags, sections, ticks, sections_of, section_number, is_bad_list, numbered, section_states, first_fault, DenotesChunk, block_cell, block_states_of, tags_at, cell_of}
+use Rattle.av_document.specs.Chunk.{root_tags, sections, ticks, numbered, section_states, first_fault, DenotesChunk, block_cell, block_states_of, tags_at, cell_of}
 use Rattle.av_document.proofs.Positions.{within_from, place_of-lt}
 use Rattle.av_chunk.specs.declared.chunk.Chunk.{Chunk}
 use Rattle.av_chunk.specs.declared.rest.ChunkRest.{ChunkRest}
 use Rattle.av_chunk.specs.declared.sections.Sections.{Sections}
 use Rattle.av_chunk.specs.declared.water.Ticks.{Ticks}
-use Rattle.av_chunk.specs.Rest.{rest_with, offset_of, first_some, found_outside}
+use Rattle.av_chunk.specs.Rest.{rest_with, offset_of, found_outside}
 use Rattle.av_chunk.specs.Views.{section_in, state_in, cells_of, rest_of}
 use Rattle.av_chunk.specs.Reading.{IsLoaded}
 use Rattle.av_chunk.specs.Pending.{SlotAdds, is_entry_at, MarksPending}
 use Rattle.av_chunk.specs.TicksRead.{AreTicks}
-use Rattle.av_chunk.specs.SectionsRead.{are_too_many, SlotHas, if_numbered, last_numbered, AreRead}
+use Rattle.av_chunk.specs.SectionsRead.{are_too_many, SlotHas, AreRead}
 use Rattle.av_chunk.specs.Reading.{IsAdmitted}
-use Rattle.av_chunk.proofs.Admitted.{first_loaded, good_list}
+use Rattle.av_chunk.proofs.Admitted.{first_loaded}
 use Rattle.av_chunk.proofs.WaterIn.{AreIn, and_left, and_right, water_in, pending_at}
 
 pub members_in-of : (ms : List NamedTag) → members_in (members_of ms) ≡ ms
 members_in-of [] = refl
 members_in-of (m ∷ ms) = ap (λ xs. m ∷ xs) (members_in-of ms)
-
--- ---- no number comes twice
-
-or_left : (a b : Bool) → a || b ≡ false → a ≡ false
-or_left true b e = e
-or_left false b e = refl
-
-or_right : (a b : Bool) → a || b ≡ false → b ≡ false
-or_right true b e = cc
-or_right false b e = e
-
-other_number : (y z : ℤ) (before : List ℤ) → list_any (int_eq y) before ≡ true → list_any (int_eq z) before ≡ false → (b : Bool) → Decides b (y ≡ z) → b ≡ false
-other_number y z before s t true d = let e : y ≡ z = d.0 refl in absurd (true≢false (sym s ∙ (ap (λ v. list_any (int_eq v) before) e ∙ t)))
-other_number y z before s t false d = refl
-
--- the numbers of a list that has one more in front
-here_too : (y z : ℤ) (before : List ℤ) → list_any (int_eq y) before ≡ true → int_eq y z ≡ false → list_any (int_eq y) (z ∷ before) ≡ true
-here_too y z before s e = rw (e, s) refl
-
-none_at : (h : Height) (y : ℤ) (before : List ℤ) (ms : List NamedTag) (rows : List (List NamedTag)) → list_any (int_eq y) before ≡ true
-    → ((z : ℤ) → are_bad_sections h (z ∷ before) rows ≡ false → list_any (int_eq y) (z ∷ before) ≡ true → last_numbered y rows ≡ None)
-    → (n : Option ℤ) → section_number ms ≡ n → is_bad_at h before ms n || are_bad_sections h (with_number before n) rows ≡ false
-    → first_some (last_numbered y rows) (if_numbered y ms) ≡ None
-none_at h y before ms rows s later None is bad = absurd (true≢false bad)
-none_at h y before ms rows s later (Some z) is bad =
-    let new : list_any (int_eq z) before ≡ false = or_left (list_any (int_eq z) before) _ (or_left (is_bad_at h before ms (Some z)) (are_bad_sections h (z ∷ before) rows) bad) in
-    let apart : int_eq y z ≡ false = other_number y z before s new (int_eq y z) (Decides-int_eq y z) in
-    let none : last_numbered y rows ≡ None = later z (or_right (is_bad_at h before ms (Some z)) (are_bad_sections h (z ∷ before) rows) bad) (here_too y z before s apart) in
-    rw (none, is, apart) refl
-
-none_later : (h : Height) (y : ℤ) (before : List ℤ) (rows : List (List NamedTag)) → are_bad_sections h before rows ≡ false → list_any (int_eq y) before ≡ true → last_numbered y rows ≡ None
-none_later h y before [] e s = refl
-none_later h y before (ms ∷ rows) e s = none_at h y before ms rows s (λ z bad here. none_later h y (z ∷ before) rows bad here) (section_number ms) refl e
-
-first_none : {A : Type 0} (o : Option A) → first_some o None ≡ o
-first_none None = refl
-first_none (Some x) = refl
-
-last_at : (h : Height) (y z : ℤ) (before : List ℤ) (ms : List NamedTag) (rows : List (List NamedTag)) → section_number ms ≡ Some z → are_bad_sections h (z ∷ before) rows ≡ false
-    → last_numbered y rows ≡ numbered y rows → (b : Bool) → int_eq y z ≡ b → last_numbered y (ms ∷ rows) ≡ numbered y (ms ∷ rows)
-last_at h y z before ms rows is bad later true same =
-    let here : list_any (int_eq y) (z ∷ before) ≡ true = rw same refl in
-    let none : last_numbered y rows ≡ None = none_later h y (z ∷ before) rows bad here in
-    rw (is, same, none) refl
-last_at h y z before ms rows is bad later false same = rw (is, same) (first_none (last_numbered y rows) ∙ later)
-
-last_of : (h : Height) (y : ℤ) (before : List ℤ) (ms : List NamedTag) (rows : List (List NamedTag))
-    → ((z : ℤ) → are_bad_sections h (z ∷ before) rows ≡ false → last_numbered y rows ≡ numbered y rows)
-    → (n : Option ℤ) → section_number ms ≡ n → is_bad_at h before ms n || are_bad_sections h (with_number before n) rows ≡ false → last_numbered y (ms ∷ rows) ≡ numbered y (ms ∷ rows)
-last_of h y before ms rows later None is bad = absurd (true≢false bad)
-last_of h y before ms rows later (Some z) is bad =
-    let rest : are_bad_sections h (z ∷ before) rows ≡ false = or_right (is_bad_at h before ms (Some z)) (are_bad_sections h (z ∷ before) rows) bad in
-    last_at h y z before ms rows is rest (later z rest) (int_eq y z) refl
-
-pub last_is_first : (h : Height) (y : ℤ) (before : List ℤ) (rows : List (List NamedTag)) → are_bad_sections h before rows ≡ false → last_numbered y rows ≡ numbered y rows
-last_is_first h y before [] e = refl
-last_is_first h y before (ms ∷ rows) e = last_of h y before ms rows (λ z bad. last_is_first h y (z ∷ before) rows bad) (section_number ms) refl e
-
-good_rows : (h : Height) (o : Option (List (List NamedTag))) → is_bad_list h o ≡ false → are_bad_sections h [] (or_else [] o) ≡ false
-good_rows h None e = refl
-good_rows h (Some rows) e = sym (judged h rows) ∙ e
 
 -- ---- a slot after its places were made pending
 
@@ -147,8 +83,7 @@ slot_of : (c : ChunkPos) (h : Height) (root : List NamedTag) (old new : List Blo
     → Parts c h root old new read t chunk tags → (y : ℤ) → is_section_of h y ≡ true
     → Filled new (block_cell (block_states_of (tags_at y root))) (λ i. list_any (is_entry_at h (offset_of h y) i) (entries t.water)) (section_in h chunk y)
 slot_of c h root old new read t chunk tags p y s =
-    let same = last_is_first h y [] (sections root) (good_rows h (sections_of root) (good_list h root p.admitted.shape)) in
-    rw (← same) (filled new _ _ (get_or read.sections.items (offset_of h y) None) (section_in h chunk y) (p.read_are.cells y s) (p.marked.slots (offset_of h y)))
+    filled new _ _ (get_or read.sections.items (offset_of h y) None) (section_in h chunk y) (p.read_are.cells y s) (p.marked.slots (offset_of h y))
 
 state_of : (c : ChunkPos) (h : Height) (root : List NamedTag) (old new : List BlockState) (read : Sections) (t : Ticks) (chunk : Chunk) (tags : List Named)
     → Parts c h root old new read t chunk tags → (q : Pos) → lies_in c h q ≡ true → state_in new h chunk q ≡ Some (cell_of root q)
@@ -167,7 +102,6 @@ pub denotes : (c : ChunkPos) (h : Height) (d : Document) (root : List NamedTag) 
     → Parts c h root old new read t chunk tags → root_tags d ≡ root → DenotesChunk c h d (cells_of new h chunk) (entries chunk.ticks) (rest_with h d.name tags t.foreign.items read.kept.items read.outside.items)
 denotes c h d root old new read t chunk tags p e =
     let a = p.admitted in
-    let same = λ (y : ℤ). last_is_first h y [] (sections root) (good_rows h (sections_of root) (good_list h root a.shape)) in
     record {
       no_fault = rw (e, a.level, a.status, a.full, a.shape, a.place, p.read_are.no_fault, p.ticks_are.good) refl;
       full = rw e a.full;
@@ -177,12 +111,12 @@ denotes c h d root old new read t chunk tags p e =
       tags_are = rw e p.tags_are;
       foreign_are = rw e p.ticks_are.foreign_are;
       outside_is = λ y. rw e (outside_of y (is_section_of h y) refl);
-      section_is = λ y s. rw (e, ← same y) (p.read_are.rests y s);
+      section_is = λ y s. rw e (p.read_are.rests y s);
     }
   where
     outside_of : (y : ℤ) (b : Bool) → is_section_of h y ≡ b → (if b then None else found_outside y read.outside.items) ≡ (if b then None else numbered y (sections root))
     outside_of y true s = refl
-    outside_of y false s = p.read_are.others y s ∙ last_is_first h y [] (sections root) (good_rows h (sections_of root) (good_list h root p.admitted.shape))
+    outside_of y false s = p.read_are.others y s
 
 each_in : (c : ChunkPos) (h : Height) (es : List Entry) → AreIn c h es → AllByRecursion (λ e. lies_in c h e.pos ≡ true) es
 each_in c h [] p = tt

@@ -13,7 +13,9 @@ use Rattle.std.proofs.Common.{◌&&◌, if◌then◌else◌, codes}
 use Rattle.std.proofs.Math.Bool.{or-true, or-false}
 use Rattle.av_types.specs.Places.{is_section_of}
 use Rattle.av_nbt.specs.Place.{tag_of}
-use Rattle.av_document.specs.Chunk.{section_number, is_other, is_bad_list}
+use Rattle.std.specs.Prelude.{◌++◌, is_some}
+use Rattle.av_document.specs.Chunk.{section_number, numbered, is_number, is_numbered_in, share_a_number, is_other, is_bad_list}
+use Rattle.av_document.proofs.Rows.{int_eq-refl}
 use Rattle.av_document.specs.Working.{is_bad_at, with_number, are_bad_sections}
 use Rattle.av_document.proofs.Judged.{judged}
 
@@ -98,3 +100,35 @@ is_bad_list-each h ts = list_is h (each compound_of ts) ∙ bad_from h [] ts
 pub is_bad_list-at : (h : Height) (t : Option Nbt) (ts : List Nbt) → t >>= items_of_list ≡ Some ts → is_bad_list h (t >>= compounds_of) ≡ are_bad_items h [] ts
 is_bad_list-at h None ts e = cc
 is_bad_list-at h (Some t) ts e = rw e (is_bad_list-each h ts)
+
+-- ---- no number comes twice
+
+either : (b d : Bool) → b || d ≡ false → (b ≡ false) × (d ≡ false)
+either true d e = absurd (true≢false e)
+either false d e = (refl, e)
+
+-- a section whose number no section before it has
+abbrev pub HasNewNumber : List (List NamedTag) → List NamedTag → Type 0
+HasNewNumber rows ms = (z : ℤ) → section_number ms ≡ Some z → numbered z rows ≡ None
+
+numbered_there : (z : ℤ) (rows more : List (List NamedTag)) (ms : List NamedTag) → section_number ms ≡ Some z → is_some (numbered z (rows ++ ms ∷ more)) ≡ true
+numbered_there z [] more ms e = rw (e, int_eq-refl z) refl
+numbered_there z (r ∷ rows) more ms e = by (is_number z (section_number r)) (numbered_there z rows more ms e)
+  where
+    by : (b : Bool) → is_some (numbered z (rows ++ ms ∷ more)) ≡ true → is_some (if b then Some r else numbered z (rows ++ ms ∷ more)) ≡ true
+    by true h = refl
+    by false h = h
+
+pub new_number : (rows more : List (List NamedTag)) (ms : List NamedTag) → share_a_number (rows ++ ms ∷ more) ≡ false → HasNewNumber rows ms
+new_number [] more ms apart z e = refl
+new_number (r ∷ rows) more ms apart z e =
+    let both = either (is_numbered_in (rows ++ ms ∷ more) (section_number r)) (share_a_number (rows ++ ms ∷ more)) apart in
+    by (section_number r) both.0 (new_number rows more ms both.1 z e)
+  where
+    by : (n : Option ℤ) → is_numbered_in (rows ++ ms ∷ more) n ≡ false → numbered z rows ≡ None → (if is_number z n then Some r else numbered z rows) ≡ None
+    by None first later = later
+    by (Some y) first later = at (int_eq z y) (Decides-int_eq z y)
+      where
+        at : (b : Bool) → Decides b (z ≡ y) → (if b then Some r else numbered z rows) ≡ None
+        at true d = absurd (true≢false (sym (numbered_there y rows more ms (e ∙ ap Some (d.0 refl))) ∙ first))
+        at false d = later

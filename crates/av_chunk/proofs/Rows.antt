@@ -57,8 +57,11 @@ others_after t rest h = after (lacks (compound_of (view t))) (has_other rest) h
     after true b h = cc
     after false b h = h
 
+pub rows-append : (xs ys : List Tag) → opened (views (xs ++ ys)) ≡ opened (views xs) ++ opened (views ys)
+rows-append xs ys = ap opened (map-append view xs ys) ∙ map-append tags_in (views xs) (views ys)
+
 pub rows-push : (xs : List Tag) (x : Tag) → opened (views (xs ++ x ∷ [])) ≡ opened (views xs) ++ tags_in (view x) ∷ []
-rows-push xs x = ap opened (views-push xs x) ∙ opened-push (views xs) (view x)
+rows-push xs x = rows-append xs (x ∷ [])
 
 or_after : (a b : Bool) → a || b ≡ false → b ≡ false
 or_after true b h = cc

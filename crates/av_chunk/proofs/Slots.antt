@@ -3,6 +3,7 @@ use Rattle.std.proofs.Common.{◌≡◌, ◌≢◌, ℕ, ◌<◌, ◌≤◌, ◌
 use Rattle.std.proofs.lemmas.Bool.Decides.{Decides-int_eq}
 use Rattle.std.proofs.lemmas.Option.{same_Some}
 use Rattle.std.specs.Ordering.{int_eq}
+use Rattle.std.specs.Option.{option_or}
 use Rattle.std.specs.List.{flat_map}
 use Rattle.std.proofs.lemmas.Grind.{flat_map-append}
 use Rattle.std.proofs.lemmas.List.{append-nil}
@@ -17,15 +18,16 @@ use Rattle.av_state.specs.StateList.{first_states}
 use Rattle.av_section.specs.Section.{number_at}
 use Rattle.av_section.specs.Reading.{OnlyGrows}
 use Rattle.av_section.specs.declared.section.Section.{Section}
-use Rattle.av_document.specs.Chunk.{section_number, section_faults, section_states, section_rest, block_states_of, block_cell}
+use Rattle.av_document.specs.Chunk.{section_number, numbered, is_number, section_faults, section_states, section_rest, block_states_of, block_cell}
 use Rattle.av_chunk.specs.declared.rest.SectionTags.{SectionTags}
 use Rattle.av_chunk.specs.declared.rest.OutsideSection.{OutsideSection}
 use Rattle.av_chunk.specs.declared.sections.Part.{Part}
 use Rattle.av_chunk.specs.declared.sections.Part.TheVariants.{Inside, Outside}
 use Rattle.av_chunk.specs.declared.sections.Sections.{Sections}
-use Rattle.av_chunk.specs.Rest.{offset_of, first_some, section_or_missing, found_outside}
-use Rattle.av_chunk.specs.SectionsRead.{HasCells, IsInside, IsOutside, IsPart, IsSectionRead, IsSectionRefused, or_missing, if_numbered, last_numbered, SlotHas, SlotFinds, SlotFilled, AreFilled, FilledBelow, HoldSections, AreMissing, IsPlaced, AreFound, AreRead, AreJudged, FitsHeight}
+use Rattle.av_chunk.specs.Rest.{offset_of, section_or_missing, found_outside}
+use Rattle.av_chunk.specs.SectionsRead.{HasCells, IsInside, IsOutside, IsPart, IsSectionRead, IsSectionRefused, or_missing, SlotHas, SlotFinds, SlotFilled, AreFilled, FilledBelow, HoldSections, AreMissing, IsPlaced, AreFound, AreRead, AreJudged, FitsHeight}
 use Rattle.av_chunk.proofs.Heights.{offset_below, offset_apart}
+use Rattle.av_chunk.proofs.Numbers.{HasNewNumber}
 use Rattle.av_chunk.proofs.Judging.{with_states-append, first_kept, first_of, first_lesser, memory_first, memory_before}
 
 -- ---- none so far
@@ -53,39 +55,38 @@ SlotFinds-grown : (old new : List BlockState) (y : ℤ) (found : Option (List Na
 SlotFinds-grown old new y found None g c = c
 SlotFinds-grown old new y found (Some s) g c = HasCells-grown old new _ s g c
 
--- ---- the last section of a number
+-- ---- the first section of a number
 
-first_none : {A : Type 0} (o : Option A) → first_some o None ≡ o
-first_none None = refl
-first_none (Some x) = refl
+-- the section, if it has the number
+abbrev if_numbered : ℤ → List NamedTag → Option (List NamedTag)
+if_numbered y ms = if is_number y (section_number ms) then Some ms else None
 
-first_assoc : {A : Type 0} (a b c : Option A) → first_some (first_some a b) c ≡ first_some a (first_some b c)
-first_assoc None b c = refl
-first_assoc (Some x) b c = refl
+or_if : {A : Type 0} (b : Bool) (x : A) (o p : Option A) → (if b then Some x else option_or o p) ≡ option_or (if b then Some x else o) p
+or_if true x o p = refl
+or_if false x o p = refl
 
-last_numbered-push : (y : ℤ) (rows : List (List NamedTag)) (ms : List NamedTag) → last_numbered y (rows ++ ms ∷ []) ≡ first_some (if_numbered y ms) (last_numbered y rows)
-last_numbered-push y [] ms = sym (first_none (if_numbered y ms))
-last_numbered-push y (r ∷ rows) ms = rw (last_numbered-push y rows ms) (first_assoc (if_numbered y ms) (last_numbered y rows) (if_numbered y r))
+or_none : {A : Type 0} (o : Option A) → option_or o None ≡ o
+or_none None = refl
+or_none (Some x) = refl
+
+numbered-push : (y : ℤ) (rows : List (List NamedTag)) (ms : List NamedTag) → numbered y (rows ++ ms ∷ []) ≡ option_or (numbered y rows) (if_numbered y ms)
+numbered-push y [] ms = refl
+numbered-push y (r ∷ rows) ms = rw (numbered-push y rows ms) (or_if (is_number y (section_number r)) r (numbered y rows) (if_numbered y ms))
 
 abbrev if_outside : ℤ → OutsideSection → Option (List NamedTag)
 if_outside y o = if int_eq y o.y then Some (named_views o.tags.items) else None
 
-found_outside-push : (y : ℤ) (os : List OutsideSection) (o : OutsideSection) → found_outside y (os ++ o ∷ []) ≡ first_some (if_outside y o) (found_outside y os)
-found_outside-push y [] o = sym (first_none (if_outside y o))
-found_outside-push y (p ∷ os) o = rw (found_outside-push y os o) (first_assoc (if_outside y o) (found_outside y os) (if_outside y p))
-
-same_eq : (y : ℤ) → int_eq y y ≡ true
-same_eq y = same (int_eq y y) (Decides-int_eq y y)
-  where
-    same : (b : Bool) → Decides b (y ≡ y) → b ≡ true
-    same b d = d.1 refl
+found_outside-push : (y : ℤ) (os : List OutsideSection) (o : OutsideSection) → found_outside y (os ++ o ∷ []) ≡ option_or (found_outside y os) (if_outside y o)
+found_outside-push y [] o = refl
+found_outside-push y (p ∷ os) o = rw (found_outside-push y os o) (or_if (int_eq y p.y) (named_views p.tags.items) (found_outside y os) (if_outside y o))
 
 -- a number that a section has not
-other_last : (y z : ℤ) (rows : List (List NamedTag)) (ms : List NamedTag) → section_number ms ≡ Some z → int_eq y z ≡ false → last_numbered y (rows ++ ms ∷ []) ≡ last_numbered y rows
-other_last y z rows ms e n = rw (last_numbered-push y rows ms, e, n) refl
+numbered-other : (y z : ℤ) (rows : List (List NamedTag)) (ms : List NamedTag) → section_number ms ≡ Some z → int_eq y z ≡ false → numbered y (rows ++ ms ∷ []) ≡ numbered y rows
+numbered-other y z rows ms e n = rw (numbered-push y rows ms, e, n) (or_none (numbered y rows))
 
-this_last : (y z : ℤ) (rows : List (List NamedTag)) (ms : List NamedTag) → section_number ms ≡ Some z → int_eq y z ≡ true → last_numbered y (rows ++ ms ∷ []) ≡ Some ms
-this_last y z rows ms e n = rw (last_numbered-push y rows ms, e, n) refl
+-- one that no section before it has
+numbered-new : (y z : ℤ) (rows : List (List NamedTag)) (ms : List NamedTag) → section_number ms ≡ Some z → int_eq y z ≡ true → numbered y rows ≡ None → numbered y (rows ++ ms ∷ []) ≡ Some ms
+numbered-new y z rows ms e n none = rw (numbered-push y rows ms, none, e, n) refl
 
 apart_numbers : (h : Height) (y z : ℤ) → is_section_of h y ≡ true → is_section_of h z ≡ false → (b : Bool) → Decides b (y ≡ z) → b ≡ false
 apart_numbers h y z s t true d = let e : y ≡ z = d.0 refl in absurd (true≢false (sym s ∙ (ap (is_section_of h) e ∙ t)))
@@ -94,30 +95,30 @@ apart_numbers h y z s t false d = refl
 -- ---- one more part
 
 inside_cells : (h : Height) (old new : List BlockState) (rows : List (List NamedTag)) (ms : List NamedTag) (z : ℤ) (s : Section) (kept : SectionTags) (xs : List (Option Section))
-    → OnlyGrows old new → IsInside h new ms z s kept → length xs ≡ h.sections → (y : ℤ) → is_section_of h y ≡ true
-    → SlotFinds old y (last_numbered y rows) (get_or xs (offset_of h y) None)
+    → OnlyGrows old new → IsInside h new ms z s kept → numbered z rows ≡ None → length xs ≡ h.sections → (y : ℤ) → is_section_of h y ≡ true
+    → SlotFinds old y (numbered y rows) (get_or xs (offset_of h y) None)
     → (b : Bool) → Decides b (y ≡ z) → int_eq y z ≡ b
-    → SlotFinds new y (last_numbered y (rows ++ ms ∷ [])) (get_or (slice_set xs (offset_of h z) (Some s)) (offset_of h y) None)
-inside_cells h old new rows ms z s kept xs g p l y t c true d e =
+    → SlotFinds new y (numbered y (rows ++ ms ∷ [])) (get_or (slice_set xs (offset_of h z) (Some s)) (offset_of h y) None)
+inside_cells h old new rows ms z s kept xs g p none l y t c true d e =
     let same : y ≡ z = d.0 refl in
     let within : offset_of h y < length xs = rw l (offset_below h y t) in
-    rw (this_last y z rows ms p.number e, ← same, get_or-set_same xs (offset_of h y) (Some s) None within) p.cells
-inside_cells h old new rows ms z s kept xs g p l y t c false d e =
+    rw (numbered-new y z rows ms p.number e (ap (λ v. numbered v rows) same ∙ none), ← same, get_or-set_same xs (offset_of h y) (Some s) None within) p.cells
+inside_cells h old new rows ms z s kept xs g p none l y t c false d e =
     let ne : offset_of h y ≢ offset_of h z = λ o. true≢false (sym (d.1 (offset_apart h y z t p.within o))) in
-    rw (other_last y z rows ms p.number e, get_or-set_other xs (offset_of h z) (offset_of h y) (Some s) None ne) (SlotFinds-grown old new y _ _ g c)
+    rw (numbered-other y z rows ms p.number e, get_or-set_other xs (offset_of h z) (offset_of h y) (Some s) None ne) (SlotFinds-grown old new y _ _ g c)
 
 inside_rests : (h : Height) (new : List BlockState) (rows : List (List NamedTag)) (ms : List NamedTag) (z : ℤ) (s : Section) (kept : SectionTags) (xs : List (Option SectionTags))
-    → IsInside h new ms z s kept → length xs ≡ h.sections → (y : ℤ) → is_section_of h y ≡ true
-    → section_or_missing y (get_or xs (offset_of h y) None) ≡ section_rest (or_missing y (last_numbered y rows))
+    → IsInside h new ms z s kept → numbered z rows ≡ None → length xs ≡ h.sections → (y : ℤ) → is_section_of h y ≡ true
+    → section_or_missing y (get_or xs (offset_of h y) None) ≡ section_rest (or_missing y (numbered y rows))
     → (b : Bool) → Decides b (y ≡ z) → int_eq y z ≡ b
-    → section_or_missing y (get_or (slice_set xs (offset_of h z) (Some kept)) (offset_of h y) None) ≡ section_rest (or_missing y (last_numbered y (rows ++ ms ∷ [])))
-inside_rests h new rows ms z s kept xs p l y t c true d e =
+    → section_or_missing y (get_or (slice_set xs (offset_of h z) (Some kept)) (offset_of h y) None) ≡ section_rest (or_missing y (numbered y (rows ++ ms ∷ [])))
+inside_rests h new rows ms z s kept xs p none l y t c true d e =
     let same : y ≡ z = d.0 refl in
     let within : offset_of h y < length xs = rw l (offset_below h y t) in
-    rw (this_last y z rows ms p.number e, ← same, get_or-set_same xs (offset_of h y) (Some kept) None within) p.rest
-inside_rests h new rows ms z s kept xs p l y t c false d e =
+    rw (numbered-new y z rows ms p.number e (ap (λ v. numbered v rows) same ∙ none), ← same, get_or-set_same xs (offset_of h y) (Some kept) None within) p.rest
+inside_rests h new rows ms z s kept xs p none l y t c false d e =
     let ne : offset_of h y ≢ offset_of h z = λ o. true≢false (sym (d.1 (offset_apart h y z t p.within o))) in
-    rw (other_last y z rows ms p.number e, get_or-set_other xs (offset_of h z) (offset_of h y) (Some kept) None ne) c
+    rw (numbered-other y z rows ms p.number e, get_or-set_other xs (offset_of h z) (offset_of h y) (Some kept) None ne) c
 
 symmetric : (y z : ℤ) → int_eq z y ≡ false → int_eq y z ≡ false
 symmetric y z e = sym_of (int_eq y z) (Decides-int_eq y z) (int_eq z y) (Decides-int_eq z y) e
@@ -127,46 +128,46 @@ symmetric y z e = sym_of (int_eq y z) (Decides-int_eq y z) (int_eq z y) (Decides
     sym_of false d b q e = refl
 
 pub HoldSections-inside : (h : Height) (old new : List BlockState) (rows : List (List NamedTag)) (ms : List NamedTag) (z : ℤ) (s : Section) (kept : SectionTags) (r u : Sections)
-    → OnlyGrows old new → IsInside h new ms z s kept → IsPlaced h (Inside z s kept) r u → HoldSections h old rows r → HoldSections h new (rows ++ ms ∷ []) u
-HoldSections-inside h old new rows ms z s kept r u g p placed held = record {
+    → OnlyGrows old new → IsInside h new ms z s kept → numbered z rows ≡ None → IsPlaced h (Inside z s kept) r u → HoldSections h old rows r → HoldSections h new (rows ++ ms ∷ []) u
+HoldSections-inside h old new rows ms z s kept r u g p none placed held = record {
   count = ap length placed.0 ∙ (length-set r.sections.items (offset_of h z) (Some s) ∙ held.count);
   count_kept = ap length placed.1 ∙ (length-set r.kept.items (offset_of h z) (Some kept) ∙ held.count_kept);
-  found = λ y t. rw placed.0 (inside_cells h old new rows ms z s kept r.sections.items g p held.count y t (held.found y t) (int_eq y z) (Decides-int_eq y z) refl);
-  rests = λ y t. rw placed.1 (inside_rests h new rows ms z s kept r.kept.items p held.count_kept y t (held.rests y t) (int_eq y z) (Decides-int_eq y z) refl);
-  others = λ y t. rw (placed.2, other_last y z rows ms p.number (symmetric y z (apart_numbers h z y p.within t (int_eq z y) (Decides-int_eq z y)))) (held.others y t);
+  found = λ y t. rw placed.0 (inside_cells h old new rows ms z s kept r.sections.items g p none held.count y t (held.found y t) (int_eq y z) (Decides-int_eq y z) refl);
+  rests = λ y t. rw placed.1 (inside_rests h new rows ms z s kept r.kept.items p none held.count_kept y t (held.rests y t) (int_eq y z) (Decides-int_eq y z) refl);
+  others = λ y t. rw (placed.2, numbered-other y z rows ms p.number (symmetric y z (apart_numbers h z y p.within t (int_eq z y) (Decides-int_eq z y)))) (held.others y t);
 }
 
 outside_found : (y : ℤ) (rows : List (List NamedTag)) (ms : List NamedTag) (os : List OutsideSection) (o : OutsideSection) → section_number ms ≡ Some o.y → named_views o.tags.items ≡ ms
-    → found_outside y os ≡ last_numbered y rows → found_outside y (os ++ o ∷ []) ≡ last_numbered y (rows ++ ms ∷ [])
-outside_found y rows ms os o e t f = rw (found_outside-push y os o, last_numbered-push y rows ms, e, t, f) refl
+    → found_outside y os ≡ numbered y rows → found_outside y (os ++ o ∷ []) ≡ numbered y (rows ++ ms ∷ [])
+outside_found y rows ms os o e t f = rw (found_outside-push y os o, numbered-push y rows ms, e, t, f) refl
 
 pub HoldSections-outside : (h : Height) (old new : List BlockState) (rows : List (List NamedTag)) (ms : List NamedTag) (o : OutsideSection) (r u : Sections)
     → OnlyGrows old new → IsOutside h ms o → IsPlaced h (Outside o) r u → HoldSections h old rows r → HoldSections h new (rows ++ ms ∷ []) u
 HoldSections-outside h old new rows ms o r u g p placed held = record {
   count = ap length placed.0 ∙ held.count;
   count_kept = ap length placed.1 ∙ held.count_kept;
-  found = λ y t. rw (placed.0, other_last y o.y rows ms p.number (apart_numbers h y o.y t p.without (int_eq y o.y) (Decides-int_eq y o.y))) (SlotFinds-grown old new y _ _ g (held.found y t));
-  rests = λ y t. rw (placed.1, other_last y o.y rows ms p.number (apart_numbers h y o.y t p.without (int_eq y o.y) (Decides-int_eq y o.y))) (held.rests y t);
+  found = λ y t. rw (placed.0, numbered-other y o.y rows ms p.number (apart_numbers h y o.y t p.without (int_eq y o.y) (Decides-int_eq y o.y))) (SlotFinds-grown old new y _ _ g (held.found y t));
+  rests = λ y t. rw (placed.1, numbered-other y o.y rows ms p.number (apart_numbers h y o.y t p.without (int_eq y o.y) (Decides-int_eq y o.y))) (held.rests y t);
   others = λ y t. rw placed.2 (outside_found y rows ms r.outside.items o p.number p.tags (held.others y t));
 }
 
 HoldSections-part : (h : Height) (old new : List BlockState) (rows : List (List NamedTag)) (ms : List NamedTag) (part : Part) (r u : Sections)
-    → OnlyGrows old new → IsPart h new ms part → IsPlaced h part r u → HoldSections h old rows r → HoldSections h new (rows ++ ms ∷ []) u
-HoldSections-part h old new rows ms (Inside y s kept) r u g p placed held = HoldSections-inside h old new rows ms y s kept r u g p placed held
-HoldSections-part h old new rows ms (Outside o) r u g p placed held = HoldSections-outside h old new rows ms o r u g p placed held
+    → OnlyGrows old new → IsPart h new ms part → HasNewNumber rows ms → IsPlaced h part r u → HoldSections h old rows r → HoldSections h new (rows ++ ms ∷ []) u
+HoldSections-part h old new rows ms (Inside y s kept) r u g p new_number placed held = HoldSections-inside h old new rows ms y s kept r u g p (new_number y p.number) placed held
+HoldSections-part h old new rows ms (Outside o) r u g p new_number placed held = HoldSections-outside h old new rows ms o r u g p placed held
 
 AreFound-part : (h : Height) (rows : List (List NamedTag)) (ms : List NamedTag) (start old new : List BlockState) (part : Part) (r u : Sections)
-    → OnlyGrows old new → IsSectionRead h ms old new part → IsPlaced h part r u → AreFound h rows start old r → AreFound h (rows ++ ms ∷ []) start new u
-AreFound-part h rows ms start old new part r u g read placed before = record {
+    → OnlyGrows old new → IsSectionRead h ms old new part → HasNewNumber rows ms → IsPlaced h part r u → AreFound h rows start old r → AreFound h (rows ++ ms ∷ []) start new u
+AreFound-part h rows ms start old new part r u g read new_number placed before = record {
   no_fault = flat_map-append (section_faults h) rows (ms ∷ []) ∙ rw (before.no_fault, read.no_fault) refl;
   states = rw (flat_map-append (section_states h) rows (ms ∷ []), append-nil (section_states h ms), with_states-append start (flat_map (section_states h) rows) (section_states h ms), ← before.states) read.states;
-  held = HoldSections-part h old new rows ms part r u g read.is_part placed before.held;
+  held = HoldSections-part h old new rows ms part r u g read.is_part new_number placed before.held;
 }
 
 pub AreJudged-part : (h : Height) (rows : List (List NamedTag)) (ms : List NamedTag) (start old new : List BlockState) (part : Part) (r u : Sections) (refused : Option Fault)
-    → OnlyGrows old new → IsSectionRead h ms old new part → IsPlaced h part r u → AreJudged h rows start old r refused → AreJudged h (rows ++ ms ∷ []) start new u refused
-AreJudged-part h rows ms start old new part r u None g read placed before = AreFound-part h rows ms start old new part r u g read placed before
-AreJudged-part h rows ms start old new part r u (Some e) g read placed before = λ ne. record { first = first_kept h rows ms start (fault_number e) (before ne).first read.no_fault }
+    → OnlyGrows old new → IsSectionRead h ms old new part → HasNewNumber rows ms → IsPlaced h part r u → AreJudged h rows start old r refused → AreJudged h (rows ++ ms ∷ []) start new u refused
+AreJudged-part h rows ms start old new part r u None g read new_number placed before = AreFound-part h rows ms start old new part r u g read new_number placed before
+AreJudged-part h rows ms start old new part r u (Some e) g read new_number placed before = λ ne. record { first = first_kept h rows ms start (fault_number e) (before ne).first read.no_fault }
 
 pub AreJudged-refused : (h : Height) (rows : List (List NamedTag)) (ms : List NamedTag) (start old new : List BlockState) (r u : Sections) (refused : Option Fault) (e f : Fault)
     → IsSectionRefused h ms old e → fault_number f ≡ lesser (fault_number e) (option_map fault_number refused) → AreJudged h rows start old r refused
@@ -213,7 +214,7 @@ AreRead-filled h rows start table r u b all filled kept outside = record {
   count = filled.count ∙ all.held.count;
   cells = λ y t.
       let low : offset_of h y < length r.sections.items = rw all.held.count (offset_below h y t) in
-      slot_filled table y (last_numbered y rows) (get_or r.sections.items (offset_of h y) None) (get_or u.sections.items (offset_of h y) None) (first_is_air table b) (all.held.found y t) (filled.slots (offset_of h y) low);
+      slot_filled table y (numbered y rows) (get_or r.sections.items (offset_of h y) None) (get_or u.sections.items (offset_of h y) None) (first_is_air table b) (all.held.found y t) (filled.slots (offset_of h y) low);
   rests = λ y t. rw kept (all.held.rests y t);
   others = λ y t. rw outside (all.held.others y t);
 }

@@ -14,7 +14,7 @@ use Rattle.av_types.specs.declared.place.Height.{Height}
 use Rattle.av_types.specs.declared.tick.Entry.{Entry}
 use Rattle.av_nbt.specs.declared.tag.Kind.TheVariants as kind
 use Rattle.av_nbt.specs.Nbt.{Nbt, NamedTag, list, items_of}
-use Rattle.av_nbt.specs.View.{view, views, named_views}
+use Rattle.av_nbt.specs.View.{view, views}
 use Rattle.av_nbt.specs.declared.tag.Tag.{Tag}
 use Rattle.av_ticks.specs.Ticks.{entries}
 use Rattle.av_rules.specs.Kinds.{kind_count}
@@ -27,13 +27,11 @@ use Rattle.av_document.specs.Chunk.{SectionRest}
 use Rattle.av_rules.specs.declared.kinds.Kinds.{Kinds}
 use Rattle.av_document.specs.Layout.{block_at, states_of, section_layout, section_numbers, compound_with, kept_section, all_of, compounds, entry_layout, section_at, ticks_layout}
 use Rattle.av_document.proofs.Positions.{coordinate, divided-coordinate, remainder-coordinate, place-parts, lies_in-block_at, within_from}
-use Rattle.av_chunk.specs.Rest.{opened, first_some, found_outside}
+use Rattle.av_chunk.specs.Rest.{opened, found_outside}
 use Rattle.av_chunk.specs.Views.{section_in, number_in, state_in, cells_of, rest_of}
 use Rattle.av_chunk.specs.Writing.{CanWrite, states_of_kinds, sources_of, light_of}
 use Rattle.av_chunk.specs.WritingSteps.{CanWriteSections, CanWriteEntry, first_numbers, first_sections, written_entry, section_with, inside_layout, written_section}
 use Rattle.av_chunk.specs.WritingSteps as steps
-use Rattle.std.specs.Ordering.{int_eq}
-use Rattle.av_chunk.specs.declared.rest.OutsideSection.{OutsideSection}
 use Rattle.av_chunk.specs.declared.chunk.Chunk.{Chunk}
 use Rattle.av_chunk.specs.declared.rest.ChunkRest.{ChunkRest}
 use Rattle.av_chunk.specs.declared.light.ChunkLight.{ChunkLight}
@@ -181,22 +179,3 @@ pub sections-written : (chunk : Chunk) (rest : ChunkRest) (kinds : Kinds) (light
 unfolding written_section
 sections-written chunk rest kinds light sections e =
     ap (λ ts. list kind.Compound (items_of ts)) (e ∙ ap (λ ys. map compound_with (all_of (written_section chunk rest kinds light) ys)) first_numbers-all)
-
--- ---- look-ups
-
-pub first_some-none : {A : Type 0} (o : Option A) → first_some o None ≡ o
-first_some-none None = refl
-first_some-none (Some x) = refl
-
-pub first_some-assoc : {A : Type 0} (a b c : Option A) → first_some (first_some a b) c ≡ first_some a (first_some b c)
-first_some-assoc None b c = refl
-first_some-assoc (Some x) b c = refl
-
--- one kept section more was looked at
-pub found_outside-step : (y : ℤ) (os more : List OutsideSection) (o : OutsideSection) (before after : Option (List NamedTag)) → os ≡ o ∷ more
-    → after ≡ first_some (if int_eq y o.y then Some (named_views o.tags.items) else None) before
-    → first_some (found_outside y more) after ≡ first_some (found_outside y os) before
-found_outside-step y os more o before after front e =
-    ap (first_some (found_outside y more)) e
-    ∙ sym (first_some-assoc (found_outside y more) (if int_eq y o.y then Some (named_views o.tags.items) else None) before)
-    ∙ ap (λ s. first_some (found_outside y s) before) (sym front)

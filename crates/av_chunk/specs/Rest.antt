@@ -36,14 +36,10 @@ abbrev pub section_or_missing : ℤ → Option SectionTags → SectionRest
 section_or_missing y None = missing y
 section_or_missing y (Some s) = tags_of s
 
-abbrev pub first_some : {A : Type 0} → Option A → Option A → Option A
-first_some None o = o
-first_some (Some x) o = Some x
-
--- the last section out of the height with a number; no rest that was read has two of a number
+-- the first section out of the height with that number
 abbrev pub found_outside : ℤ → List OutsideSection → Option (List NamedTag)
 found_outside y [] = None
-found_outside y (o ∷ os) = first_some (found_outside y os) (if int_eq y o.y then Some (named_views o.tags.items) else None)
+found_outside y (o ∷ os) = if int_eq y o.y then Some (named_views o.tags.items) else found_outside y os
 
 -- a rest, from its name, its tags, its foreign entries, and the sections in the height and out of it
 abbrev pub rest_with : Height → List ℕ → List Named → List Tag → List (Option SectionTags) → List OutsideSection → RestOfChunk

@@ -1,5 +1,5 @@
 -- What the readers of sections answer. Working definitions: no public clause cites them.
-use Rattle.std.specs.Prelude.{◌≡◌, ◌≢◌, ℕ, ◌<◌, ◌≤◌, ℤ, List, [], ◌∷◌, ◌++◌, Option, Some, None, Bool, true, false, nat_lt, length, slice_get, slice_index_or, slice_set, codes, if◌then◌else◌}
+use Rattle.std.specs.Prelude.{◌≡◌, ◌≢◌, ℕ, ◌<◌, ◌≤◌, ℤ, List, [], ◌∷◌, ◌++◌, Option, Some, None, Bool, true, false, nat_lt, length, slice_get, slice_index_or, slice_set, codes}
 use Rattle.std.specs.List.{flat_map}
 use Rattle.av_types.specs.Faults.{fault_number, least}
 use Rattle.av_types.specs.Places.{is_section_of}
@@ -15,13 +15,13 @@ use Rattle.av_state.specs.StateList.{with_states, most_states}
 use Rattle.av_section.specs.BlockStates.{when}
 use Rattle.av_section.specs.Section.{number_at, is_pending, IsFilled}
 use Rattle.av_section.specs.declared.section.Section.{Section}
-use Rattle.av_document.specs.Chunk.{section_number, is_number, section_faults, section_states, section_rest, block_states_of, block_faults, block_palette, block_cell}
+use Rattle.av_document.specs.Chunk.{section_number, numbered, section_faults, section_states, section_rest, block_states_of, block_faults, block_palette, block_cell}
 use Rattle.av_chunk.specs.declared.sections.Part.{Part}
 use Rattle.av_chunk.specs.declared.sections.Part.TheVariants.{Inside, Outside}
 use Rattle.av_chunk.specs.declared.sections.Sections.{Sections}
 use Rattle.av_chunk.specs.declared.rest.SectionTags.{SectionTags}
 use Rattle.av_chunk.specs.declared.rest.OutsideSection.{OutsideSection}
-use Rattle.av_chunk.specs.Rest.{tags_of, offset_of, first_some, section_or_missing, found_outside}
+use Rattle.av_chunk.specs.Rest.{tags_of, offset_of, section_or_missing, found_outside}
 
 -- more states than a table has
 abbrev pub are_too_many : List BlockState → List BlockState → Bool
@@ -75,15 +75,6 @@ pub record IsSectionRefused (h : Height) (ms : List NamedTag) (old : List BlockS
 abbrev pub or_missing : ℤ → Option (List NamedTag) → List NamedTag
 or_missing y found = or_else (record { name = codes "Y"; tag = byte y } ∷ []) found
 
--- the section, if it has the number
-abbrev pub if_numbered : ℤ → List NamedTag → Option (List NamedTag)
-if_numbered y ms = if is_number y (section_number ms) then Some ms else None
-
--- the last section of a number
-abbrev pub last_numbered : ℤ → List (List NamedTag) → Option (List NamedTag)
-last_numbered y [] = None
-last_numbered y (ms ∷ rows) = first_some (last_numbered y rows) (if_numbered y ms)
-
 abbrev pub SlotHas : List BlockState → (ℕ → BlockState) → Option Section → Type 0
 SlotHas table cell None = ⊥
 SlotHas table cell (Some s) = HasCells table cell s
@@ -97,9 +88,9 @@ SlotFinds table y found (Some s) = HasCells table (block_cell (block_states_of (
 pub record HoldSections (h : Height) (table : List BlockState) (rows : List (List NamedTag)) (r : Sections) : Type 0 where
   pub count : length r.sections.items ≡ h.sections
   pub count_kept : length r.kept.items ≡ h.sections
-  pub found : (y : ℤ) → is_section_of h y ≡ true → SlotFinds table y (last_numbered y rows) (slice_index_or r.sections.items (offset_of h y) None)
-  pub rests : (y : ℤ) → is_section_of h y ≡ true → section_or_missing y (slice_index_or r.kept.items (offset_of h y) None) ≡ section_rest (or_missing y (last_numbered y rows))
-  pub others : (y : ℤ) → is_section_of h y ≡ false → found_outside y r.outside.items ≡ last_numbered y rows
+  pub found : (y : ℤ) → is_section_of h y ≡ true → SlotFinds table y (numbered y rows) (slice_index_or r.sections.items (offset_of h y) None)
+  pub rests : (y : ℤ) → is_section_of h y ≡ true → section_or_missing y (slice_index_or r.kept.items (offset_of h y) None) ≡ section_rest (or_missing y (numbered y rows))
+  pub others : (y : ℤ) → is_section_of h y ≡ false → found_outside y r.outside.items ≡ numbered y rows
 
 -- all missing, before any was found
 pub record AreMissing (h : Height) (r : Sections) : Type 0 where
@@ -146,9 +137,9 @@ pub record AreRead (h : Height) (rows : List (List NamedTag)) (old new : List Bl
   pub no_fault : flat_map (section_faults h) rows ≡ []
   pub states : new ≡ with_states old (flat_map (section_states h) rows)
   pub count : length r.sections.items ≡ h.sections
-  pub cells : (y : ℤ) → is_section_of h y ≡ true → SlotHas new (block_cell (block_states_of (or_missing y (last_numbered y rows)))) (slice_index_or r.sections.items (offset_of h y) None)
-  pub rests : (y : ℤ) → is_section_of h y ≡ true → section_or_missing y (slice_index_or r.kept.items (offset_of h y) None) ≡ section_rest (or_missing y (last_numbered y rows))
-  pub others : (y : ℤ) → is_section_of h y ≡ false → found_outside y r.outside.items ≡ last_numbered y rows
+  pub cells : (y : ℤ) → is_section_of h y ≡ true → SlotHas new (block_cell (block_states_of (or_missing y (numbered y rows)))) (slice_index_or r.sections.items (offset_of h y) None)
+  pub rests : (y : ℤ) → is_section_of h y ≡ true → section_or_missing y (slice_index_or r.kept.items (offset_of h y) None) ≡ section_rest (or_missing y (numbered y rows))
+  pub others : (y : ℤ) → is_section_of h y ≡ false → found_outside y r.outside.items ≡ numbered y rows
 
 pub record AreRefusedBy (h : Height) (rows : List (List NamedTag)) (old : List BlockState) (e : Fault) : Type 0 where
   pub first : judged (flat_map (section_faults h) rows) old (flat_map (section_states h) rows) ≡ Some (fault_number e)

@@ -5,7 +5,7 @@ ghost use Rattle.av_nbt.specs.Shape.{compounds_of};
 ghost use Rattle.av_nbt.specs.View.{document, view, views};
 ghost use Rattle.av_state.specs.Table.{states};
 ghost use Rattle.av_section.specs.Reading.{OnlyGrows};
-ghost use Rattle.av_document.specs.Chunk.{is_other, root_tags};
+ghost use Rattle.av_document.specs.Chunk.{is_other, root_tags, share_a_number};
 ghost use Rattle.av_chunk.specs.SectionsRead.{AreRead};
 ghost use Rattle.av_chunk.specs.TicksRead.{AreTicks, ArePartsRefused};
 ghost use Rattle.av_chunk.specs.Rest.{opened};
@@ -65,6 +65,7 @@ fn read_parts(
     table: &mut StateTable,
 ) -> Result<(Sections, Ticks), Fault>
     requires numbers { has_bad_number height (views sections.items) ≡ false }
+    requires apart { share_a_number (opened (views sections.items)) ≡ false }
     requires compounds { has_other (views ticks.items) ≡ false }
     ensures sections { IfOk result (λ parts. AreRead height (opened (views sections.items)) (states table.old) (states table.new) parts.0) }
     ensures ticks { IfOk result (λ parts. AreTicks place height (opened (views ticks.items)) parts.1) }

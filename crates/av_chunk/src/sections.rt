@@ -7,7 +7,7 @@ ghost use Rattle.av_nbt.specs.Shape.{compound_of};
 ghost use Rattle.av_nbt.specs.View.{view, views, named_view, named_views};
 ghost use Rattle.av_state.specs.Table.{states};
 ghost use Rattle.av_section.specs.Reading.{OnlyGrows};
-ghost use Rattle.av_document.specs.Chunk.{is_other};
+ghost use Rattle.av_document.specs.Chunk.{is_other, share_a_number};
 ghost use Rattle.av_chunk.specs.SectionsRead.{AreStates, AreRefused, IsSectionRead, IsSectionRefused, AreMissing, IsPlaced, FitsHeight, SlotFilled, AreFilled, AreFound, AreRead, AreRefusedBy};
 ghost use Rattle.av_chunk.specs.Rest.{offset_of, opened};
 ghost use Rattle.av_chunk.specs.Working.{checked_number, compound_in, tags_in, has_bad_number};
@@ -196,7 +196,8 @@ fn find_sections(
     height: Height,
     table: &mut StateTable,
 ) -> Result<Sections, Fault>
-    requires { has_bad_number height (views sections.items) ≡ false }
+    requires numbers { has_bad_number height (views sections.items) ≡ false }
+    requires apart { share_a_number (opened (views sections.items)) ≡ false }
     ensures ok { IfOk result (AreFound height (opened (views sections.items)) (states table.old) (states table.new)) }
     ensures err { IfErr result (λ e. e ≢ OutOfMemory → AreRefusedBy height (opened (views sections.items)) (states table.old) e) }
     ensures table { OnlyGrows (states table.old) (states table.new) }
@@ -223,7 +224,8 @@ pub(crate) fn read_sections(
     height: Height,
     table: &mut StateTable,
 ) -> Result<Sections, Fault>
-    requires { has_bad_number height (views sections.items) ≡ false }
+    requires numbers { has_bad_number height (views sections.items) ≡ false }
+    requires apart { share_a_number (opened (views sections.items)) ≡ false }
     ensures ok { IfOk result (AreRead height (opened (views sections.items)) (states table.old) (states table.new)) }
     ensures err { IfErr result (λ e. e ≢ OutOfMemory → AreRefusedBy height (opened (views sections.items)) (states table.old) e) }
     ensures table { OnlyGrows (states table.old) (states table.new) }

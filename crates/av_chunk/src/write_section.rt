@@ -1,6 +1,5 @@
 //! One section of a chunk, written.
-ghost use Rattle.std.specs.Prelude.{◌≡◌, ◌<◌, length, [], ◌∷◌, ◌++◌, codes, option_map, Some, None, if◌then◌else◌, IfOk, IfErr};
-ghost use Rattle.std.specs.Ordering.{int_eq};
+ghost use Rattle.std.specs.Prelude.{◌≡◌, ◌<◌, length, [], ◌∷◌, ◌++◌, codes, option_map, IfOk, IfErr};
 ghost use Rattle.std.specs.Option.{option_copied};
 ghost use Rattle.av_types.specs.declared.fault.Fault.TheVariants.{OutOfMemory};
 ghost use Rattle.av_nbt.specs.Nbt.{byte};
@@ -8,7 +7,7 @@ ghost use Rattle.av_nbt.specs.View.{view, named_views};
 ghost use Rattle.av_state.specs.Table.{states};
 ghost use Rattle.av_section.specs.Section.{HasNumbersBelow, section_states};
 ghost use Rattle.av_document.specs.Layout.{data_tags, states_layout};
-ghost use Rattle.av_chunk.specs.Rest.{tags_of, missing, section_or_missing, first_some, found_outside};
+ghost use Rattle.av_chunk.specs.Rest.{tags_of, missing, section_or_missing, found_outside};
 ghost use Rattle.av_chunk.specs.WritingSteps.{section_with};
 
 use crate::build::{appended, joined, placed};
@@ -101,26 +100,16 @@ pub(crate) fn section_tags(
     placed(alloc, tags, b"BlockLight", light)
 }
 
-/// The tags of a kept section, if it has the number, or else what was found before.
-fn later<'a>(found: Option<&'a [Named]>, section: &'a OutsideSection, y: i8) -> Option<&'a [Named]>
-    ensures { option_map named_views (option_copied result) ≡ first_some (if int_eq y section.now.y then Some (named_views section.now.tags.items) else None) (option_map named_views (option_copied found.entry)) }
-{
-    if section.y == y {
-        Some(section.tags.as_slice())
-    } else {
-        found
-    }
-}
-
-/// The kept section out of the height that has a number, the last one if there are several.
+/// The first kept section out of the height that has a number.
 fn find_outside(outside: &[OutsideSection], y: i8) -> Option<&[Named]>
     ensures { option_map named_views (option_copied result) ≡ found_outside y outside.now }
 {
-    let mut found = None;
     for section in outside {
-        found = later(found, section, y);
+        if section.y == y {
+            return Some(section.tags.as_slice());
+        }
     }
-    found
+    None
 }
 
 /// A copy of the section out of the height that has a number.

@@ -16,7 +16,7 @@ use Rattle.av_chunk.specs.SectionsRead.{AreRead}
 use Rattle.av_chunk.proofs.Rows.{items_good}
 use Rattle.av_chunk.proofs.WaterIn.{in_height, water_in}
 use Rattle.av_chunk.proofs.Assembly.{Parts, denotes, loaded, members_in-of}
-use Rattle.av_chunk.proofs.Admitted.{admitted_true, admitted_false, admitted_fault, admitted_no_memory, whatever_fault, good_sections, good_ticks, good_list, first_loaded}
+use Rattle.av_chunk.proofs.Admitted.{admitted_true, admitted_false, admitted_fault, admitted_no_memory, whatever_fault, good_sections, good_apart, good_ticks, good_list, first_loaded}
 use Rattle.av_chunk.proofs.chunk.Chunk.read.Goals as goal
 
 pub returns-in_err-admitted-clause-err : goal.returns-in_err-admitted-clause-err
@@ -66,6 +66,14 @@ read_parts-requires-clause-numbers c =
     let is : admitted c.args.height c.args.place root ≡ Ok true = rw c.deref.ensures.value at (sym c.admitted.ensures) ∙ (c.in_ok-admitted.was ∙ ap Ok c.if-not-branch.false) in
     let a = admitted_true c.args.height c.args.place root is in
     rw (c.items.ensures.items, c.in_ok-sections.ensures.taken) (items_good c.args.height (tag_of (codes "sections") root) (good_list c.args.height root a.shape))
+
+pub read_parts-requires-clause-apart : goal.read_parts-requires-clause-apart
+read_parts-requires-clause-apart c =
+    let root = named_views c.args.root.tags.items in
+    let is : admitted c.args.height c.args.place root ≡ Ok true = rw c.deref.ensures.value at (sym c.admitted.ensures) ∙ (c.in_ok-admitted.was ∙ ap Ok c.if-not-branch.false) in
+    let a = admitted_true c.args.height c.args.place root is in
+    let rows : opened (views c.items.result.items) ≡ sections root = rw c.in_ok-sections.ensures.taken at c.items.ensures.rows in
+    rw rows (good_apart c.args.height root a.shape)
 
 pub returns-in_err-read-clause-err : goal.returns-in_err-read-clause-err
 returns-in_err-read-clause-err c =
