@@ -295,14 +295,13 @@ fn packed_long(values: &[u16], bits: u32) -> i64
 
 /// The longs that hold 4,096 values, as `pack` gives them.
 #[inline(always)]
-fn pack_by(alloc: Global, values: &[u16], bits: u32) -> Result<Vec<i64>, Fault>
+fn pack_by(alloc: Global, values: &[u16], bits: u32) -> Result<Vec<i64>, AllocError>
     requires low { 4 ≤ bits }
     requires high { bits ≤ 16 }
     requires count { length values.now ≡ 4096 }
     requires fit { All (λ value. value < 2 ^ bits) values.now }
     ensures layout { IfOk result (λ longs. longs.items ≡ packed bits values.now) }
     ensures meaning { IfOk result (λ longs. IsPacked bits values.now longs.items) }
-    ensures err { IfErr result (λ e. e ≡ OutOfMemory) }
 {
     let per_long = (64 / bits) as usize;
     let count = longs_for(bits);
@@ -327,11 +326,11 @@ pub fn pack(alloc: Global, values: &[u16], bits: u32) -> Result<Vec<i64>, Fault>
     ensures meaning { IfOk result (λ longs. IsPacked bits values.now longs.items) }
     ensures err { IfErr result (λ e. e ≡ OutOfMemory) }
 {
-    if bits == 4 {
-        pack_by(alloc, values, 4)
+    Ok(if bits == 4 {
+        pack_by(alloc, values, 4)?
     } else if bits == 5 {
-        pack_by(alloc, values, 5)
+        pack_by(alloc, values, 5)?
     } else {
-        pack_by(alloc, values, bits)
-    }
+        pack_by(alloc, values, bits)?
+    })
 }

@@ -8,7 +8,7 @@ ghost use Rattle.av_region.specs.Layout.{sectors_for, location_for, locations_fr
 
 use crate::layout::{CHUNK_HEADER, HEADER, SECTOR, UNCOMPRESSED};
 use av_types::{Fault, RegionPos};
-use std::alloc::Global;
+use std::alloc::{AllocError, Global};
 use std::convert::AsSlice;
 
 /// The sector after the header, where the first chunk stands.
@@ -80,11 +80,13 @@ fn total_sectors<P: AsSlice<u8>>(payloads: &[Option<P>]) -> u32
 }
 
 /// Appends the header's locations.
-fn write_locations<P: AsSlice<u8>>(file: &mut Vec<u8>, payloads: &[Option<P>]) -> Result<(), Fault>
+fn write_locations<P: AsSlice<u8>>(
+    file: &mut Vec<u8>,
+    payloads: &[Option<P>],
+) -> Result<(), AllocError>
     requires small { first_too_large (map (option_map P.items) payloads.now) ≡ None }
     requires count { length payloads.now ≤ 1024 }
-    ensures ok { OnOk result (file.new.items ≡ file.old.items ++ locations_from 2 (map (option_map P.items) payloads.now)) }
-    ensures err { IfErr result (λ e. e ≡ OutOfMemory) }
+    ensures { OnOk result (file.new.items ≡ file.old.items ++ locations_from 2 (map (option_map P.items) payloads.now)) }
 {
     let mut sector = FIRST_SECTOR;
     for payload in payloads {
@@ -96,9 +98,8 @@ fn write_locations<P: AsSlice<u8>>(file: &mut Vec<u8>, payloads: &[Option<P>]) -
 }
 
 /// Appends the header's timestamps.
-fn write_stamps(file: &mut Vec<u8>, stamps: &[u32]) -> Result<(), Fault>
-    ensures ok { OnOk result (file.new.items ≡ file.old.items ++ flat_map (to_be_bytes w32) stamps.now) }
-    ensures err { IfErr result (λ e. e ≡ OutOfMemory) }
+fn write_stamps(file: &mut Vec<u8>, stamps: &[u32]) -> Result<(), AllocError>
+    ensures { OnOk result (file.new.items ≡ file.old.items ++ flat_map (to_be_bytes w32) stamps.now) }
 {
     for stamp in stamps {
         file.extend_from_slice(&stamp.to_be_bytes())?;
@@ -107,10 +108,9 @@ fn write_stamps(file: &mut Vec<u8>, stamps: &[u32]) -> Result<(), Fault>
 }
 
 /// Appends a chunk: its length field, its type, the payload and zeros to whole sectors.
-fn write_chunk<P: AsSlice<u8>>(file: &mut Vec<u8>, chunk: &Option<P>) -> Result<(), Fault>
+fn write_chunk<P: AsSlice<u8>>(file: &mut Vec<u8>, chunk: &Option<P>) -> Result<(), AllocError>
     requires { is_too_large (option_map P.items chunk.now) ≡ false }
-    ensures ok { OnOk result (file.new.items ≡ file.old.items ++ chunk_bytes (option_map P.items chunk.now)) }
-    ensures err { IfErr result (λ e. e ≡ OutOfMemory) }
+    ensures { OnOk result (file.new.items ≡ file.old.items ++ chunk_bytes (option_map P.items chunk.now)) }
 {
     let Some(payload) = chunk else {
         return Ok(());
@@ -126,10 +126,12 @@ fn write_chunk<P: AsSlice<u8>>(file: &mut Vec<u8>, chunk: &Option<P>) -> Result<
 }
 
 /// Appends all chunks.
-fn write_chunks<P: AsSlice<u8>>(file: &mut Vec<u8>, payloads: &[Option<P>]) -> Result<(), Fault>
+fn write_chunks<P: AsSlice<u8>>(
+    file: &mut Vec<u8>,
+    payloads: &[Option<P>],
+) -> Result<(), AllocError>
     requires { first_too_large (map (option_map P.items) payloads.now) ≡ None }
-    ensures ok { OnOk result (file.new.items ≡ file.old.items ++ flat_map chunk_bytes (map (option_map P.items) payloads.now)) }
-    ensures err { IfErr result (λ e. e ≡ OutOfMemory) }
+    ensures { OnOk result (file.new.items ≡ file.old.items ++ flat_map chunk_bytes (map (option_map P.items) payloads.now)) }
 {
     for payload in payloads {
         write_chunk(file, payload)?;

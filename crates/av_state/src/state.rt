@@ -140,8 +140,8 @@ impl State {
         ensures memory { IfErr result (λ e. e ≢ BadWaterLevel → e ≡ OutOfMemory) }
     {
         match self.form() {
-            Form::Fixed(0) => State::air(alloc),
-            Form::Fixed(number) => State::water(alloc, number as usize - 1),
+            Form::Fixed(0) => Ok(State::air(alloc)?),
+            Form::Fixed(number) => Ok(State::water(alloc, number as usize - 1)?),
             Form::NoLevel => Err(Fault::BadWaterLevel),
             Form::Same => Ok(self.clone()?),
         }
@@ -200,9 +200,8 @@ impl State {
     }
 
     /// Air.
-    pub(crate) fn air(alloc: Global) -> Result<State, Fault>
-        ensures ok { IfOk result (λ s. state_of s ≡ air) }
-        ensures memory { IfErr result (λ e. e ≡ OutOfMemory) }
+    pub(crate) fn air(alloc: Global) -> Result<State, AllocError>
+        ensures { IfOk result (λ s. state_of s ≡ air) }
     {
         Ok(State {
             name: Vec::from_slice(alloc, AIR)?,
@@ -211,10 +210,9 @@ impl State {
     }
 
     /// Water of a level from 0 to 8.
-    pub(crate) fn water(alloc: Global, level: usize) -> Result<State, Fault>
+    pub(crate) fn water(alloc: Global, level: usize) -> Result<State, AllocError>
         requires { level < 9 }
-        ensures ok { IfOk result (λ s. state_of s ≡ water level) }
-        ensures memory { IfErr result (λ e. e ≡ OutOfMemory) }
+        ensures { IfOk result (λ s. state_of s ≡ water level) }
     {
         let property = Property {
             key: Vec::from_slice(alloc, LEVEL)?,

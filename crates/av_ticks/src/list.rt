@@ -173,7 +173,8 @@ impl TickList {
         ensures succeeds { additional ≤ room self.old → IsOk result }
         ensures room { room self.old ≤ room self.new }
     {
-        self.store.reserve(additional)
+        self.store.reserve(additional)?;
+        Ok(())
     }
 
     /// The entries that are due in tick `now` or before it, by their time, then by their priority, the lower first,

@@ -1,14 +1,13 @@
 //! Entries in order, with an index by their positions where they are many.
-ghost use Rattle.std.specs.Prelude.{◌≡◌, int_le, ◌<◌, ◌≤◌, ◌+◌, ◌-◌, [], ◌∷◌, ◌++◌, map, filter, not, false, true, IsOk, IfOk, OnOk, OnErr, IfErr, is_ok, if◌then◌else◌, vec_capacity, vec_len};
+ghost use Rattle.std.specs.Prelude.{◌≡◌, int_le, ◌<◌, ◌≤◌, ◌+◌, ◌-◌, [], ◌∷◌, ◌++◌, map, filter, not, false, true, IsOk, IfOk, OnOk, OnErr, is_ok, if◌then◌else◌, vec_capacity, vec_len};
 ghost use Rattle.std.specs.Map.{keys_of, values_of};
 ghost use Rattle.indexmap.specs.IndexMap.{spare};
-ghost use Rattle.av_types.specs.declared.fault.Fault.TheVariants.{OutOfMemory};
 ghost use Rattle.av_ticks.specs.Entries.{are_apart, is_due, is_pending, same_pos};
 ghost use Rattle.av_ticks.specs.Keys.{key_of};
 
-use av_types::{Entry, Fault, Pos};
+use av_types::{Entry, Pos};
 use indexmap::IndexMap;
-use std::alloc::Global;
+use std::alloc::{AllocError, Global};
 
 /// Up to how many entries room is made without an index.
 const FEW: usize = 64;
@@ -39,11 +38,13 @@ fn values(by_position: &IndexMap<(i32, i32, i32), Entry>) -> &[Entry]
 }
 
 /// Appends the entry of a position that is not pending.
-fn append(by_position: &mut IndexMap<(i32, i32, i32), Entry>, entry: Entry) -> Result<(), Fault>
+fn append(
+    by_position: &mut IndexMap<(i32, i32, i32), Entry>,
+    entry: Entry,
+) -> Result<(), AllocError>
     requires keyed { keys_of by_position.old.entries ≡ map key_of (values_of by_position.old.entries) }
     requires new { is_pending entry.pos (values_of by_position.old.entries) ≡ false }
     ensures entries { by_position.new.entries ≡ (if is_ok result then by_position.old.entries ++ (key_of entry, entry) ∷ [] else by_position.old.entries) }
-    ensures err { IfErr result (λ e. e ≡ OutOfMemory) }
     ensures succeeds { 0 < spare by_position.old → IsOk result }
     ensures spare { spare by_position.old ≤ spare by_position.new + 1 }
 {
@@ -71,9 +72,8 @@ fn has_entry(entries: &[Entry], pos: Pos) -> bool
 }
 
 /// Puts an entry at the end.
-fn push(few: &mut Vec<Entry>, entry: Entry) -> Result<(), Fault>
+fn push(few: &mut Vec<Entry>, entry: Entry) -> Result<(), AllocError>
     ensures entries { few.new.items ≡ (if is_ok result then few.old.items ++ entry ∷ [] else few.old.items) }
-    ensures err { IfErr result (λ e. e ≡ OutOfMemory) }
     ensures succeeds { 0 < vec_capacity few.old - vec_len few.old → IsOk result }
     ensures spare { vec_capacity few.old - vec_len few.old ≤ vec_capacity few.new - vec_len few.new + 1 }
 {
@@ -82,10 +82,9 @@ fn push(few: &mut Vec<Entry>, entry: Entry) -> Result<(), Fault>
 }
 
 /// Makes room for so many more entries.
-fn reserve_few(few: &mut Vec<Entry>, additional: usize) -> Result<(), Fault>
+fn reserve_few(few: &mut Vec<Entry>, additional: usize) -> Result<(), AllocError>
     ensures entries { few.new.items ≡ few.old.items }
     ensures ok { OnOk result (additional ≤ vec_capacity few.new - vec_len few.new) }
-    ensures err { IfErr result (λ e. e ≡ OutOfMemory) }
     ensures room { vec_capacity few.old - vec_len few.old ≤ vec_capacity few.new - vec_len few.new }
 {
     few.reserve(additional)?;
@@ -125,12 +124,11 @@ fn indexed(
     alloc: Global,
     entries: &[Entry],
     additional: usize,
-) -> Result<IndexMap<(i32, i32, i32), Entry>, Fault>
+) -> Result<IndexMap<(i32, i32, i32), Entry>, AllocError>
     requires { are_apart entries.now ≡ true }
     ensures keyed { IfOk result (λ many. keys_of many.entries ≡ map key_of (values_of many.entries)) }
     ensures entries { IfOk result (λ many. values_of many.entries ≡ entries.now) }
     ensures room { IfOk result (λ many. additional ≤ spare many) }
-    ensures err { IfErr result (λ e. e ≡ OutOfMemory) }
 {
     let mut many = IndexMap::new(alloc);
     for entry in entries {
@@ -182,14 +180,13 @@ impl Store {
     }
 
     /// Makes an index, with room for so many more entries.
-    fn index(&mut self, additional: usize) -> Result<(), Fault>
+    fn index(&mut self, additional: usize) -> Result<(), AllocError>
         requires few { self.old.is_indexed ≡ false }
         requires apart { are_apart (stored self.old) ≡ true }
         ensures entries { stored self.new ≡ stored self.old }
         ensures many { OnOk result (self.new.is_indexed ≡ true) }
         ensures ok { OnOk result (additional ≤ spare_in self.new) }
         ensures same { OnErr result (self.new ≡ self.old) }
-        ensures err { IfErr result (λ e. e ≡ OutOfMemory) }
     {
         let alloc = *self.many.allocator();
         let many = indexed(alloc, self.few.as_slice(), additional)?;
@@ -200,11 +197,10 @@ impl Store {
     }
 
     /// Makes room for so many more entries.
-    pub(crate) fn reserve(&mut self, additional: usize) -> Result<(), Fault>
+    pub(crate) fn reserve(&mut self, additional: usize) -> Result<(), AllocError>
         requires apart { are_apart (stored self.old) ≡ true }
         ensures entries { stored self.new ≡ stored self.old }
         ensures ok { OnOk result (additional ≤ spare_in self.new) }
-        ensures err { IfErr result (λ e. e ≡ OutOfMemory) }
         ensures succeeds { additional ≤ spare_in self.old → IsOk result }
         ensures room { spare_in self.old ≤ spare_in self.new }
     {
@@ -222,11 +218,10 @@ impl Store {
     }
 
     /// Appends the entry of a position that is not pending.
-    pub(crate) fn add(&mut self, entry: Entry) -> Result<(), Fault>
+    pub(crate) fn add(&mut self, entry: Entry) -> Result<(), AllocError>
         requires apart { are_apart (stored self.old) ≡ true }
         requires new { is_pending entry.pos (stored self.old) ≡ false }
         ensures entries { stored self.new ≡ (if is_ok result then stored self.old ++ entry ∷ [] else stored self.old) }
-        ensures err { IfErr result (λ e. e ≡ OutOfMemory) }
         ensures succeeds { 0 < spare_in self.old → IsOk result }
         ensures spare { spare_in self.old ≤ spare_in self.new + 1 }
     {
