@@ -10,7 +10,7 @@ use Rattle.av_cells.specs.Rule.{can_enter, incoming_at, opens_at, wet_at}
 use Rattle.av_cells.specs.Turn.{drop_of, rank_at, rank_of, is_chosen, least_rank, planned, number_of_wet}
 use Rattle.av_cells.proofs.Loaded.{open_is_loaded}
 use Rattle.av_types.specs.Water.{is_wet}
-use Rattle.av_water.specs.Ready.{IsPlanFor}
+use Rattle.av_water.specs.Sides.{IsPlanFor}
 use Rattle.std.proofs.Common.{not}
 use Rattle.std.proofs.lemmas.Bool.Decides.{nat_tests}
 

@@ -3,11 +3,11 @@ ghost use Rattle.std.specs.Prelude.{◌≡◌, ◌<◌, ◌+◌, ◌-◌, ◌≤
 ghost use Rattle.av_rules.specs.Kinds.{kind_count};
 ghost use Rattle.av_types.specs.Water.{IsProper, amount_of, is_source};
 ghost use Rattle.av_types.specs.declared.water.Wet.TheVariants.{Dry, Source, Flow, Falling};
-ghost use Rattle.av_types.specs.declared.water.Direction.TheVariants.{North, South, West, East};
 ghost use Rattle.av_cells.specs.Kinds.{kinds_of};
-ghost use Rattle.av_cells.specs.Positions.{step, below, IsInner};
+ghost use Rattle.av_cells.specs.Positions.{below, IsInner};
 ghost use Rattle.av_cells.specs.Rule.{wet_at, floor_at, one_if, sources_beside, incoming_at, HasKinds};
 ghost use Rattle.av_cells.specs.Turn.{number_of_wet};
+ghost use Rattle.av_water.specs.Sides.{ForSides, IsWetSide};
 
 use av_cells::{Cells, above, below, kind_at, step};
 use av_rules::Kinds;
@@ -57,8 +57,7 @@ impl Sides {
 fn wet_beside<C: Cells>(cells: &C, kinds: &Kinds, pos: Pos, direction: Direction) -> Wet
     requires inner { IsInner pos }
     requires kinds { HasKinds (kind_count kinds.now) (C.world cells.now) }
-    ensures is { result ≡ wet_at (kinds_of kinds.now) (C.world cells.now) (step pos direction) }
-    ensures proper { IsProper result }
+    ensures { IsWetSide (kinds_of kinds.now) (C.world cells.now) pos direction result }
 {
     kind_at(cells, kinds, step(pos, direction)).wet
 }
@@ -67,14 +66,8 @@ fn wet_beside<C: Cells>(cells: &C, kinds: &Kinds, pos: Pos, direction: Direction
 fn sides_of<C: Cells>(cells: &C, kinds: &Kinds, pos: Pos) -> Sides
     requires inner { IsInner pos }
     requires kinds { HasKinds (kind_count kinds.now) (C.world cells.now) }
-    ensures north { result.north ≡ wet_at (kinds_of kinds.now) (C.world cells.now) (step pos North) }
-    ensures south { result.south ≡ wet_at (kinds_of kinds.now) (C.world cells.now) (step pos South) }
-    ensures west { result.west ≡ wet_at (kinds_of kinds.now) (C.world cells.now) (step pos West) }
-    ensures east { result.east ≡ wet_at (kinds_of kinds.now) (C.world cells.now) (step pos East) }
-    ensures proper_north { IsProper result.north }
-    ensures proper_south { IsProper result.south }
-    ensures proper_west { IsProper result.west }
-    ensures proper_east { IsProper result.east }
+    ensures { ForSides (IsWetSide (kinds_of kinds.now) (C.world cells.now) pos)
+        result.north result.south result.west result.east }
 {
     Sides {
         north: wet_beside(cells, kinds, pos, Direction::North),

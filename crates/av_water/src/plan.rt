@@ -2,13 +2,12 @@
 ghost use Rattle.std.specs.Prelude.{◌≡◌, ◌<◌, IsTrue};
 ghost use Rattle.av_rules.specs.Kinds.{kind_count};
 ghost use Rattle.av_types.specs.Water.{IsProper};
-ghost use Rattle.av_types.specs.declared.water.Direction.TheVariants.{North, South, West, East};
 ghost use Rattle.av_cells.specs.Kinds.{kinds_of};
 ghost use Rattle.av_cells.specs.Positions.{step};
 ghost use Rattle.av_cells.specs.Rule.{HasKinds, can_enter};
 ghost use Rattle.av_cells.specs.Turn.{number_of_wet, is_chosen};
 ghost use Rattle.av_drop.specs.Sides.{AreWays};
-ghost use Rattle.av_water.specs.Ready.{IsPlanFor};
+ghost use Rattle.av_water.specs.Sides.{ForSides, IsPlanFor};
 
 use crate::coming::incoming;
 use av_cells::{Cells, can_enter, step};
@@ -88,10 +87,8 @@ fn planned_side<C: Cells>(
 pub(crate) fn plan_of<C: Cells>(cells: &C, kinds: &Kinds, pos: Pos) -> Plan
     requires loaded { IsTrue ((C.world cells.now).loaded pos) }
     requires kinds { HasKinds (kind_count kinds.now) (C.world cells.now) }
-    ensures north { IsPlanFor (kinds_of kinds.now) (C.world cells.now) pos North result.north }
-    ensures south { IsPlanFor (kinds_of kinds.now) (C.world cells.now) pos South result.south }
-    ensures west { IsPlanFor (kinds_of kinds.now) (C.world cells.now) pos West result.west }
-    ensures east { IsPlanFor (kinds_of kinds.now) (C.world cells.now) pos East result.east }
+    ensures { ForSides (IsPlanFor (kinds_of kinds.now) (C.world cells.now) pos)
+        result.north result.south result.west result.east }
 {
     let ways = ways_of(cells, kinds, pos);
     let chosen = nearest_sides(cells, kinds, pos, ways);

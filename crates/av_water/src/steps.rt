@@ -6,7 +6,8 @@ ghost use Rattle.av_cells.specs.Kinds.{kinds_of};
 ghost use Rattle.av_cells.specs.Positions.{step, below};
 ghost use Rattle.av_cells.specs.Turn.{change, number_of_wet, set_awake, set_planned};
 ghost use Rattle.av_cells.specs.Wakes.{Appends};
-ghost use Rattle.av_water.specs.Ready.{IsReady, IsPlanFor};
+ghost use Rattle.av_water.specs.Ready.{IsReady};
+ghost use Rattle.av_water.specs.Sides.{ForSides, IsPlanFor};
 ghost use Rattle.av_types.specs.declared.water.Direction.TheVariants.{North, South, West, East};
 
 use crate::plan::{Plan, number_of_wet};
@@ -137,10 +138,8 @@ pub(crate) fn set_sides<C: Cells>(
 )
     requires ready { IsReady (kind_count kinds.now) (C.world cells.old) (C.room cells.old)
         (C.can_set cells.old) made.old.items pos 28 }
-    requires north { IsPlanFor (kinds_of kinds.now) (C.world cells.old) pos North plan.north }
-    requires south { IsPlanFor (kinds_of kinds.now) (C.world cells.old) pos South plan.south }
-    requires west { IsPlanFor (kinds_of kinds.now) (C.world cells.old) pos West plan.west }
-    requires east { IsPlanFor (kinds_of kinds.now) (C.world cells.old) pos East plan.east }
+    requires planned { ForSides (IsPlanFor (kinds_of kinds.now) (C.world cells.old) pos)
+        plan.north plan.south plan.west plan.east }
     ensures changed { change (C.world cells.new) made.new.items
         ≡ set_planned (kinds_of kinds.now) now (step pos East) plan.east
         (set_planned (kinds_of kinds.now) now (step pos West) plan.west
