@@ -1,6 +1,7 @@
 pub mod Ranks
 pub mod Plans
 pub mod Readiness
+pub mod StepByStep
 pub mod SameReads
 pub mod Regions
 pub mod Inside

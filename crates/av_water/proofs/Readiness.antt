@@ -1,40 +1,17 @@
 -- Room and preparation for the blocks that a turn sets.
-use Rattle.std.proofs.Common.{◌≡◌, ℕ, ◌+◌, ◌<◌, ◌≤◌, pos, ◌+ℤ◌, ◌-ℤ◌, ◌≤ℤ◌, List, length, sym, subst, arith, IsTrue}
+use Rattle.std.proofs.Common.{ℕ, ◌<◌, ◌≤◌, pos, ◌+ℤ◌, ◌-ℤ◌, ◌≤ℤ◌, List, arith}
 use Rattle.std.proofs.lemmas.Int.{ints}
 use Rattle.av_types.specs.declared.place.Pos.{Pos}
 use Rattle.av_types.specs.declared.tick.Entry.{Entry}
 use Rattle.av_types.specs.declared.water.Direction.{Direction}
 use Rattle.av_types.specs.declared.water.Direction.TheVariants.{North, South, West, East}
 use Rattle.av_cells.specs.Positions.{InReach, ForAround, step, below, above}
-use Rattle.av_cells.specs.Rule.{HasKinds}
 use Rattle.av_cells.specs.Wakes.{HasRoom}
 use Rattle.av_cells.specs.World.{World}
-use Rattle.av_water.specs.Ready.{IsReady, CanBeWet}
+use Rattle.av_water.specs.Ready.{IsReady}
 use Rattle.av_rules.specs.declared.kinds.Kinds.{Kinds}
 use Rattle.av_rules.specs.Kinds.{kind_count}
 use Rattle.av_rules.proofs.KindFacts.{are_kinds}
-
--- after one set with its waking
-pub ready_after : (count : ℕ) (v w : World) (room room' : Pos → ℕ) (can can' : Pos → ℕ → Type 0) (made made' : List Entry) (p : Pos)
-    → w.loaded ≡ v.loaded → HasKinds count w → ((q : Pos) → room q ≤ room' q + 7) → ((q : Pos) (n : ℕ) → can q n → can' q n) → length made' ≤ length made + 7
-    → (adds : ℕ) → IsReady count v room can made p (adds + 7) → IsReady count w room' can' made' p adds
-ready_after count v w room room' can can' made made' p same kinds less keeps long adds r =
-    record {
-      loaded = there p r.loaded;
-      kinds = kinds;
-      has_room = λ q i l. let a = r.has_room q i (was q l) in let b = less q in omega arith;
-      prepared = record { itself = also p r.prepared.itself; beneath = also (below p) r.prepared.beneath; beside = λ d. also (step p d) (r.prepared.beside d) };
-      capacity = let a = r.capacity in omega arith;
-    }
-  where
-    was : (q : Pos) → IsTrue (w.loaded q) → IsTrue (v.loaded q)
-    was q l = subst (λ f. IsTrue (f q)) same l
-
-    there : (q : Pos) → IsTrue (v.loaded q) → IsTrue (w.loaded q)
-    there q l = subst (λ f. IsTrue (f q)) (sym same) l
-
-    also : (q : Pos) → CanBeWet v can q → CanBeWet w can' q
-    also q h l n less = keeps q n (h (was q l) n less)
 
 -- the block itself, one below it or beside it
 record IsClose (p q : Pos) : Type 0 where

@@ -6,7 +6,6 @@ ghost use Rattle.av_types.specs.declared.water.Wet.TheVariants.{Dry, Source, Flo
 ghost use Rattle.av_cells.specs.Kinds.{kinds_of};
 ghost use Rattle.av_cells.specs.Positions.{below, IsInner};
 ghost use Rattle.av_cells.specs.Rule.{wet_at, floor_at, one_if, sources_beside, incoming_at, HasKinds};
-ghost use Rattle.av_cells.specs.Turn.{number_of_wet};
 ghost use Rattle.av_water.specs.Sides.{ForSides, IsWetSide};
 
 use av_cells::{Cells, above, below, kind_at, step};

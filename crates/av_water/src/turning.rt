@@ -6,13 +6,13 @@ ghost use Rattle.av_cells.specs.Kinds.{kinds_of};
 ghost use Rattle.av_cells.specs.Positions.{ForTurned, InReach, below};
 ghost use Rattle.av_cells.specs.Rule.{HasKinds, can_enter, wet_at};
 ghost use Rattle.av_cells.specs.Turn.{change, same_wet, spread, onward, renewed, turn};
-ghost use Rattle.av_cells.specs.Wakes.{Appends};
 ghost use Rattle.av_cells.specs.World.{listed_all};
 ghost use Rattle.av_water.specs.Ready.{IsReady};
+ghost use Rattle.av_water.specs.Steps.{IsTurnStep};
 
 use crate::coming::{incoming, sources_beside};
-use crate::plan::plan_of;
-use crate::steps::{set_below, set_itself, set_sides};
+use crate::plan::{number_of_wet, plan_of};
+use crate::steps::{set_number, set_sides};
 use arrayvec::ArrayVec;
 use av_cells::{Cells, below, kind_at};
 use av_rules::Kinds;
@@ -29,12 +29,8 @@ fn spread<C: Cells>(
 )
     requires ready { IsReady (kind_count kinds.now) (C.world cells.old) (C.room cells.old)
         (C.can_set cells.old) made.old.items pos 28 }
-    ensures changed { change (C.world cells.new) made.new.items
-        ≡ spread (kinds_of kinds.now) now pos (change (C.world cells.old) made.old.items) }
-    ensures listed { Appends made.old.items made.new.items (C.lists cells.old) (C.lists cells.new) }
-    ensures site { C.site cells.new ≡ C.site cells.old }
-    ensures loaded { (C.world cells.new).loaded ≡ (C.world cells.old).loaded }
-    ensures kinds { HasKinds (kind_count kinds.now) (C.world cells.new) }
+    ensures { IsTurnStep C.world C.lists C.site C.room C.can_set (kind_count kinds.now) pos 28
+        (spread (kinds_of kinds.now) now pos) cells.old made.old.items cells.new made.new.items }
 {
     if kind_at(cells, kinds, pos).wet.amount() >= 2 {
         let plan = plan_of(cells, kinds, pos);
@@ -49,16 +45,13 @@ fn fall<C: Cells>(cells: &mut C, kinds: &Kinds, now: u32, pos: Pos, made: &mut A
     requires ready { IsReady (kind_count kinds.now) (C.world cells.old) (C.room cells.old)
         (C.can_set cells.old) made.old.items pos 35 }
     requires open { IsTrue (can_enter (kinds_of kinds.now) (C.world cells.old) (below pos)) }
-    ensures changed { change (C.world cells.new) made.new.items
-        ≡ onward (kinds_of kinds.now) now pos (change (C.world cells.old) made.old.items) }
-    ensures listed { Appends made.old.items made.new.items (C.lists cells.old) (C.lists cells.new) }
-    ensures site { C.site cells.new ≡ C.site cells.old }
-    ensures loaded { (C.world cells.new).loaded ≡ (C.world cells.old).loaded }
-    ensures kinds { HasKinds (kind_count kinds.now) (C.world cells.new) }
+    ensures { IsTurnStep C.world C.lists C.site C.room C.can_set (kind_count kinds.now) pos 35
+        (onward (kinds_of kinds.now) now pos) cells.old made.old.items cells.new made.new.items }
 {
     let spreads = sources_beside(cells, kinds, pos) >= 3;
-    let wet = incoming(cells, kinds, below(pos));
-    set_below(cells, kinds, now, pos, wet, made);
+    let under = below(pos);
+    let number = number_of_wet(incoming(cells, kinds, under));
+    set_number(cells, kinds, now, pos, under, number, made);
     if spreads {
         spread(cells, kinds, now, pos, made);
     }
@@ -69,12 +62,8 @@ fn fall<C: Cells>(cells: &mut C, kinds: &Kinds, now: u32, pos: Pos, made: &mut A
 fn go_on<C: Cells>(cells: &mut C, kinds: &Kinds, now: u32, pos: Pos, made: &mut ArrayVec<Entry, 42>)
     requires ready { IsReady (kind_count kinds.now) (C.world cells.old) (C.room cells.old)
         (C.can_set cells.old) made.old.items pos 35 }
-    ensures changed { change (C.world cells.new) made.new.items
-        ≡ onward (kinds_of kinds.now) now pos (change (C.world cells.old) made.old.items) }
-    ensures listed { Appends made.old.items made.new.items (C.lists cells.old) (C.lists cells.new) }
-    ensures site { C.site cells.new ≡ C.site cells.old }
-    ensures loaded { (C.world cells.new).loaded ≡ (C.world cells.old).loaded }
-    ensures kinds { HasKinds (kind_count kinds.now) (C.world cells.new) }
+    ensures { IsTurnStep C.world C.lists C.site C.room C.can_set (kind_count kinds.now) pos 35
+        (onward (kinds_of kinds.now) now pos) cells.old made.old.items cells.new made.new.items }
 {
     let under = kind_at(cells, kinds, below(pos));
     if under.opens && !under.wet.is_wet() {
@@ -104,12 +93,8 @@ fn renew<C: Cells>(
     requires ready { IsReady (kind_count kinds.now) (C.world cells.old) (C.room cells.old)
         (C.can_set cells.old) made.old.items pos 42 }
     requires wet { wet ≡ wet_at (kinds_of kinds.now) (C.world cells.old) pos }
-    ensures changed { change (C.world cells.new) made.new.items
-        ≡ renewed (kinds_of kinds.now) now pos (change (C.world cells.old) made.old.items) }
-    ensures listed { Appends made.old.items made.new.items (C.lists cells.old) (C.lists cells.new) }
-    ensures site { C.site cells.new ≡ C.site cells.old }
-    ensures loaded { (C.world cells.new).loaded ≡ (C.world cells.old).loaded }
-    ensures kinds { HasKinds (kind_count kinds.now) (C.world cells.new) }
+    ensures { IsTurnStep C.world C.lists C.site C.room C.can_set (kind_count kinds.now) pos 42
+        (renewed (kinds_of kinds.now) now pos) cells.old made.old.items cells.new made.new.items }
 {
     if wet.is_source() {
         go_on(cells, kinds, now, pos, made);
@@ -120,7 +105,7 @@ fn renew<C: Cells>(
         go_on(cells, kinds, now, pos, made);
         return;
     }
-    set_itself(cells, kinds, now, pos, coming, made);
+    set_number(cells, kinds, now, pos, pos, number_of_wet(coming), made);
     if coming.is_wet() {
         go_on(cells, kinds, now, pos, made);
     }

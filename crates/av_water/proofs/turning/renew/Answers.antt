@@ -1,8 +1,23 @@
-use Rattle.av_cells.proofs.Wakes.{Appends-trans}
+use Rattle.std.proofs.Common.{arith}
+use Rattle.av_cells.specs.Turn.{renewed}
+use Rattle.av_water.proofs.StepByStep.{step_as, step_then}
 use Rattle.av_water.proofs.turning.renew.Goals as goal
 
-pub go_on-requires-then-is_wet : goal.go_on-requires-then-is_wet
-go_on-requires-then-is_wet g c = record { ready = c.set_itself.ensures.ready 35 c.requires.ready }
+pub returns-then-is_source : goal.returns-then-is_source
+unfolding renewed
+returns-then-is_source g c = step_as c.go_on.ensures (omega arith) (grind arith)
 
-pub returns-then-is_wet-clause-listed : goal.returns-then-is_wet-clause-listed
-returns-then-is_wet-clause-listed g c = Appends-trans _ _ _ _ _ _ c.set_itself.ensures.listed c.go_on-then-is_wet.ensures.listed
+pub returns-then-is_same : goal.returns-then-is_same
+unfolding renewed
+returns-then-is_same g c = step_as c.go_on-then-is_same.ensures (omega arith) (grind arith)
+
+pub go_on-requires-then-is_wet : goal.go_on-requires-then-is_wet
+go_on-requires-then-is_wet g c = record { ready = c.set_number.ensures.still_ready 35 c.requires.ready }
+
+pub returns-then-is_wet : goal.returns-then-is_wet
+unfolding renewed
+returns-then-is_wet g c = step_as (step_then c.set_number.ensures c.go_on-then-is_wet.ensures) (omega arith) (grind arith)
+
+pub returns-else-is_wet : goal.returns-else-is_wet
+unfolding renewed
+returns-else-is_wet g c = step_as c.set_number.ensures (omega arith) (grind arith)
