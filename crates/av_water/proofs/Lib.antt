@@ -2,6 +2,7 @@ pub mod Ranks
 pub mod Plans
 pub mod Readiness
 pub mod StepByStep
+pub mod StillWet
 pub mod SameReads
 pub mod Regions
 pub mod Inside

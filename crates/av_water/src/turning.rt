@@ -18,32 +18,42 @@ use av_cells::{Cells, below, kind_at};
 use av_rules::Kinds;
 use av_types::{Entry, Pos, Wet};
 
-/// Spreads to the chosen sides, where there is an amount of at least 2.
+/// Spreads from a block that is so wet to the chosen sides, where there is an amount of at least 2.
 #[tactic(auto, unfolding(av_cells::specs::Turn::spread))]
 fn spread<C: Cells>(
     cells: &mut C,
     kinds: &Kinds,
     now: u32,
     pos: Pos,
+    wet: Wet,
     made: &mut ArrayVec<Entry, 42>,
 )
     requires ready { IsReady (kind_count kinds.now) (C.world cells.old) (C.room cells.old)
         (C.can_set cells.old) made.old.items pos 28 }
+    requires wet { wet ≡ wet_at (kinds_of kinds.now) (C.world cells.old) pos }
     ensures { IsTurnStep C.world C.lists C.site C.room C.can_set (kind_count kinds.now) pos 28
         (spread (kinds_of kinds.now) now pos) cells.old made.old.items cells.new made.new.items }
 {
-    if kind_at(cells, kinds, pos).wet.amount() >= 2 {
+    if wet.amount() >= 2 {
         let plan = plan_of(cells, kinds, pos);
         set_sides(cells, kinds, now, pos, plan, made);
     }
 }
 
-/// Sets the block below, which can be entered, to what comes into it. Then, over three sources beside the block, it
-/// spreads.
+/// Sets the block below one that is so wet, which can be entered, to what comes into it. Then, over three sources
+/// beside the block, it spreads.
 #[tactic(auto, using(crate::proofs::Plans::enterable_is_loaded), unfolding(av_cells::specs::Turn::onward))]
-fn fall<C: Cells>(cells: &mut C, kinds: &Kinds, now: u32, pos: Pos, made: &mut ArrayVec<Entry, 42>)
+fn fall<C: Cells>(
+    cells: &mut C,
+    kinds: &Kinds,
+    now: u32,
+    pos: Pos,
+    wet: Wet,
+    made: &mut ArrayVec<Entry, 42>,
+)
     requires ready { IsReady (kind_count kinds.now) (C.world cells.old) (C.room cells.old)
         (C.can_set cells.old) made.old.items pos 35 }
+    requires wet { wet ≡ wet_at (kinds_of kinds.now) (C.world cells.old) pos }
     requires open { IsTrue (can_enter (kinds_of kinds.now) (C.world cells.old) (below pos)) }
     ensures { IsTurnStep C.world C.lists C.site C.room C.can_set (kind_count kinds.now) pos 35
         (onward (kinds_of kinds.now) now pos) cells.old made.old.items cells.new made.new.items }
@@ -53,23 +63,31 @@ fn fall<C: Cells>(cells: &mut C, kinds: &Kinds, now: u32, pos: Pos, made: &mut A
     let number = number_of_wet(incoming(cells, kinds, under));
     set_number(cells, kinds, now, pos, under, number, made);
     if spreads {
-        spread(cells, kinds, now, pos, made);
+        spread(cells, kinds, now, pos, wet, made);
     }
 }
 
-/// Goes on from a wet block that is up to date: down, and to the sides.
+/// Goes on from a block that is so wet, and up to date: down, and to the sides.
 #[tactic(auto, unfolding(av_cells::specs::Turn::onward, av_cells::specs::Rule::can_enter, av_cells::specs::Rule::has_hole))]
-fn go_on<C: Cells>(cells: &mut C, kinds: &Kinds, now: u32, pos: Pos, made: &mut ArrayVec<Entry, 42>)
+fn go_on<C: Cells>(
+    cells: &mut C,
+    kinds: &Kinds,
+    now: u32,
+    pos: Pos,
+    wet: Wet,
+    made: &mut ArrayVec<Entry, 42>,
+)
     requires ready { IsReady (kind_count kinds.now) (C.world cells.old) (C.room cells.old)
         (C.can_set cells.old) made.old.items pos 35 }
+    requires wet { wet ≡ wet_at (kinds_of kinds.now) (C.world cells.old) pos }
     ensures { IsTurnStep C.world C.lists C.site C.room C.can_set (kind_count kinds.now) pos 35
         (onward (kinds_of kinds.now) now pos) cells.old made.old.items cells.new made.new.items }
 {
     let under = kind_at(cells, kinds, below(pos));
     if under.opens && !under.wet.is_wet() {
-        fall(cells, kinds, now, pos, made);
-    } else if !under.wet.is_wet() || kind_at(cells, kinds, pos).wet.is_source() {
-        spread(cells, kinds, now, pos, made);
+        fall(cells, kinds, now, pos, wet, made);
+    } else if !under.wet.is_wet() || wet.is_source() {
+        spread(cells, kinds, now, pos, wet, made);
     }
 }
 
@@ -97,17 +115,17 @@ fn renew<C: Cells>(
         (renewed (kinds_of kinds.now) now pos) cells.old made.old.items cells.new made.new.items }
 {
     if wet.is_source() {
-        go_on(cells, kinds, now, pos, made);
+        go_on(cells, kinds, now, pos, wet, made);
         return;
     }
     let coming = incoming(cells, kinds, pos);
     if is_same(coming, wet) {
-        go_on(cells, kinds, now, pos, made);
+        go_on(cells, kinds, now, pos, wet, made);
         return;
     }
     set_number(cells, kinds, now, pos, pos, number_of_wet(coming), made);
     if coming.is_wet() {
-        go_on(cells, kinds, now, pos, made);
+        go_on(cells, kinds, now, pos, coming, made);
     }
 }
 
