@@ -39,6 +39,7 @@ fn kind_of(kinds: &Kinds, number: u16) -> Kind
 
 /// The kind of a block. One that is not loaded is dry, not open, and floor.
 #[tactic(auto, unfolding(crate::specs::Rule::kind_at))]
+#[inline(always)]
 pub fn kind_at<C: Cells>(cells: &C, kinds: &Kinds, pos: Pos) -> Kind
     requires { HasKinds (kind_count kinds.now) (C.world cells.now) }
     ensures is { result ≡ kind_at (kinds_of kinds.now) (C.world cells.now) pos }

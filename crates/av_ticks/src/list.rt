@@ -164,7 +164,7 @@ impl TickList {
         self.soonest = sooner(self.soonest, entry.due);
     }
 
-    /// Makes room for so many more entries, so that as many calls of `add` take no memory. The entries stay.
+    /// Makes room for so many more entries, so that as many calls of `add_new` or `add` take no memory. The entries stay.
     /// Refuses with OutOfMemory alone.
     pub fn reserve(&mut self, additional: usize) -> Result<(), Fault>
         ensures entries { entries self.new ≡ entries self.old }
@@ -174,6 +174,19 @@ impl TickList {
         ensures room { room self.old ≤ room self.new }
     {
         self.store.reserve(additional)?;
+        Ok(())
+    }
+
+    /// Makes room as `reserve` does, for a list that is asked for positions: where its entries become many it gets an
+    /// index of these, so that `has` stays fast. The entries stay. Refuses with OutOfMemory alone.
+    pub fn reserve_indexed(&mut self, additional: usize) -> Result<(), Fault>
+        ensures entries { entries self.new ≡ entries self.old }
+        ensures ok { OnOk result (additional ≤ room self.new) }
+        ensures err { IfErr result (λ e. e ≡ OutOfMemory) }
+        ensures succeeds { additional ≤ room self.old → IsOk result }
+        ensures room { room self.old ≤ room self.new }
+    {
+        self.store.reserve_indexed(additional)?;
         Ok(())
     }
 

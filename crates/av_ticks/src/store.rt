@@ -1,4 +1,4 @@
-//! Entries in order, with an index by their positions where they are many.
+//! Entries in order, with an index by their positions where they are many and are looked up.
 ghost use Rattle.std.specs.Prelude.{◌≡◌, int_le, ◌<◌, ◌≤◌, ◌+◌, ◌-◌, [], ◌∷◌, ◌++◌, map, filter, not, false, true, IsOk, IfOk, OnOk, OnErr, is_ok, if◌then◌else◌, vec_capacity, vec_len};
 ghost use Rattle.std.specs.Map.{keys_of, values_of};
 ghost use Rattle.indexmap.specs.IndexMap.{spare};
@@ -196,8 +196,25 @@ impl Store {
         Ok(())
     }
 
-    /// Makes room for so many more entries.
+    /// Makes room for so many more entries, without an index where there is none.
     pub(crate) fn reserve(&mut self, additional: usize) -> Result<(), AllocError>
+        ensures entries { stored self.new ≡ stored self.old }
+        ensures ok { OnOk result (additional ≤ spare_in self.new) }
+        ensures succeeds { additional ≤ spare_in self.old → IsOk result }
+        ensures room { spare_in self.old ≤ spare_in self.new }
+    {
+        if self.is_indexed {
+            self.many.reserve(additional)?;
+            return Ok(());
+        }
+        if additional <= self.few.capacity() - self.few.len() {
+            return Ok(());
+        }
+        reserve_few(&mut self.few, additional)
+    }
+
+    /// Makes room for so many more entries, with an index where they become many.
+    pub(crate) fn reserve_indexed(&mut self, additional: usize) -> Result<(), AllocError>
         requires apart { are_apart (stored self.old) ≡ true }
         ensures entries { stored self.new ≡ stored self.old }
         ensures ok { OnOk result (additional ≤ spare_in self.new) }

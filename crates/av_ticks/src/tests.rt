@@ -72,11 +72,11 @@ fn the_least_time_is_known(rt: HostRuntime) -> Result<(), Fail> {
 #[test]
 fn many_entries_are_found(rt: HostRuntime) -> Result<(), Fail> {
     let mut list = TickList::new(rt.alloc());
-    list.reserve(42)?;
+    list.reserve_indexed(42)?;
     for z in 0..200 {
         assert!(rt; list.add(entry(z, i64::from(z % 3), 0))?);
     }
-    list.reserve(100)?;
+    list.reserve_indexed(100)?;
     assert_eq!(rt; list.len(), 200);
     assert_eq!(rt; list.soonest(), 0);
     for z in 0..200 {

@@ -20,6 +20,7 @@ use av_types::{Entry, Fault, Height, Place, SectionPos};
 use std::mem;
 
 /// Whether a section's number is in the height.
+#[inline(always)]
 pub(crate) fn is_high(height: Height, at: SectionPos) -> bool
     ensures { result ≡ is_section_of height at.y }
 {
@@ -27,6 +28,7 @@ pub(crate) fn is_high(height: Height, at: SectionPos) -> bool
 }
 
 /// Where a section stands among those of its chunk.
+#[inline(always)]
 pub(crate) fn offset(height: Height, at: SectionPos) -> usize
     requires { is_section_of height at.y ≡ true }
     ensures value { result ≡ offset_of height at.y }
@@ -36,6 +38,7 @@ pub(crate) fn offset(height: Height, at: SectionPos) -> usize
 }
 
 /// The section at a position, of those of its chunk.
+#[inline(always)]
 pub(crate) fn layer(
     sections: &[Option<Section>],
     height: Height,

@@ -17,6 +17,7 @@ use av_section::Section;
 use av_types::{ChunkPos, Pos, SectionPos};
 
 /// The chunks of a reach have each another of these.
+#[inline(always)]
 fn near_index(at: ChunkPos) -> usize
     ensures { result < 4 }
 {
@@ -25,6 +26,7 @@ fn near_index(at: ChunkPos) -> usize
 
 impl World {
     /// Where a chunk stands: where it was looked up last for a turn, or else by a search.
+    #[inline(always)]
     pub(crate) fn chunk_slot(&self, at: ChunkPos) -> usize
         ensures { result ≡ slot (positions_of self.now) at }
     {
@@ -36,6 +38,7 @@ impl World {
     }
 
     /// Where a section's chunk stands.
+    #[inline(always)]
     pub(crate) fn slot_of(&self, at: SectionPos) -> usize
         ensures { result ≡ slot (positions_of self.now) (chunk_of_section at) }
     {
@@ -54,6 +57,7 @@ impl World {
     }
 
     /// A section, where it is loaded.
+    #[inline(always)]
     pub(crate) fn section(&self, at: SectionPos) -> Option<&Section>
         ensures { option_copied result ≡ sections self.now at }
     {

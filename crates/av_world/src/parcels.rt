@@ -26,6 +26,7 @@ pub struct Parcel {
 }
 
 /// The index of a section, and the length where it is not there.
+#[inline(never)]
 fn index(positions: &[SectionPos], at: SectionPos) -> usize
     ensures { result ≡ index positions.now at }
 {
@@ -45,6 +46,7 @@ fn parity(number: i32) -> usize
 }
 
 /// The sections of a reach have each another of these.
+#[inline(always)]
 fn near_index(at: SectionPos) -> usize
     ensures { result < 8 }
 {
@@ -62,6 +64,7 @@ impl Parcel {
     ghost use Rattle.av_world.specs.Turned.{turned};
 
     /// Where a section stands: where it was looked up last for a turn, or else by a search.
+    #[inline(always)]
     fn slot_of(&self, at: SectionPos) -> usize
         ensures { result ≡ index self.now.positions.items at }
     {
@@ -84,6 +87,7 @@ impl Parcel {
     }
 
     /// A section, where it is there.
+    #[inline(always)]
     fn section(&self, at: SectionPos) -> Option<&Section>
         ensures { option_copied result ≡ parts self.now at }
     {
@@ -126,7 +130,7 @@ impl Parcel {
         ensures fault { IfErr result (λ e. e ≡ OutOfMemory) }
         ensures succeeds { count ≤ room self.old → IsOk result }
     {
-        self.aside.reserve(count)
+        self.aside.reserve_indexed(count)
     }
 
     /// Makes room for numbers in a section, where it is there.
