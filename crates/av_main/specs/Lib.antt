@@ -1,4 +1,3 @@
-pub mod CommandLine
 pub mod Names
 pub mod Folders
 pub mod Output

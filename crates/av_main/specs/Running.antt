@@ -10,10 +10,10 @@ use Rattle.av_sink.specs.Account.{IsDevice}
 use Rattle.av_sink.specs.declared.files.RegionFile.{RegionFile}
 use Rattle.av_survey.specs.Survey.{IsSurvey}
 use Rattle.av_survey.specs.declared.finding.Finding.{Finding}
-use Rattle.av_main.specs.declared.command_line.commands.Words.{Words}
-use Rattle.av_main.specs.declared.command_line.commands.Words.TheVariants.{Block, Check, Run}
+use Rattle.av_words.specs.declared.command_line.commands.Words.{Words}
+use Rattle.av_words.specs.declared.command_line.commands.Words.TheVariants.{Block, Check, Run}
 use Rattle.av_main.specs.BlockCommand.{HasAnswered}
-use Rattle.av_main.specs.CommandLine.{IsReadFrom, IsRefusal}
+use Rattle.av_words.specs.CommandLine.{IsReadFrom, IsRefusal}
 use Rattle.av_main.specs.CheckCommand.{HasFindings}
 use Rattle.av_main.specs.RunCommand.{HasRunRegions, folder_account}
 use Rattle.av_sink.specs.Account.{Account}

@@ -3,7 +3,6 @@
 
 pub mod block;
 pub mod checking;
-pub mod command_line;
 pub mod folder_sink;
 pub mod names;
 pub mod output;

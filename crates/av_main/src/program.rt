@@ -7,8 +7,6 @@ ghost use Rattle.av_main.specs.Tables.{IsHeightBy};
 
 use crate::block::block_text;
 use crate::checking::findings;
-use crate::command_line::commands::Words;
-use crate::command_line::words;
 use crate::folder_sink::FolderSink;
 use crate::output::{FAULT, REFUSED, report_fault};
 use crate::reading::{read_file, read_folder};
@@ -17,6 +15,7 @@ use crate::tables::read_height;
 use av_sink::{RegionFile, Sink};
 use av_survey::{Finding, survey};
 use av_types::{Fault, Height, Pos};
+use av_words::{Words, words};
 use clap::Error;
 use clap::error::ErrorKind;
 use std::alloc::{AllocError, Global};

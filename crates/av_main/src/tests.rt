@@ -1,13 +1,9 @@
-//! Words and names. What the program answers, `scripts/check_words.sh` asks of the built one.
+//! Names and lines. What the program answers, `scripts/check_words.sh` asks of the built one.
 use crate::block::block_text;
 use crate::checking::findings;
-use crate::command_line::commands::Words;
-use crate::command_line::words;
 use crate::names::{file_name, region_of_name};
 use av_survey::Finding;
 use av_types::{ChunkPos, Fault, Height, Pos, RegionPos};
-use clap::error::ErrorKind;
-use std::alloc::Global;
 use std::io::Cursor;
 use std::test::Fail;
 
@@ -45,71 +41,6 @@ fn names_of_regions(rt: HostRuntime) -> Result<(), Fail> {
     assert_eq!(rt; file_name("a/b/r.0.0.mca"), "r.0.0.mca");
     assert_eq!(rt; file_name("r.0.0.mca"), "r.0.0.mca");
     assert_eq!(rt; file_name("a/"), "");
-    Ok(())
-}
-
-/// The values of `block`.
-fn block_of<'a>(command: Words<'a>) -> Option<(&'a str, Pos, Option<&'a str>)> {
-    match command {
-        Words::Block { file, pos, table } => Some((file, pos, table)),
-        Words::Check { .. } | Words::Run { .. } => None,
-    }
-}
-
-#[test]
-fn words_of_block(rt: HostRuntime) -> Result<(), Fail> {
-    let alloc = rt.alloc();
-    let plain = ["block", "--", "r.-1.-1.mca", "-1", "64", "-1"];
-    let (file, pos, table) = block_of(words(alloc, plain.as_slice())?).ok_or("another command")?;
-    assert_eq!(rt; file, "r.-1.-1.mca");
-    assert_eq!(rt;
-        pos,
-        Pos {
-            x: -1,
-            y: 64,
-            z: -1
-        }
-    );
-    assert!(rt; table.is_none());
-    let with_table = ["block", "--table", "t.toml", "f", "3", "+4", "0005"];
-    let (file, pos, table) = block_of(words(alloc, with_table.as_slice())?).ok_or(
-        "another command",
-    )?;
-    assert_eq!(rt; file, "f");
-    assert_eq!(rt; pos, Pos { x: 3, y: 4, z: 5 });
-    assert!(rt; table == Some("t.toml"));
-    Ok(())
-}
-
-/// The values of `check`.
-fn check_of<'a>(command: Words<'a>) -> Option<(&'a str, Option<&'a str>, bool)> {
-    match command {
-        Words::Block { .. } | Words::Run { .. } => None,
-        Words::Check {
-            input,
-            table,
-            progress,
-        } => Some((input, table, progress)),
-    }
-}
-
-#[test]
-fn words_of_check(rt: HostRuntime) -> Result<(), Fail> {
-    let alloc = rt.alloc();
-    let plain = ["check", "--in", "world"];
-    let (input, table, progress) = check_of(words(alloc, plain.as_slice())?).ok_or(
-        "another command",
-    )?;
-    assert_eq!(rt; input, "world");
-    assert!(rt; table.is_none());
-    assert!(rt; !progress);
-    let all = ["check", "--progress", "--table", "t.toml", "--in=world"];
-    let (input, table, progress) = check_of(words(alloc, all.as_slice())?).ok_or(
-        "another command",
-    )?;
-    assert_eq!(rt; input, "world");
-    assert!(rt; table == Some("t.toml"));
-    assert!(rt; progress);
     Ok(())
 }
 
@@ -160,53 +91,4 @@ fn a_line_that_finds_no_room(rt: HostRuntime) {
     assert_eq!(rt; status, 1);
     assert_eq!(rt; room.as_slice(), b"unlo".as_slice());
     assert_eq!(rt; err.len(), 0);
-}
-
-/// Why words are refused.
-fn refusal<'a>(alloc: Global, given: &'a [&'a str]) -> Option<ErrorKind> {
-    words(alloc, given).err().map(|error| error.kind())
-}
-
-#[test]
-fn words_that_are_refused(rt: HostRuntime) {
-    let alloc = rt.alloc();
-    assert_eq!(rt;
-        refusal(alloc, [].as_slice()),
-        Some(ErrorKind::MissingSubcommand)
-    );
-    let unknown = ["blok"];
-    assert_eq!(rt;
-        refusal(alloc, unknown.as_slice()),
-        Some(ErrorKind::InvalidSubcommand)
-    );
-    let few = ["block", "f", "1", "2"];
-    assert_eq!(rt;
-        refusal(alloc, few.as_slice()),
-        Some(ErrorKind::MissingRequiredArgument)
-    );
-    let many = ["block", "f", "1", "2", "3", "4"];
-    assert_eq!(rt;
-        refusal(alloc, many.as_slice()),
-        Some(ErrorKind::UnknownArgument)
-    );
-    let negative = ["block", "f", "-1", "2", "3"];
-    assert_eq!(rt;
-        refusal(alloc, negative.as_slice()),
-        Some(ErrorKind::UnknownArgument)
-    );
-    let large = ["block", "f", "1", "2147483648", "3"];
-    assert_eq!(rt;
-        refusal(alloc, large.as_slice()),
-        Some(ErrorKind::ValueValidation)
-    );
-    let twice = ["block", "--table", "a", "--table", "b", "f", "1", "2", "3"];
-    assert_eq!(rt;
-        refusal(alloc, twice.as_slice()),
-        Some(ErrorKind::ArgumentConflict)
-    );
-    let help = ["block", "--help"];
-    assert_eq!(rt;
-        refusal(alloc, help.as_slice()),
-        Some(ErrorKind::DisplayHelp)
-    );
 }

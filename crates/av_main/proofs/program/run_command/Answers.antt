@@ -2,7 +2,7 @@ use Rattle.std.proofs.Common.{◌≡◌, subst}
 use Rattle.av_sink.specs.Account.{Account}
 use Rattle.av_main.specs.RunCommand.{HasRunRegions, folder_account}
 use Rattle.av_main.specs.Running.{HasRunCommand}
-use Rattle.av_main.specs.declared.command_line.commands.Words.TheVariants.{Run}
+use Rattle.av_words.specs.declared.command_line.commands.Words.TheVariants.{Run}
 use Rattle.av_main.proofs.program.run_command.Goals as goal
 
 pub returns-in-Block-clause-ran : goal.returns-in-Block-clause-ran

@@ -1,0 +1,12 @@
+use Rattle.std.proofs.Common.{◌∙◌, ap, ap₂}
+use Rattle.clap.specs.Words.{App, with_subcommand}
+use Rattle.av_words.proofs.command_line.program.Goals as goal
+
+pub returns-clause-app : goal.returns-clause-app
+returns-clause-app c =
+    let one = c.in_ok-subcommand.ensures.shape c.in_ok-block.ensures.local
+    ∙ ap₂ with_subcommand c.bare_program.ensures.app (ap (λ (a : App). a.top) c.in_ok-block.ensures.app) in
+    let two = c.in_ok-subcommand-2.ensures.shape c.in_ok-check.ensures.local
+    ∙ ap₂ with_subcommand one (ap (λ (a : App). a.top) c.in_ok-check.ensures.app) in
+    c.in_ok-program.ensures.shape c.in_ok-run.ensures.local
+    ∙ ap₂ with_subcommand two (ap (λ (a : App). a.top) c.in_ok-run.ensures.app)

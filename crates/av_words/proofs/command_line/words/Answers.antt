@@ -1,0 +1,55 @@
+use Rattle.std.proofs.Common.{◌≡◌, ◌∙◌, ap, inl, inr, sym, subst, map, List, Bor, Result, Ok, Err, IfErr}
+use Rattle.std.specs.Prelude.{IsErrAnd}
+use Rattle.clap.specs.declared.error.Error.{Error}
+use Rattle.clap.specs.declared.error.kind.ErrorKind.TheVariants.{OutOfMemory}
+use Rattle.clap.specs.Words.{App, Text, kind_of, is_simple, subcommand_of, takes}
+use Rattle.av_words.specs.CommandLine.{IsRefusal}
+use Rattle.av_words.proofs.command_line.words.Goals as goal
+
+texts : List (Bor Text) → List Text
+texts words = map (λ s. s.now) words
+
+if_err : {T : Type 0} (r : Result T Error) (e : Error) (P : Error → Type 0) → IsErrAnd r (λ x. x ≡ e) → P e → IfErr r P
+if_err (Ok v) e P is p = absurd is
+if_err (Err x) e P is p = subst P (sym is) p
+
+-- want of memory is a cause by itself
+of_memory : {T : Type 0} (r : Result T Error) (words : List Text) → IsErrAnd r (λ x. kind_of x ≡ OutOfMemory) → IfErr r (IsRefusal words)
+of_memory (Ok v) words is = absurd is
+of_memory (Err x) words is = record { cause = λ taken. inl is }
+
+pub returns-in_err-error-clause-refused : goal.returns-in_err-error-clause-refused
+unfolding texts
+returns-in_err-error-clause-refused c = of_memory c.from_residual-in_err-error.result (texts c.args.given.now) c.from_residual-in_err-error.ensures.1
+
+pub returns-in_err-matches-clause-refused : goal.returns-in_err-matches-clause-refused
+unfolding texts
+returns-in_err-matches-clause-refused c =
+    let words = texts c.args.given.now in
+    let refusal : IsRefusal words c.in_err-matches.field-0.0 = record {
+      cause = λ taken. inl (c.in_err-matches.ensures.passes (ap (λ (a : App). takes a words) c.in_ok-program.ensures.app ∙ taken));
+    } in
+    if_err c.from_residual-in_err-matches.result c.in_err-matches.field-0.0 (IsRefusal words) c.from_residual-in_err-matches.ensures.1 refusal
+
+pub returns-clause-refused : goal.returns-clause-refused
+unfolding texts
+returns-clause-refused c =
+    let words = texts c.args.given.now in
+    let app_is = c.in_ok-program.ensures.app in
+    let found = (c.in_ok-matches.ensures.matches (ap is_simple app_is)).1 ∙ ap (λ (a : App). subcommand_of a words) app_is in
+    record {
+      cause = λ taken. inr (λ command read. c.in_default.ensures.none command read.rows (found ∙ read.named) read.values);
+    }
+
+pub returns-in-Some-clause-read : goal.returns-in-Some-clause-read
+unfolding texts
+returns-in-Some-clause-read c =
+    let words = texts c.args.given.now in
+    let app_is = c.in_ok-program.ensures.app in
+    let found = (c.in_ok-matches.ensures.matches (ap is_simple app_is)).1 ∙ ap (λ (a : App). subcommand_of a words) app_is in
+    let read = c.in-Some.ensures.read in
+    record {
+      rows = read.0;
+      named = sym found ∙ read.1;
+      values = read.2;
+    }

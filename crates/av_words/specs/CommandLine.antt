@@ -1,0 +1,156 @@
+-- The command line: what `clap` is told of it, and what a command holds of the words.
+use Rattle.std.specs.Prelude.{◌≡◌, ◌⊎◌, ◌<◌, ◌^◌, ℕ, ℤ, Bool, List, [], Option, Some, None, pos, negsuc, codes, true, false, option_map, FitsSigned}
+use Rattle.std.specs.Borrow.{Bor}
+use Rattle.std.specs.Int.{w32}
+use Rattle.std.specs.Str.Parse.{IsNumeral, digits_value, signed_digits_value, without_leading_plus, without_leading_sign}
+use Rattle.clap.specs.declared.builder.action.ArgAction.TheVariants.{SetTrue}
+use Rattle.clap.specs.declared.error.Error.{Error}
+use Rattle.clap.specs.declared.error.kind.ErrorKind.TheVariants.{OutOfMemory}
+use Rattle.clap.specs.Words.{App, Row, Rule, Shape, Text, first_of, kind_of, takes, new_app, new_rule, one_of, subcommand_of, with_rule, with_subcommand}
+use Rattle.clap.specs.declared.builder.value_parser.ValueParser.TheVariants.{Signed}
+use Rattle.av_types.specs.declared.place.Pos.{Pos}
+use Rattle.av_words.specs.declared.command_line.commands.Words.{Words}
+use Rattle.av_words.specs.declared.command_line.commands.Words.TheVariants.{Block, Check, Run}
+
+-- a file that has to be named
+abbrev pub file_rule : Text → Rule
+file_rule name = record (new_rule name) { required = true }
+
+-- a coordinate: a number that fits an i32
+abbrev pub number_rule : Text → Rule
+number_rule name = record (new_rule name) {
+  required = true;
+  parser = Some (Signed (negsuc 2147483647) (pos 2147483647));
+}
+
+-- `--NAME VALUE`, which has to be given or may be left out
+abbrev pub option_rule : Text → Bool → Rule
+option_rule name required = record (new_rule name) { long = Some name; value_names = 1; required = required }
+
+-- `--NAME N`: a number that fits a u32
+abbrev pub count_rule : Text → Rule
+count_rule name = record (option_rule name true) { parser = Some (Signed (pos 0) (pos 4294967295)) }
+
+-- `--progress`
+abbrev pub progress_rule : Rule
+progress_rule = record (new_rule (codes "progress")) { long = Some (codes "progress"); action = Some SetTrue }
+
+-- `block [--table FILE] FILE X Y Z`
+abbrev pub block_app : App
+block_app = with_rule (with_rule (with_rule (with_rule (with_rule (new_app (codes "block"))
+    (file_rule (codes "FILE")))
+    (number_rule (codes "X")))
+    (number_rule (codes "Y")))
+    (number_rule (codes "Z")))
+    (option_rule (codes "table") false)
+
+-- `check --in DIR [--table FILE] [--progress]`
+abbrev pub check_app : App
+check_app = with_rule (with_rule (with_rule (new_app (codes "check"))
+    (option_rule (codes "in") true))
+    (option_rule (codes "table") false))
+    progress_rule
+
+-- `--in DIR --out DIR --table FILE --edits FILE`
+abbrev pub with_files : App → App
+with_files app = with_rule (with_rule (with_rule (with_rule app
+    (option_rule (codes "in") true))
+    (option_rule (codes "out") true))
+    (option_rule (codes "table") true))
+    (option_rule (codes "edits") true)
+
+-- `run` with these, `--ticks N --workers N [--progress]`
+abbrev pub run_app : App
+run_app = with_rule (with_rule (with_rule (with_files (new_app (codes "run")))
+    (count_rule (codes "ticks")))
+    (count_rule (codes "workers")))
+    progress_rule
+
+-- the program, without its own name among the words
+abbrev pub program_shape : Shape
+program_shape = record (new_app (codes "anvilwater")).top { no_binary_name = true; subcommand_required = true }
+
+abbrev pub bare_app : App
+bare_app = record { top = program_shape; subs = [] }
+
+abbrev pub anvilwater : App
+anvilwater = with_subcommand (with_subcommand (with_subcommand bare_app block_app.top) check_app.top) run_app.top
+
+-- the text is a number of 32 bits in decimal digits, perhaps with a sign
+abbrev pub IsNumberText : Text → ℤ → Type 0
+IsNumberText text n = IsNumeral 10 (without_leading_sign text)
+    × FitsSigned w32 (signed_digits_value 10 text)
+    × (n ≡ signed_digits_value 10 text)
+
+-- the words give this argument, and it is this number
+abbrev pub HasNumber : List Row → Text → ℤ → Type 0
+HasNumber rows name n = (text : Text) × (one_of name rows ≡ Some text) × IsNumberText text n
+
+-- the text is a number below 2^32 in decimal digits, perhaps with a `+`
+abbrev pub IsCountText : Text → ℕ → Type 0
+IsCountText text n = IsNumeral 10 (without_leading_plus text)
+    × (digits_value 10 (without_leading_plus text) < 2 ^ 32)
+    × (n ≡ digits_value 10 (without_leading_plus text))
+
+-- the words give this argument, and it is this number
+abbrev pub HasCount : List Row → Text → ℕ → Type 0
+HasCount rows name n = (text : Text) × (one_of name rows ≡ Some text) × IsCountText text n
+
+-- the words give this flag, or do not
+pub record HasFlag (rows : List Row) (name : Text) (b : Bool) : Type 0 where
+  pub given : one_of name rows ≡ Some (codes "true") → b ≡ true
+  pub not_given : one_of name rows ≡ Some (codes "false") → b ≡ false
+  pub missing : one_of name rows ≡ None → b ≡ false
+
+-- the words give this argument, and this is its text
+abbrev pub HasText : List Row → Text → Bor Text → Type 0
+HasText rows name text = first_of name rows ≡ Some text.now
+
+-- the same of an argument that may be left out
+abbrev pub MayHaveText : List Row → Text → Option (Bor Text) → Type 0
+MayHaveText rows name text = first_of name rows ≡ option_map (λ t. t.now) text
+
+-- the values of a command, as the words give them
+abbrev pub HasValues : List Row → Words → Type 0
+HasValues rows (Block file at table) = HasText rows (codes "FILE") file
+    × HasNumber rows (codes "X") at.x
+    × HasNumber rows (codes "Y") at.y
+    × HasNumber rows (codes "Z") at.z
+    × MayHaveText rows (codes "table") table
+HasValues rows (Check input table progress) = HasText rows (codes "in") input
+    × MayHaveText rows (codes "table") table
+    × HasFlag rows (codes "progress") progress
+HasValues rows (Run input output table edits ticks workers progress) = HasText rows (codes "in") input
+    × HasText rows (codes "out") output
+    × HasText rows (codes "table") table
+    × HasText rows (codes "edits") edits
+    × HasCount rows (codes "ticks") ticks
+    × HasCount rows (codes "workers") workers
+    × HasFlag rows (codes "progress") progress
+
+abbrev pub name_of : Words → Text
+name_of (Block file at table) = codes "block"
+name_of (Check input table progress) = codes "check"
+name_of (Run input output table edits ticks workers progress) = codes "run"
+
+-- the command is the one that the words name, with the values that they give
+pub record IsReadFrom (words : List Text) (command : Words) : Type 0 where
+  pub rows : List Row
+  pub named : subcommand_of anvilwater words ≡ Some (name_of command, rows)
+  pub values : HasValues rows command
+
+-- Why words are refused: `clap` does not take them, or memory runs out, or they give no command with all its values.
+pub record IsRefusal (words : List Text) (e : Error) : Type 0 where
+  pub cause : takes anvilwater words ≡ true → (kind_of e ≡ OutOfMemory) ⊎ ((command : Words) → IsReadFrom words command → ⊥)
+
+-- ---- working definitions: the words of a command lack one of its values
+
+abbrev pub LacksBlock : List Row → Type 0
+LacksBlock rows = (file : Bor Text) (at : Pos) (table : Option (Bor Text)) → HasValues rows (Block file at table) → ⊥
+
+abbrev pub LacksCheck : List Row → Type 0
+LacksCheck rows = (input : Bor Text) (table : Option (Bor Text)) (progress : Bool) → HasValues rows (Check input table progress) → ⊥
+
+abbrev pub LacksRun : List Row → Type 0
+LacksRun rows = (input output table edits : Bor Text) (ticks workers : ℕ) (progress : Bool)
+    → HasValues rows (Run input output table edits ticks workers progress) → ⊥

@@ -1,0 +1,9 @@
+//! The words of the command line, as a command with its values.
+#![tactic(auto)]
+
+pub mod command_line;
+#[cfg(test)]
+mod tests;
+
+pub use command_line::commands::Words;
+pub use command_line::words;
