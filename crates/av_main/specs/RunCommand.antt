@@ -11,7 +11,7 @@ use Rattle.av_run.specs.Answer.{IsAnswer}
 use Rattle.av_run.specs.declared.runs.Outcome.{Outcome}
 use Rattle.av_main.specs.declared.running.Inputs.{Inputs}
 use Rattle.av_main.specs.Folders.{IsUnreadFolder}
-use Rattle.av_main.specs.Output.{line}
+use Rattle.av_commands.specs.Output.{line}
 
 -- a folder tells the counts alone
 abbrev pub folder_account : ℕ → ℕ → Account

@@ -12,13 +12,13 @@ use Rattle.av_survey.specs.Survey.{IsSurvey}
 use Rattle.av_survey.specs.declared.finding.Finding.{Finding}
 use Rattle.av_words.specs.declared.command_line.commands.Words.{Words}
 use Rattle.av_words.specs.declared.command_line.commands.Words.TheVariants.{Block, Check, Run}
-use Rattle.av_main.specs.BlockCommand.{HasAnswered}
+use Rattle.av_commands.specs.BlockCommand.{HasAnswered}
 use Rattle.av_words.specs.CommandLine.{IsReadFrom, IsRefusal}
-use Rattle.av_main.specs.CheckCommand.{HasFindings}
+use Rattle.av_commands.specs.CheckCommand.{HasFindings}
 use Rattle.av_main.specs.RunCommand.{HasRunRegions, folder_account}
 use Rattle.av_sink.specs.Account.{Account}
 use Rattle.av_main.specs.Folders.{IsUnreadFolder}
-use Rattle.av_main.specs.Tables.{IsHeightBy, IsUnreadTable}
+use Rattle.av_commands.specs.Tables.{IsHeightBy, IsUnreadTable}
 
 -- why the table and the file of `block` were not read
 abbrev pub IsUnread : List ℕ → Option (List ℕ) → Fault → Type 0

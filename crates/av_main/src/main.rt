@@ -1,18 +1,11 @@
 //! The program `anvilwater`: reads blocks of Minecraft's region files, and says what is wrong with them.
 #![tactic(auto)]
 
-pub mod block;
-pub mod checking;
 pub mod folder_sink;
-pub mod names;
-pub mod output;
 pub mod program;
 mod progress;
 mod reading;
 pub mod running;
-mod tables;
-#[cfg(test)]
-mod tests;
 
 use std::io::IsTerminal;
 use std::process::ExitCode;

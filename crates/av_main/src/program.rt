@@ -3,15 +3,16 @@ ghost use Rattle.std.specs.Prelude.{◌≡◌, ◌≢◌, ◌≤◌, IfErr, IfOk
 ghost use Rattle.clap.specs.Words.{kind_of};
 ghost use Rattle.av_main.specs.RunCommand.{HasRunRegions};
 ghost use Rattle.av_main.specs.Running.{HasChecked, HasRun, HasRunCommand, HasRunProgram, HasRunWords, IsSurveyBy, IsUnread, IsUnreadCheck};
-ghost use Rattle.av_main.specs.Tables.{IsHeightBy};
+ghost use Rattle.av_commands.specs.Tables.{IsHeightBy};
 
-use crate::block::block_text;
-use crate::checking::findings;
 use crate::folder_sink::FolderSink;
-use crate::output::{FAULT, REFUSED, report_fault};
-use crate::reading::{read_file, read_folder};
+use crate::reading::read_folder;
 use crate::running::{Request, report, run_over};
-use crate::tables::read_height;
+use av_commands::block::block_text;
+use av_commands::checking::findings;
+use av_commands::device::read_file;
+use av_commands::output::{FAULT, REFUSED, report_fault};
+use av_commands::tables::read_height;
 use av_sink::{RegionFile, Sink};
 use av_survey::{Finding, survey};
 use av_types::{Fault, Height, Pos};

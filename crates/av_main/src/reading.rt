@@ -1,4 +1,4 @@
-//! Files and folders that are read.
+//! Folders that are read.
 ghost use Rattle.std.specs.Prelude.{◌≡◌, ◌⊎◌, IfErr, IfOk, IfSome, string_bytes, string_cmp};
 ghost use Rattle.std.specs.List.{All};
 ghost use Rattle.std.specs.List.Sorted.{IsSortedBy};
@@ -7,8 +7,9 @@ ghost use Rattle.av_types.specs.declared.fault.Fault.TheVariants.{OutOfMemory};
 ghost use Rattle.av_sink.specs.Account.{IsDevice};
 ghost use Rattle.av_main.specs.Folders.{IsListed, IsUnreadFolder};
 
-use crate::names::region_of_name;
 use crate::progress::note_read;
+use av_commands::device::device_fault;
+use av_commands::names::region_of_name;
 use av_sink::RegionFile;
 use av_types::{Fault, RegionPos};
 use std::alloc::Global;
@@ -23,29 +24,6 @@ use std::{fs, io};
 pub(crate) struct Listed {
     pub(crate) name: String,
     pub(crate) region: RegionPos,
-}
-
-/// The fault of a file or folder that failed, by its name, or want of memory.
-fn device_fault(alloc: Global, error: &io::Error, name: &str) -> Fault
-    ensures { (result ≡ OutOfMemory) ⊎ IsDevice name.now result }
-{
-    if error.kind() == io::ErrorKind::OutOfMemory {
-        return Fault::OutOfMemory;
-    }
-    match String::from_str(alloc, name) {
-        Ok(name) => Fault::Device(name),
-        Err(_) => Fault::OutOfMemory,
-    }
-}
-
-/// The bytes of a file. A file that can't be read is `Device` with its name as it was given.
-pub(crate) fn read_file<R: Files + AllocGlobal>(rt: &R, name: &str) -> Result<Vec<u8>, Fault>
-    ensures { IfErr result (λ e. (e ≡ OutOfMemory) ⊎ IsDevice name.now e) }
-{
-    match fs::read(rt, name) {
-        Ok(bytes) => Ok(bytes),
-        Err(error) => Err(device_fault(rt.alloc(), &error, name)),
-    }
 }
 
 /// The region's file that an entry of a folder is. An entry of another name is none, and one whose name is no text in

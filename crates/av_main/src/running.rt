@@ -2,9 +2,10 @@
 ghost use Rattle.std.specs.Prelude.{◌≡◌, IfErr, MatchResult};
 ghost use Rattle.av_main.specs.RunCommand.{HasCounts, HasRunInto, HasRunOver, IsUnreadRun};
 
-use crate::output::{FAULT, report_fault};
 use crate::progress::note_step;
-use crate::reading::{read_file, read_folder};
+use crate::reading::read_folder;
+use av_commands::device::read_file;
+use av_commands::output::{FAULT, report_fault};
 use av_crew::NoGate;
 use av_run::{Outcome, run};
 use av_sink::{RegionFile, Sink, save_all};

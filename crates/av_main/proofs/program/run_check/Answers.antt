@@ -1,6 +1,6 @@
 use Rattle.std.proofs.Common.{◌≡◌, ℕ, List, Option, option_map, Result, Ok, Err, IfOk, MatchResult}
 use Rattle.av_survey.specs.declared.finding.Finding.{Finding}
-use Rattle.av_main.specs.CheckCommand.{HasFindings}
+use Rattle.av_commands.specs.CheckCommand.{HasFindings}
 use Rattle.av_main.specs.Running.{HasChecked, IsSurveyBy, surveyed, refused}
 use Rattle.av_main.proofs.program.run_check.Goals as goal
 

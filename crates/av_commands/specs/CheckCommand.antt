@@ -1,0 +1,37 @@
+-- What `check` prints.
+use Rattle.std.specs.Prelude.{◌≡◌, ◌≢◌, ℕ, List, [], ◌∷◌, ◌++◌, Option, Some, None, codes}
+use Rattle.std.specs.Fmt.{signed_decimal}
+use Rattle.av_types.specs.Faults.{fault_text}
+use Rattle.av_types.specs.declared.place.ChunkPos.{ChunkPos}
+use Rattle.av_types.specs.declared.place.RegionPos.{RegionPos}
+use Rattle.av_sink.specs.Names.{region_name_of}
+use Rattle.av_survey.specs.declared.finding.Finding.{Finding}
+use Rattle.av_commands.specs.Output.{line}
+
+-- `CX CZ `, the chunk's coordinates in the world, or nothing where a whole file is meant
+abbrev pub chunk_text : Option ChunkPos → List ℕ
+chunk_text None = []
+chunk_text (Some c) = signed_decimal c.x ++ (codes " " ++ (signed_decimal c.z ++ codes " "))
+
+-- `r.X.Z.mca FAULT` or `r.X.Z.mca CX CZ FAULT`
+abbrev pub finding_text : Finding → List ℕ
+finding_text f = region_name_of f.region ++ (codes " " ++ (chunk_text f.chunk ++ fault_text f.fault))
+
+-- a line for each finding, in their order
+abbrev pub finding_lines : List Finding → List ℕ
+finding_lines [] = []
+finding_lines (f ∷ fs) = line (finding_text f) ++ finding_lines fs
+
+-- what a call leaves on its output for findings, and its status: nothing and 0 for none, 1 where there are some
+pub data HasFindings (found : List Finding) (before after : Option (List ℕ)) (status : ℕ) : Type 0 where
+  none : found ≡ [] → after ≡ before → status ≡ 0 → HasFindings found before after status
+  some : found ≢ [] → status ≡ 1 → HasFindings found before after status
+
+-- ---- working definition: a finding's line as it is written, piece after piece
+
+abbrev pub written_at : RegionPos → Option ChunkPos → List ℕ → List ℕ
+written_at r None fault =
+    codes "r." ++ (signed_decimal r.x ++ (codes "." ++ (signed_decimal r.z ++ (codes ".mca " ++ (fault ++ 10 ∷ [])))))
+written_at r (Some c) fault =
+    codes "r." ++ (signed_decimal r.x ++ (codes "." ++ (signed_decimal r.z ++ (codes ".mca "
+    ++ (signed_decimal c.x ++ (codes " " ++ (signed_decimal c.z ++ (codes " " ++ (fault ++ 10 ∷ [])))))))))

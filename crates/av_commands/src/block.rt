@@ -1,0 +1,84 @@
+//! The command `block`: the state of a block of a region file.
+ghost use Rattle.std.specs.Prelude.{◌≡◌, IfErr, IfOk};
+ghost use Rattle.std.specs.Io.KnownBytes.{Appends};
+ghost use Rattle.av_types.specs.Places.{IsInLimits};
+ghost use Rattle.av_commands.specs.BlockCommand.{HasAnswered, IsBlockLine, IsBlockRefusal, IsPathOf, IsPathRefused, status_of};
+
+use crate::names::{file_name, region_of_name};
+use crate::output::{FAULT, REFUSED, block_line, report_fault, write_first};
+use av_chunk::block_at;
+use av_types::{Fault, Height, Pos, RegionPos};
+use std::alloc::Global;
+use std::io::Write;
+
+pub mod refusal;
+
+use refusal::Refusal;
+
+/// The region of a path that ends in its name.
+fn region_of_path(alloc: Global, path: &str) -> Result<RegionPos, Refusal>
+    ensures path { IfOk result (IsPathOf path.now) }
+    ensures limits { IfOk result IsInLimits }
+    ensures refused { IfErr result (IsPathRefused path.now) }
+{
+    match region_of_name(alloc, file_name(path))? {
+        None => Err(Refusal::Name),
+        Some(region) if region.is_in_limits() => Ok(region),
+        Some(_) => Err(Refusal::Fault(Fault::RegionRange)),
+    }
+}
+
+/// The line for a block.
+fn answer(
+    alloc: Global,
+    path: &str,
+    bytes: &[u8],
+    pos: Pos,
+    height: Height,
+) -> Result<Vec<u8>, Refusal>
+    ensures line { IfOk result (λ line. IsBlockLine path.now bytes.now pos height line.items) }
+    ensures refused { IfErr result (IsBlockRefusal path.now bytes.now pos height) }
+{
+    let region = region_of_path(alloc, path)?;
+    let block = block_at(alloc, bytes, region, pos, height)?;
+    Ok(block_line(alloc, &block)?)
+}
+
+/// Writes why there is no line, as well as that can be written, and answers the status.
+fn explain<E: Write>(err: &mut E, refusal: &Refusal) -> u8
+    ensures { result ≡ status_of refusal.now }
+{
+    match refusal {
+        Refusal::Name => {
+            let _ = writeln!(
+                err,
+                "the file's name is not r.X.Z.mca, with X and Z the region's coordinates"
+            );
+            REFUSED
+        }
+        Refusal::Fault(fault) => report_fault(err, fault),
+    }
+}
+
+/// Writes the line for the block at a position of a region file, whose place is taken from what follows the last `/` of
+/// its path, or why there is none. The answer is the program's status: 0; 1 after a fault, and where the line could not
+/// be written, or only its beginning; 2 where the file's name is not that of a region.
+pub fn block_text<O: Write, E: Write>(
+    alloc: Global,
+    path: &str,
+    bytes: &[u8],
+    pos: Pos,
+    height: Height,
+    out: &mut O,
+    err: &mut E,
+) -> u8
+    ensures { HasAnswered path.now bytes.now pos height (O.contents out.old) (O.contents out.new) result }
+{
+    match answer(alloc, path, bytes, pos, height) {
+        Ok(line) => match write_first(out, line.as_slice()) {
+            Ok(()) => 0,
+            Err(_) => FAULT,
+        },
+        Err(refusal) => explain(err, &refusal),
+    }
+}

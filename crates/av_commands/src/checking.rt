@@ -1,0 +1,64 @@
+//! The command `check`: what is wrong with the region files of a folder.
+ghost use Rattle.std.specs.Prelude.{◌≡◌, MatchResult, OnOk};
+ghost use Rattle.std.specs.Io.KnownBytes.{Appends};
+ghost use Rattle.av_types.specs.Faults.{fault_text};
+ghost use Rattle.av_commands.specs.CheckCommand.{HasFindings, finding_lines, written_at};
+
+use crate::output::{FAULT, report_fault};
+use av_survey::Finding;
+use av_types::{ChunkPos, Fault, RegionPos};
+use std::io::{self, Write};
+
+/// Writes the line for a finding.
+fn write_finding<O: Write>(out: &mut O, finding: &Finding) -> io::Result<()>
+    ensures { OnOk result (Appends (O.contents out.old) (O.contents out.new)
+        (written_at finding.now.region finding.now.chunk (fault_text finding.now.fault))) }
+{
+    let RegionPos { x, z } = finding.region;
+    let fault = &finding.fault;
+    match finding.chunk {
+        None => writeln!(out, "r.{x}.{z}.mca {fault}"),
+        Some(chunk) => {
+            let ChunkPos { x: cx, z: cz } = chunk;
+            writeln!(out, "r.{x}.{z}.mca {cx} {cz} {fault}")
+        }
+    }
+}
+
+/// Writes a line for each finding, in their order: `r.X.Z.mca FAULT` for one of a file, and `r.X.Z.mca CX CZ FAULT`, with the
+/// chunk's coordinates in the world, for one of a chunk.
+pub fn write_findings<O: Write>(out: &mut O, found: &[Finding]) -> io::Result<()>
+    ensures { OnOk result (Appends (O.contents out.old) (O.contents out.new) (finding_lines found.now)) }
+{
+    for finding in found {
+        write_finding(out, finding)?;
+    }
+    Ok(())
+}
+
+/// Lists findings on the program's output, and answers its status.
+fn list<O: Write>(found: &[Finding], out: &mut O) -> u8
+    ensures { HasFindings found.now (O.contents out.old) (O.contents out.new) result }
+{
+    if found.is_empty() {
+        return 0;
+    }
+    let _ = write_findings(out, found);
+    FAULT
+}
+
+/// Lists what was found wrong with region files, a line for each finding, or writes the fault for which nothing was looked
+/// for. The answer is the program's status: 0 where nothing was found; 1 where something was, and after a fault.
+pub fn findings<O: Write, E: Write>(
+    surveyed: &Result<Vec<Finding>, Fault>,
+    out: &mut O,
+    err: &mut E,
+) -> u8
+    ensures { MatchResult surveyed.now (λ found. HasFindings found.items (O.contents out.old) (O.contents out.new) result)
+        (λ _. (O.contents out.new ≡ O.contents out.old) × (result ≡ FAULT)) }
+{
+    match surveyed {
+        Ok(found) => list(found.as_slice(), out),
+        Err(fault) => report_fault(err, fault),
+    }
+}

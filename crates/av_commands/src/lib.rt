@@ -1,0 +1,11 @@
+//! What the program's commands read beside region files, and what they print.
+#![tactic(auto)]
+
+pub mod block;
+pub mod checking;
+pub mod device;
+pub mod names;
+pub mod output;
+pub mod tables;
+#[cfg(test)]
+mod tests;

@@ -1,0 +1,81 @@
+//! What the program prints.
+ghost use Rattle.std.specs.Prelude.{◌≡◌, IfErr, IfOk, OnErr, OnOk, option_map};
+ghost use Rattle.std.specs.Io.{WritesAtMost};
+ghost use Rattle.std.specs.Io.KnownBytes.{Appends, WriteAppends};
+ghost use Rattle.av_state.specs.States.{state_of};
+ghost use Rattle.av_types.specs.Faults.{fault_text};
+ghost use Rattle.av_types.specs.declared.fault.Fault.TheVariants.{OutOfMemory};
+ghost use Rattle.av_commands.specs.Output.{HasBegun, answer_line, line};
+
+use av_state::State;
+use av_types::Fault;
+use std::alloc::Global;
+use std::io::{self, ErrorKind, Write};
+
+/// The status after a fault.
+pub const FAULT: u8 = 1;
+
+/// The status after words that are refused, and after a call for help.
+pub const REFUSED: u8 = 2;
+
+/// How many times a write is tried that a signal interrupts.
+const TRIES: u32 = 64;
+
+/// The line for a block: the state as `NAME` or `NAME[k=v,..]`, or `unloaded`.
+pub fn block_line(alloc: Global, block: &Option<State>) -> Result<Vec<u8>, Fault>
+    ensures line { IfOk result (λ line. line.items ≡ answer_line (option_map state_of block.now)) }
+    ensures memory { IfErr result (λ e. e ≡ OutOfMemory) }
+{
+    let mut line = match block {
+        Some(state) => state.text(alloc)?,
+        None => Vec::from_slice(alloc, b"unloaded")?,
+    };
+    line.push(b'\n')?;
+    Ok(line)
+}
+
+/// One write, tried again where a signal interrupts it.
+fn write_some<O: Write>(out: &mut O, bytes: &[u8]) -> io::Result<usize>
+    ensures bound { WritesAtMost result bytes.now }
+    ensures bytes { WriteAppends (O.contents out.old) (O.contents out.new) result bytes.now }
+{
+    for _ in 0..TRIES {
+        match out.write(bytes) {
+            Ok(written) => return Ok(written),
+            Err(error) if error.kind() == ErrorKind::Interrupted => {}
+            Err(error) => return Err(error),
+        }
+    }
+    Err(ErrorKind::Interrupted.into())
+}
+
+/// Writes bytes, and nothing behind a write that is refused: what was written until then are the first of them.
+pub(crate) fn write_first<O: Write>(out: &mut O, bytes: &[u8]) -> io::Result<()>
+    ensures ok { OnOk result (Appends (O.contents out.old) (O.contents out.new) bytes.now) }
+    ensures err { OnErr result (HasBegun (O.contents out.old) (O.contents out.new) bytes.now) }
+{
+    let mut rest = bytes;
+    while !rest.is_empty() {
+        let written = write_some(out, rest)?;
+        if written == 0 {
+            return Err(ErrorKind::WriteZero.into());
+        }
+        rest = &rest[written..];
+    }
+    Ok(())
+}
+
+/// Writes a fault's line. What was written is not said where writing fails.
+pub fn write_fault<E: Write>(err: &mut E, fault: &Fault) -> io::Result<()>
+    ensures { OnOk result (Appends (E.contents err.old) (E.contents err.new) (line (fault_text fault.now))) }
+{
+    writeln!(err, "{fault}")
+}
+
+/// Writes a fault, as well as that can be written, and answers the status.
+pub fn report_fault<E: Write>(err: &mut E, fault: &Fault) -> u8
+    ensures { result ≡ FAULT }
+{
+    let _ = write_fault(err, fault);
+    FAULT
+}
