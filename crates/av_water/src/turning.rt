@@ -40,8 +40,8 @@ fn spread<C: Cells>(
     }
 }
 
-/// Sets the block below one that is so wet, which can be entered, to what comes into it. Then, over three sources
-/// beside the block, it spreads.
+/// Sets the block below, which can be entered, to what comes into it. Then, over three sources beside the block, it
+/// spreads.
 #[tactic(auto, using(crate::proofs::Plans::enterable_is_loaded), unfolding(av_cells::specs::Turn::onward))]
 fn fall<C: Cells>(
     cells: &mut C,
