@@ -71,6 +71,7 @@ impl Cells for World {
         }
     }
 
+    #[inline(always)]
     fn number_at(&self, pos: Pos) -> Option<u16> {
         match self.section(pos.section()) {
             None => None,

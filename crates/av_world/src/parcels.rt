@@ -237,6 +237,7 @@ impl Cells for Parcel {
         }
     }
 
+    #[inline(always)]
     fn number_at(&self, pos: Pos) -> Option<u16> {
         match self.section(pos.section()) {
             None => None,
