@@ -221,15 +221,10 @@ impl Store {
         ensures succeeds { additional ≤ spare_in self.old → IsOk result }
         ensures room { spare_in self.old ≤ spare_in self.new }
     {
-        if self.is_indexed {
-            self.many.reserve(additional)?;
-            return Ok(());
-        }
-        if additional <= self.few.capacity() - self.few.len() {
-            return Ok(());
-        }
-        if additional <= FEW && self.few.len() <= FEW - additional {
-            return reserve_few(&mut self.few, additional);
+        let spare = self.few.capacity() - self.few.len();
+        let stay_few = additional <= FEW && self.few.len() <= FEW - additional;
+        if self.is_indexed || additional <= spare || stay_few {
+            return self.reserve(additional);
         }
         self.index(additional)
     }
