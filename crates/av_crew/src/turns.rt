@@ -11,11 +11,12 @@ ghost use Rattle.av_crew.specs.Work.{AreTurned, AreBegun, CanWork, IsDoneOf};
 
 use crate::gates::Gate;
 use crate::jobs::{Done, Job};
+use arrayvec::ArrayVec;
 use av_cells::Cells;
 use av_play::Placed;
 use av_rules::Kinds;
 use av_types::{Entry, Fault, Made};
-use av_water::turn;
+use av_water::turn_onto;
 
 /// Puts what a turn made, with its maker's place and numbered from 0, behind what was put aside before.
 #[tactic(auto, using(crate::proofs::MoreTurned::labelled_push))]
@@ -35,12 +36,13 @@ fn put_aside(made: &mut Vec<Made>, maker: u64, entries: &[Entry])
     }
 }
 
-/// Turns an entry, and puts aside what that makes. The room for it is made first.
+/// Turns an entry, and puts aside what that makes. The room for it is made first. What `added` has is forgotten.
 fn turn_one<C: Cells>(
     cells: &mut C,
     kinds: &Kinds,
     now: u32,
     entry: Placed,
+    added: &mut ArrayVec<Entry, 42>,
     made: &mut Vec<Made>,
 ) -> Result<(), Fault>
     requires kinds { HasKinds (kind_count kinds.now) (C.world cells.old) }
@@ -61,8 +63,9 @@ fn turn_one<C: Cells>(
     if cells.prepare(entry.entry.pos).is_err() {
         return Err(Fault::OutOfMemory);
     }
-    let entries = turn(cells, kinds, now, entry.entry.pos);
-    put_aside(made, entry.place, &entries);
+    added.clear();
+    turn_onto(cells, kinds, now, entry.entry.pos, added);
+    put_aside(made, entry.place, added.as_slice());
     Ok(())
 }
 
@@ -81,8 +84,9 @@ fn turn_all<C: Cells>(
     ensures err { OnErr result (AreBegun (kinds_of kinds.now) now entries.now (C.world cells.old) (C.world cells.new) (C.lists cells.old) (C.lists cells.new) made.new.items) }
     ensures fault { IfErr result (λ e. e ≡ OutOfMemory) }
 {
+    let mut added = ArrayVec::new();
     for entry in entries {
-        turn_one(cells, kinds, now, *entry, made)?;
+        turn_one(cells, kinds, now, *entry, &mut added, made)?;
     }
     Ok(())
 }

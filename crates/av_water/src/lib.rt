@@ -8,4 +8,4 @@ mod steps;
 pub mod turning;
 
 pub use coming::incoming;
-pub use turning::turn;
+pub use turning::{turn, turn_onto};

@@ -136,9 +136,37 @@ fn renew<C: Cells>(
 /// are set if the block is a source or has no hole. The sides that are set are those with the nearest drop, or, with
 /// no drop, all that can be entered. Each set wakes the block and those next to it.
 ///
-/// Returns the entries that were added, in order. The room for them was made before, by `prepare`; this takes no
-/// memory.
+/// The entries that were added are put into `made`, which is empty, in order. The room for them was made before, by
+/// `prepare`; this takes no memory.
 #[tactic(auto, unfolding(av_cells::specs::Turn::turn))]
+pub fn turn_onto<C: Cells>(
+    cells: &mut C,
+    kinds: &Kinds,
+    now: u32,
+    pos: Pos,
+    made: &mut ArrayVec<Entry, 42>,
+)
+    requires empty { made.old.items ≡ [] }
+    requires loaded { IsTrue ((C.world cells.old).loaded pos) }
+    requires room { (q : Pos) → InReach pos q → IsTrue ((C.world cells.old).loaded q)
+        → 42 ≤ C.room cells.old q }
+    requires prepared { ForTurned (λ q. IsTrue ((C.world cells.old).loaded q)
+        → (n : ℕ) → n < 10 → C.can_set cells.old q n) pos }
+    requires kinds { HasKinds (kind_count kinds.now) (C.world cells.old) }
+    ensures changed { change (C.world cells.new) made.new.items
+        ≡ turn (kinds_of kinds.now) now pos (C.world cells.old) }
+    ensures listed { C.lists cells.new ≡ listed_all (C.lists cells.old) made.new.items }
+    ensures site { C.site cells.new ≡ C.site cells.old }
+    ensures loaded { (C.world cells.new).loaded ≡ (C.world cells.old).loaded }
+    ensures kinds { HasKinds (kind_count kinds.now) (C.world cells.new) }
+{
+    let wet = kind_at(cells, kinds, pos).wet;
+    if wet.is_wet() {
+        renew(cells, kinds, now, pos, wet, made);
+    }
+}
+
+/// The turn of a loaded block in tick `now`, as `turn_onto` takes it. Returns the entries that were added, in order.
 pub fn turn<C: Cells>(cells: &mut C, kinds: &Kinds, now: u32, pos: Pos) -> ArrayVec<Entry, 42>
     requires loaded { IsTrue ((C.world cells.old).loaded pos) }
     requires room { (q : Pos) → InReach pos q → IsTrue ((C.world cells.old).loaded q)
@@ -154,9 +182,6 @@ pub fn turn<C: Cells>(cells: &mut C, kinds: &Kinds, now: u32, pos: Pos) -> Array
     ensures kinds { HasKinds (kind_count kinds.now) (C.world cells.new) }
 {
     let mut made = ArrayVec::new();
-    let wet = kind_at(cells, kinds, pos).wet;
-    if wet.is_wet() {
-        renew(cells, kinds, now, pos, wet, &mut made);
-    }
+    turn_onto(cells, kinds, now, pos, &mut made);
     made
 }
