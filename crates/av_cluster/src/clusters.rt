@@ -21,7 +21,7 @@ use av_play::Placed;
 use av_types::{Entry, Fault, Height, Pos, SectionPos};
 use av_world::World;
 use indexmap::IndexMap;
-use std::alloc::Global;
+use std::alloc::{AllocError, Global};
 
 /// The most parts that a plan can have: their numbers fit a `u32`.
 const MOST: usize = 4_294_967_295;
@@ -36,6 +36,36 @@ fn key(section: SectionPos) -> (i32, i32, i32)
     (section.x, section.y, section.z)
 }
 
+/// A number's remainder by 4.
+fn fourth(number: i32) -> usize
+    ensures { result < 4 }
+{
+    number.rem_euclid(4) as usize
+}
+
+/// Sections that are near each other have each another of these.
+#[inline(always)]
+fn near_index(section: SectionPos) -> usize
+    ensures { result < 64 }
+{
+    fourth(section.x) + 4 * fourth(section.z) + 16 * fourth(section.y)
+}
+
+/// The owner of a section, if it has one: where one was found last, or else by its hash.
+fn owner_near(owners: &Owners, near: &mut [usize; 64], section: SectionPos) -> Option<usize>
+    ensures { result ≡ owner_in owners.now.entries section }
+{
+    let index = near_index(section);
+    if let Some((known, owner)) = owners.get_index(near[index]) {
+        if of_key(*known) == section {
+            return Some(*owner);
+        }
+    }
+    let (at, _, owner) = owners.get_full(&key(section))?;
+    near[index] = at;
+    Some(*owner)
+}
+
 /// Whether a section's number is in the height.
 fn is_high(height: Height, section: SectionPos) -> bool
     ensures { result ≡ is_section_of height section.y }
@@ -48,23 +78,22 @@ fn is_high(height: Height, section: SectionPos) -> bool
 fn touch(
     world: &World,
     owners: &mut Owners,
+    near: &mut [usize; 64],
     parents: &mut [usize],
     block: Pos,
     place: usize,
-) -> Result<(), Fault>
+) -> Result<(), AllocError>
     requires falling { IsFalling parents.old }
     requires place { place < length parents.old }
     requires owner { (k : ℕ) → owner_in owners.old.entries (section_of block) ≡ Some k → k < length parents.old }
     requires loaded { (k : ℕ) → owner_in owners.old.entries (section_of block) ≡ Some k → (blocks world.now).loaded block ≡ true }
-    ensures ok { OnOk result (IsTouchedIf ((blocks world.now).loaded block) parents.old parents.new (owner_in owners.old.entries) (owner_in owners.new.entries) (section_of block) place) }
-    ensures fault { IfErr result (λ e. e ≡ OutOfMemory) }
+    ensures { OnOk result (IsTouchedIf ((blocks world.now).loaded block) parents.old parents.new (owner_in owners.old.entries) (owner_in owners.new.entries) (section_of block) place) }
 {
     let section = block.section();
     if !is_high(world.height(), section) {
         return Ok(());
     }
-    if let Some(owner) = owners.get(&key(section)) {
-        let owner = *owner;
+    if let Some(owner) = owner_near(owners, near, section) {
         join(parents, owner, place);
         return Ok(());
     }
@@ -81,17 +110,17 @@ fn touch_all(
     entries: &[Entry],
     place: usize,
     owners: &mut Owners,
+    near: &mut [usize; 64],
     parents: &mut [usize],
-) -> Result<(), Fault>
+) -> Result<(), AllocError>
     requires place { place < length entries.now }
     requires loaded { All (λ e. IsTrue ((blocks world.now).loaded e.pos)) entries.now }
     requires noted { IsNoted (blocks world.now) entries.now parents.old (owner_in owners.old.entries) (IsBefore (blocks world.now) entries.now place) }
-    ensures ok { OnOk result (IsNoted (blocks world.now) entries.now parents.new (owner_in owners.new.entries) (IsBefore (blocks world.now) entries.now (place + 1))) }
-    ensures fault { IfErr result (λ e. e ≡ OutOfMemory) }
+    ensures { OnOk result (IsNoted (blocks world.now) entries.now parents.new (owner_in owners.new.entries) (IsBefore (blocks world.now) entries.now (place + 1))) }
 {
     let corners = corners(entries[place].pos);
     for corner in corners.as_slice() {
-        touch(world, owners, parents, *corner, place)?;
+        touch(world, owners, near, parents, *corner, place)?;
     }
     Ok(())
 }
@@ -103,20 +132,20 @@ fn touch_next(
     entries: &[Entry],
     place: usize,
     owners: &mut Owners,
+    near: &mut [usize; 64],
     parents: &mut [usize],
-) -> Result<(), Fault>
+) -> Result<(), AllocError>
     requires place { place < length entries.now }
     requires loaded { All (λ e. IsTrue ((blocks world.now).loaded e.pos)) entries.now }
     requires noted { IsNoted (blocks world.now) entries.now parents.old (owner_in owners.old.entries) (IsBefore (blocks world.now) entries.now place) }
-    ensures ok { OnOk result (IsNoted (blocks world.now) entries.now parents.new (owner_in owners.new.entries) (IsBefore (blocks world.now) entries.now (place + 1))) }
-    ensures fault { IfErr result (λ e. e ≡ OutOfMemory) }
+    ensures { OnOk result (IsNoted (blocks world.now) entries.now parents.new (owner_in owners.new.entries) (IsBefore (blocks world.now) entries.now (place + 1))) }
 {
     if place == 0 {
-        return touch_all(world, entries, place, owners, parents);
+        return touch_all(world, entries, place, owners, near, parents);
     }
     let before = place - 1;
     if !meet_same_sections(entries[before].pos, entries[place].pos) {
-        return touch_all(world, entries, place, owners, parents);
+        return touch_all(world, entries, place, owners, near, parents);
     }
     join(parents, before, place);
     Ok(())
@@ -128,22 +157,21 @@ fn connect(
     entries: &[Entry],
     owners: &mut Owners,
     parents: &mut [usize],
-) -> Result<(), Fault>
+) -> Result<(), AllocError>
     requires loaded { All (λ e. IsTrue ((blocks world.now).loaded e.pos)) entries.now }
     requires noted { IsNoted (blocks world.now) entries.now parents.old (owner_in owners.old.entries) (IsBefore (blocks world.now) entries.now 0) }
-    ensures ok { OnOk result (IsNoted (blocks world.now) entries.now parents.new (owner_in owners.new.entries) (IsBefore (blocks world.now) entries.now (length entries.now))) }
-    ensures fault { IfErr result (λ e. e ≡ OutOfMemory) }
+    ensures { OnOk result (IsNoted (blocks world.now) entries.now parents.new (owner_in owners.new.entries) (IsBefore (blocks world.now) entries.now (length entries.now))) }
 {
+    let mut near = [0; 64];
     for place in 0..entries.len() {
-        touch_next(world, entries, place, owners, parents)?;
+        touch_next(world, entries, place, owners, &mut near, parents)?;
     }
     Ok(())
 }
 
 /// So many places, each alone in its group.
-fn alone(alloc: Global, count: usize) -> Result<Vec<usize>, Fault>
-    ensures ok { IfOk result (λ ps. AreAlone ps.items count) }
-    ensures fault { IfErr result (λ e. e ≡ OutOfMemory) }
+fn alone(alloc: Global, count: usize) -> Result<Vec<usize>, AllocError>
+    ensures { IfOk result (λ ps. AreAlone ps.items count) }
 {
     let mut parents = Vec::with_capacity(alloc, count)?;
     for place in 0..count {
@@ -153,10 +181,9 @@ fn alone(alloc: Global, count: usize) -> Result<Vec<usize>, Fault>
 }
 
 /// Begins a part.
-fn begin(clusters: &mut Vec<Cluster>, placed: Placed) -> Result<(), Fault>
+fn begin(clusters: &mut Vec<Cluster>, placed: Placed) -> Result<(), AllocError>
     ensures parts { OnOk result (parts_of clusters.new.items ≡ parts_of clusters.old.items ++ (placed ∷ []) ∷ []) }
     ensures bare { OnOk result (sections_of clusters.new.items ≡ sections_of clusters.old.items ++ [] ∷ []) }
-    ensures fault { IfErr result (λ e. e ≡ OutOfMemory) }
 {
     let alloc = *clusters.allocator();
     let mut entries = Vec::new(alloc);
@@ -169,11 +196,10 @@ fn begin(clusters: &mut Vec<Cluster>, placed: Placed) -> Result<(), Fault>
 }
 
 /// Appends an entry to a part.
-fn put(clusters: &mut Vec<Cluster>, number: usize, placed: Placed) -> Result<(), Fault>
+fn put(clusters: &mut Vec<Cluster>, number: usize, placed: Placed) -> Result<(), AllocError>
     requires { number < length (parts_of clusters.old.items) }
     ensures parts { OnOk result (parts_of clusters.new.items ≡ slice_set (parts_of clusters.old.items) number (slice_index_or (parts_of clusters.old.items) number [] ++ placed ∷ [])) }
     ensures bare { OnOk result (sections_of clusters.new.items ≡ sections_of clusters.old.items) }
-    ensures fault { IfErr result (λ e. e ≡ OutOfMemory) }
 {
     let cluster = &mut clusters[number];
     cluster.entries.push(placed)?;
@@ -181,11 +207,10 @@ fn put(clusters: &mut Vec<Cluster>, number: usize, placed: Placed) -> Result<(),
 }
 
 /// Appends a section to a part.
-fn own(clusters: &mut Vec<Cluster>, number: usize, section: SectionPos) -> Result<(), Fault>
+fn own(clusters: &mut Vec<Cluster>, number: usize, section: SectionPos) -> Result<(), AllocError>
     requires { number < length (parts_of clusters.old.items) }
     ensures parts { OnOk result (parts_of clusters.new.items ≡ parts_of clusters.old.items) }
     ensures sections { OnOk result (sections_of clusters.new.items ≡ slice_set (sections_of clusters.old.items) number (slice_index_or (sections_of clusters.old.items) number [] ++ section ∷ [])) }
-    ensures fault { IfErr result (λ e. e ≡ OutOfMemory) }
 {
     let cluster = &mut clusters[number];
     cluster.sections.push(section)?;
@@ -199,7 +224,7 @@ fn gather_one(
     parents: &mut [usize],
     numbers: &mut Vec<usize>,
     clusters: &mut Vec<Cluster>,
-) -> Result<(), Fault>
+) -> Result<(), AllocError>
     requires place { place < length entries.now }
     requires falling { IsFalling parents.old }
     requires count { length parents.old ≡ length entries.now }
@@ -207,7 +232,6 @@ fn gather_one(
     ensures same { OnOk result (AreSame parents.old parents.new) }
     ensures bare { OnOk result (AreBare (sections_of clusters.old.items) → AreBare (sections_of clusters.new.items)) }
     ensures gathered { OnOk result (IsGathered entries.now (first parents.old) (place + 1) numbers.new.items (parts_of clusters.new.items)) }
-    ensures fault { IfErr result (λ e. e ≡ OutOfMemory) }
 {
     let placed = Placed {
         place: place as u64,
@@ -231,13 +255,12 @@ fn gather(
     parents: &mut [usize],
     numbers: &mut Vec<usize>,
     clusters: &mut Vec<Cluster>,
-) -> Result<(), Fault>
+) -> Result<(), AllocError>
     requires falling { IsFalling parents.old }
     requires count { length parents.old ≡ length entries.now }
     requires gathered { IsGathered entries.now (first parents.old) 0 numbers.old.items (parts_of clusters.old.items) }
     ensures bare { OnOk result (AreBare (sections_of clusters.old.items) → AreBare (sections_of clusters.new.items)) }
     ensures gathered { OnOk result (IsGathered entries.now (first parents.old) (length entries.now) numbers.new.items (parts_of clusters.new.items)) }
-    ensures fault { IfErr result (λ e. e ≡ OutOfMemory) }
 {
     for place in 0..entries.len() {
         gather_one(entries, place, parents, numbers, clusters)?;
@@ -266,12 +289,11 @@ fn give(
     numbers: &[usize],
     section: SectionPos,
     clusters: &mut Vec<Cluster>,
-) -> Result<(), Fault>
+) -> Result<(), AllocError>
     requires numbers { (k : ℕ) → k < length numbers.now → slice_index numbers.now k < length (parts_of clusters.old.items) }
     requires owners { (k : ℕ) → owner_in owners.now.entries section ≡ Some k → k < length numbers.now }
     ensures parts { OnOk result (parts_of clusters.new.items ≡ parts_of clusters.old.items) }
     ensures sections { OnOk result (IsGiven (owner_in owners.now.entries section) numbers.now section (sections_of clusters.old.items) (sections_of clusters.new.items)) }
-    ensures fault { IfErr result (λ e. e ≡ OutOfMemory) }
 {
     if let Some(owner) = owner_of(owners, section) {
         own(clusters, numbers[owner], section)?;
@@ -280,14 +302,13 @@ fn give(
 }
 
 /// Gives each part its sections.
-fn share(owners: &Owners, numbers: &[usize], clusters: &mut Vec<Cluster>) -> Result<(), Fault>
+fn share(owners: &Owners, numbers: &[usize], clusters: &mut Vec<Cluster>) -> Result<(), AllocError>
     requires numbers { (k : ℕ) → k < length numbers.now → slice_index numbers.now k < length (parts_of clusters.old.items) }
     requires owners { (s : SectionPos) (k : ℕ) → owner_in owners.now.entries s ≡ Some k → k < length numbers.now }
     requires bare { AreBare (sections_of clusters.old.items) }
     ensures parts { OnOk result (parts_of clusters.new.items ≡ parts_of clusters.old.items) }
     ensures sections { OnOk result (AreShared (owner_in owners.now.entries) numbers.now (keys owners.now) (sections_of clusters.new.items)) }
     ensures once { OnOk result (AreOnce (sections_of clusters.new.items)) }
-    ensures fault { IfErr result (λ e. e ≡ OutOfMemory) }
 {
     let keys = owners.keys().as_slice();
     for key in keys {

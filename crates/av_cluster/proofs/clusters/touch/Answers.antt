@@ -10,29 +10,29 @@ use Rattle.av_cluster.specs.Joining.{key_of, owner_in, IsTouchedIf}
 use Rattle.av_cluster.proofs.clusters.touch.Goals as goal
 
 pub join-requires-clause-a : goal.join-requires-clause-a
-join-requires-clause-a c = c.requires.owner c.in-Some.owner.now (sym (rw (c.key.ensures ∙ ap key_of c.section-section.ensures) at c.in-Some.ensures.value))
+join-requires-clause-a c = c.requires.owner c.in-Some.owner (sym (rw c.section-section.ensures at c.in-Some.ensures))
 
-pub returns-in-Some-clause-ok : goal.returns-in-Some-clause-ok
-returns-in-Some-clause-ok c =
-    let e : owner_in c.args.owners.now.entries (section_of c.args.block) ≡ Some c.in-Some.owner.now = sym (rw (c.key.ensures ∙ ap key_of c.section-section.ensures) at c.in-Some.ensures.value) in
-    subst (λ b. IsTouchedIf b c.args.parents.now c.join.new.parents (owner_in c.args.owners.now.entries) (owner_in c.args.owners.now.entries) (section_of c.args.block) c.args.place) (sym (c.requires.loaded c.in-Some.owner.now e))
-    (record { falling = c.join.ensures.falling; count = c.join.ensures.count; case = inl (c.in-Some.owner.now, e, c.join.ensures, λ t. refl) })
+pub returns-in-Some : goal.returns-in-Some
+returns-in-Some c =
+    let e : owner_in c.args.owners.now.entries (section_of c.args.block) ≡ Some c.in-Some.owner = sym (rw c.section-section.ensures at c.in-Some.ensures) in
+    subst (λ b. IsTouchedIf b c.args.parents.now c.join.new.parents (owner_in c.args.owners.now.entries) (owner_in c.args.owners.now.entries) (section_of c.args.block) c.args.place) (sym (c.requires.loaded c.in-Some.owner e))
+    (record { falling = c.join.ensures.falling; count = c.join.ensures.count; case = inl (c.in-Some.owner, e, c.join.ensures, λ t. refl) })
 
-pub returns-then-not-loaded-clause-ok : goal.returns-then-not-loaded-clause-ok
-returns-then-not-loaded-clause-ok c =
+pub returns-then-not-loaded : goal.returns-then-not-loaded
+returns-then-not-loaded c =
     subst (λ b. IsTouchedIf b c.args.parents.now c.args.parents.now (owner_in c.args.owners.now.entries) (owner_in c.args.owners.now.entries) (section_of c.args.block) c.args.place) (sym (sym c.loaded.ensures ∙ c.if-not-loaded.true))
     (refl, refl)
 
-pub returns-clause-ok : goal.returns-clause-ok
-returns-clause-ok c =
+pub returns : goal.returns
+returns c =
     subst (λ b. IsTouchedIf b c.args.parents.now c.args.parents.now (owner_in c.args.owners.now.entries) (owner_in c.insert.new.self.entries) (section_of c.args.block) c.args.place) (sym (sym c.loaded.ensures ∙ c.if-not-loaded.false))
     (record {
       falling = c.requires.falling;
       count = refl;
       case = inr (
-        sym (rw (c.key.ensures ∙ ap key_of c.section-section.ensures) at c.in_default.ensures.value),
+        sym (rw c.section-section.ensures at c.in_default.ensures),
         refl,
-        λ t. (rw (c.key-2.ensures ∙ ap key_of c.section-section.ensures) at c.in_ok-insert.ensures.updates).0 (key_of t),
+        λ t. (rw (c.key.ensures ∙ ap key_of c.section-section.ensures) at c.in_ok-insert.ensures.updates).0 (key_of t),
       );
     })
 
@@ -40,8 +40,8 @@ not_here : (w : World) (s : SectionPos) → is_section_of w.height s.y ≡ false
 not_here w s low true e = absurd (true≢false (sym (has_place w.height w.positions.items w.chunks.items w.lawful.parallel s e).high ∙ low))
 not_here w s low false e = refl
 
-pub returns-then-not-is_high-clause-ok : goal.returns-then-not-is_high-clause-ok
-returns-then-not-is_high-clause-ok c =
+pub returns-then-not-is_high : goal.returns-then-not-is_high
+returns-then-not-is_high c =
     let w = c.args.world.now in let s = section_of c.args.block in
     let asked : c.is_high.result ≡ is_section_of w.height s.y = c.is_high.ensures ∙ (ap (λ (h : Height). is_section_of h c.section-section.result.y) c.height.ensures ∙ ap (λ (t : SectionPos). is_section_of w.height t.y) c.section-section.ensures) in
     let out : is_here (grid w s) ≡ false = not_here w s (sym asked ∙ c.if-not-is_high.true) (is_here (grid w s)) refl in

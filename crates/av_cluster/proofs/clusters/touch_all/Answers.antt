@@ -23,10 +23,10 @@ loop-corner-preserved c =
     (taken_more c.as_slice-corner-items.result.now c.loop-corner.corner-index _ c.loop-corner-test.true)
     (item_of c.as_slice-corner-items.result.now _ (c.as_slice-corner-items.ensures.value ∙ c.corners-corners.ensures) c.loop-corner.corner-index c.loop-corner-test.true _)
     c.loop-corner.invariant
-    c.in_ok-touch.ensures.ok
+    c.in_ok-touch.ensures
 
-pub returns-clause-ok : goal.returns-clause-ok
-returns-clause-ok c =
+pub returns : goal.returns
+returns c =
     corners_noted (grid c.args.world.now) c.args.entries.now c.args.place _ c.requires.place _ _ c.as_slice-corner-items.result.now
     (c.as_slice-corner-items.ensures.value ∙ c.corners-corners.ensures) c.loop-corner.corner-index
     (let a = c.loop-corner-test.false in let b = c.loop-corner.auto.corner-index-end in omega arith) c.loop-corner.invariant

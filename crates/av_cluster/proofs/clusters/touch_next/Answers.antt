@@ -13,8 +13,8 @@ meet_same_sections-requires-clause-a c =
 pub meet_same_sections-requires-clause-b : goal.meet_same_sections-requires-clause-b
 meet_same_sections-requires-clause-b c = let w = c.args.world.now in cells_near w.height w.positions.items w.chunks.items w.lawful _ (c.requires.loaded c.args.place _ c.requires.place)
 
-pub returns-clause-ok : goal.returns-clause-ok
-returns-clause-ok c =
+pub returns : goal.returns
+returns c =
     let l = not_first c.args.place c.if-place-eq0.false in
     beside_noted (grid c.args.world.now) c.args.entries.now _ (c.args.place - 1) c.args.place _ _ _ (omega (arith, l)) c.requires.place
     (c.meet_same_sections.ensures c.if-not-meet_same_sections.false) (c.requires.loaded c.args.place _ c.requires.place) c.requires.noted c.join.ensures
