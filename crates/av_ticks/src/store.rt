@@ -10,7 +10,7 @@ use indexmap::IndexMap;
 use std::alloc::{AllocError, Global};
 
 /// Up to how many entries room is made without an index.
-const FEW: usize = 64;
+const FEW: usize = 128;
 
 /// Entries in order, at most one of a position.
 #[derive(Drop)]
