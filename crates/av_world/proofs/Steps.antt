@@ -3,7 +3,6 @@ use Rattle.std.proofs.Common.{◌<◌, ◌≤◌, ℕ, zero, suc, take, get_or, 
 use Rattle.std.proofs.lemmas.List.Elements.{All-weaker}
 use Rattle.av_types.specs.Places.{section_of, chunk_of}
 use Rattle.av_types.specs.declared.place.Pos.{Pos}
-use Rattle.av_types.specs.declared.fault.Fault.{Fault}
 use Rattle.av_types.specs.declared.place.ChunkPos.{ChunkPos}
 use Rattle.av_types.specs.declared.place.SectionPos.{SectionPos}
 use Rattle.av_cells.specs.Grid.{cells_of, is_here, Grid}
@@ -69,11 +68,11 @@ chunk_room_lasts v w n p k h t =
     omega arith
 
 -- a reservation that did not fail made the room
-pub chunk_room : (v w : World) (n : ℕ) (p : Pos) (c : ChunkPos) (A : Type 0) (r : Result A Fault) → c ≡ chunk_of p → IsWorldKept v w → is_err r ≡ false
+pub chunk_room : (v w : World) (n : ℕ) (p : Pos) (c : ChunkPos) (A E : Type 0) (r : Result A E) → c ≡ chunk_of p → IsWorldKept v w → is_err r ≡ false
     → OnOk r (slot v.positions.items c < length v.positions.items → n ≤ room w c) → HasChunkRoom w n p
-chunk_room v w n p c A (Ok x) e k ok h =
+chunk_room v w n p c A E (Ok x) e k ok h =
     λ t. subst (λ (d : ChunkPos). n ≤ room w d) e (h (subst (λ (d : ChunkPos). slot v.positions.items d < length v.positions.items) (sym e) (subst (λ ps. slot ps.items (chunk_of p) < length ps.items) k.positions t)))
-chunk_room v w n p c A (Err x) e k ok h = absurd (true≢false ok)
+chunk_room v w n p c A E (Err x) e k ok h = absurd (true≢false ok)
 
 -- a chunk with room has room for each loaded block of it
 pub block_room : (w : World) (n : ℕ) (p : Pos) → HasChunkRoom w n p → HasRoomAt w n p

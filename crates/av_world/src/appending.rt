@@ -14,14 +14,13 @@ ghost use Rattle.av_world.specs.Views.{blocks, lists, room, site, positions_of, 
 
 use crate::worlds::World;
 use av_types::{Entry, Fault, Made, SectionPos};
-use std::alloc::Global;
+use std::alloc::{AllocError, Global};
 
 /// So many zeros.
-fn zeros(alloc: Global, count: usize) -> Result<Vec<usize>, Fault>
+fn zeros(alloc: Global, count: usize) -> Result<Vec<usize>, AllocError>
     ensures value { IfOk result (λ zeros. zeros.items ≡ replicate count 0) }
-    ensures fault { IfErr result (λ e. e ≡ OutOfMemory) }
 {
-    Ok(vec![in alloc; 0usize; count]?)
+    vec![in alloc; 0usize; count]
 }
 
 /// Counts one more entry of the chunk at an index, if it is there. No count exceeds `most`.
@@ -48,11 +47,10 @@ impl World {
     }
 
     /// How many of these entries each chunk is to get.
-    fn count_made(&self, made: &[Made]) -> Result<Vec<usize>, Fault>
+    fn count_made(&self, made: &[Made]) -> Result<Vec<usize>, AllocError>
         ensures count { IfOk result (λ counts. length counts.items ≡ length (positions_of self.now)) }
         ensures each { IfOk result (λ counts. (k : ℕ) → k < length (positions_of self.now)
             → slice_index_or counts.items k 0 ≡ count_at (positions_of self.now) k (entries_made made.now)) }
-        ensures fault { IfErr result (λ e. e ≡ OutOfMemory) }
     {
         let alloc = *self.positions.allocator();
         let mut counts = zeros(alloc, self.positions.len())?;
@@ -67,11 +65,10 @@ impl World {
     }
 
     /// Makes room for so many more entries of the chunk at an index.
-    fn reserve_count(&mut self, index: usize, count: usize) -> Result<(), Fault>
+    fn reserve_count(&mut self, index: usize, count: usize) -> Result<(), AllocError>
         requires { index < length (positions_of self.old) }
         ensures kept { IsWorldKept self.old self.new }
         ensures room { OnOk result ((d : ChunkPos) → count ≤ room self.new (slice_index_or (positions_of self.old) index d)) }
-        ensures fault { IfErr result (λ e. e ≡ OutOfMemory) }
     {
         if count == 0 {
             return Ok(());
@@ -81,12 +78,11 @@ impl World {
     }
 
     /// Makes room for so many more entries of each chunk.
-    fn reserve_counts(&mut self, counts: &[usize]) -> Result<(), Fault>
+    fn reserve_counts(&mut self, counts: &[usize]) -> Result<(), AllocError>
         requires { length counts.now ≡ length (positions_of self.old) }
         ensures kept { IsWorldKept self.old self.new }
         ensures room { OnOk result ((k : ℕ) (d : ChunkPos) → k < length counts.now
             → slice_index_or counts.now k 0 ≤ room self.new (slice_index_or (positions_of self.old) k d)) }
-        ensures fault { IfErr result (λ e. e ≡ OutOfMemory) }
     {
         for (index, count) in counts.iter().enumerate() {
             self.reserve_count(index, *count)?;
@@ -95,10 +91,9 @@ impl World {
     }
 
     /// Makes room in each list for those of these entries that it is to get.
-    fn reserve_made(&mut self, made: &[Made]) -> Result<(), Fault>
+    fn reserve_made(&mut self, made: &[Made]) -> Result<(), AllocError>
         ensures kept { IsWorldKept self.old self.new }
         ensures room { OnOk result (HasRoomForAll self.new (entries_made made.now)) }
-        ensures fault { IfErr result (λ e. e ≡ OutOfMemory) }
     {
         let counts = self.count_made(made)?;
         self.reserve_counts(counts.as_slice())

@@ -99,10 +99,12 @@ impl Cells for World {
     }
 
     fn prepare(&mut self, pos: Pos) -> Result<(), Fault> {
-        self.prepare_turn(pos)
+        self.prepare_turn(pos)?;
+        Ok(())
     }
 
     fn prepare_set(&mut self, pos: Pos, number: u16) -> Result<(), Fault> {
-        self.prepare_one(pos, number)
+        self.prepare_one(pos, number)?;
+        Ok(())
     }
 }

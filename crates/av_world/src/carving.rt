@@ -14,17 +14,17 @@ ghost use Rattle.av_world.specs.Sections.{filling_in};
 ghost use Rattle.av_world.specs.Views.{sections, grid, blocks, lists, height_of, positions_of, is_broken, IsSamePlaces};
 
 use crate::chunks::{exchange_in, offset};
-use crate::parcels::Parcel;
+use crate::finding::near_index;
+use crate::parcels::{Parcel, nowhere};
 use crate::worlds::World;
 use av_section::Section;
 use av_ticks::TickList;
 use av_types::{Fault, SectionPos};
-use std::alloc::Global;
+use std::alloc::{AllocError, Global};
 
 /// So many slots without sections.
-fn empty_slots(alloc: Global, count: usize) -> Result<Vec<Option<Section>>, Fault>
+fn empty_slots(alloc: Global, count: usize) -> Result<Vec<Option<Section>>, AllocError>
     ensures count { IfOk result (λ slots. length slots.items ≡ count) }
-    ensures fault { IfErr result (λ e. e ≡ OutOfMemory) }
 {
     let mut slots = Vec::with_capacity(alloc, count)?;
     for _ in 0..count {
@@ -34,7 +34,8 @@ fn empty_slots(alloc: Global, count: usize) -> Result<Vec<Option<Section>>, Faul
 }
 
 impl World {
-    /// Exchanges a section of a chunk that is there. What comes in is pending exactly where the chunk's list has an entry.
+    /// Exchanges a section of a chunk that is there, which is then found at once. What comes in is pending exactly where
+    /// the chunk's list has an entry.
     fn exchange(&mut self, at: SectionPos, section: Option<Section>) -> Option<Section>
         requires place { HasPlace (height_of self.old) (positions_of self.old) at }
         requires tied { IsTiedIn section at (lists self.old) }
@@ -43,6 +44,7 @@ impl World {
         ensures same { IsSamePlaces self.old self.new }
     {
         let chunk = self.slot_of(at);
+        self.near[near_index(at.chunk())] = chunk;
         let offset = offset(self.height, at);
         exchange_in(&mut self.chunks[chunk], offset, section)
     }
@@ -122,6 +124,7 @@ impl World {
             sections,
             aside: TickList::new(alloc),
             near: [0; 8],
+            absent: nowhere(),
         })
     }
 

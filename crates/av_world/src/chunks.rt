@@ -1,6 +1,5 @@
 //! Changes of one section of a chunk.
-ghost use Rattle.std.specs.Prelude.{IsOk, ◌≡◌, ◌<◌, ◌≤◌, ◌+◌, ◌++◌, ◌∷◌, [], length, slice_index_or, slice_set, option_copied, Some, None, true, false, OnOk, IfErr};
-ghost use Rattle.av_types.specs.declared.fault.Fault.TheVariants.{OutOfMemory};
+ghost use Rattle.std.specs.Prelude.{IsOk, ◌≡◌, ◌<◌, ◌≤◌, ◌+◌, ◌++◌, ◌∷◌, [], length, slice_index_or, slice_set, option_copied, Some, None, true, false, OnOk};
 ghost use Rattle.av_types.specs.Places.{is_section_of, place_of};
 ghost use Rattle.av_section.specs.declared.section.Section.{Section};
 ghost use Rattle.av_ticks.specs.Entries.{is_pending};
@@ -16,7 +15,8 @@ ghost use Rattle.av_ticks.specs.Entries.{is_due};
 use av_chunk::Chunk;
 use av_section::Section;
 use av_ticks::TickList;
-use av_types::{Entry, Fault, Height, Place, SectionPos};
+use av_types::{Entry, Height, Place, SectionPos};
+use std::alloc::AllocError;
 use std::mem;
 
 /// Whether a section's number is in the height.
@@ -74,14 +74,15 @@ fn add_slot(slot: &mut Option<Section>, place: Place)
 }
 
 /// Makes room for numbers in a section.
-pub(crate) fn prepare_slot(slot: &mut Option<Section>, numbers: &[u16]) -> Result<(), Fault>
+pub(crate) fn prepare_slot(slot: &mut Option<Section>, numbers: &[u16]) -> Result<(), AllocError>
     ensures same { SlotKeeps slot.old slot.new }
     ensures ok { OnOk result (HaveNumbers slot.new numbers.now) }
-    ensures err { IfErr result (λ e. e ≡ OutOfMemory) }
     ensures succeeds { HaveNumbers slot.old numbers.now → IsOk result }
 {
     if let Some(section) = slot {
-        section.prepare(numbers)?;
+        if section.prepare(numbers).is_err() {
+            return Err(AllocError);
+        }
     }
     Ok(())
 }
@@ -126,7 +127,11 @@ pub(crate) fn add_in(chunk: &mut Chunk, offset: usize, entry: Entry)
 }
 
 /// Makes room for numbers in the section at an offset.
-pub(crate) fn prepare_in(chunk: &mut Chunk, offset: usize, numbers: &[u16]) -> Result<(), Fault>
+pub(crate) fn prepare_in(
+    chunk: &mut Chunk,
+    offset: usize,
+    numbers: &[u16],
+) -> Result<(), AllocError>
     requires inside { offset < length chunk.old.sections.items }
     ensures slots { chunk.new.sections.items
         ≡ slice_set chunk.old.sections.items offset (slice_index_or chunk.new.sections.items offset None) }
@@ -134,22 +139,23 @@ pub(crate) fn prepare_in(chunk: &mut Chunk, offset: usize, numbers: &[u16]) -> R
         (slice_index_or chunk.new.sections.items offset None) }
     ensures ok { OnOk result (HaveNumbers (slice_index_or chunk.new.sections.items offset None) numbers.now) }
     ensures ticks { chunk.new.ticks ≡ chunk.old.ticks }
-    ensures err { IfErr result (λ e. e ≡ OutOfMemory) }
     ensures succeeds { HaveNumbers (slice_index_or chunk.old.sections.items offset None) numbers.now → IsOk result }
 {
     prepare_slot(&mut chunk.sections[offset], numbers)
 }
 
 /// Makes room for so many more entries.
-pub(crate) fn reserve_in(chunk: &mut Chunk, count: usize) -> Result<(), Fault>
+pub(crate) fn reserve_in(chunk: &mut Chunk, count: usize) -> Result<(), AllocError>
     ensures sections { chunk.new.sections ≡ chunk.old.sections }
     ensures entries { entries chunk.new.ticks ≡ entries chunk.old.ticks }
     ensures grows { room chunk.old.ticks ≤ room chunk.new.ticks }
     ensures ok { OnOk result (count ≤ room chunk.new.ticks) }
-    ensures err { IfErr result (λ e. e ≡ OutOfMemory) }
     ensures succeeds { count ≤ room chunk.old.ticks → IsOk result }
 {
-    chunk.ticks.reserve(count)
+    if chunk.ticks.reserve(count).is_err() {
+        return Err(AllocError);
+    }
+    Ok(())
 }
 
 /// Exchanges the section at an offset.

@@ -16,11 +16,11 @@ use crate::chunks::leave_in;
 use crate::worlds::World;
 use av_ticks::TickList;
 use av_types::{Entry, Fault};
+use std::alloc::AllocError;
 
 /// Appends the entries that are due.
-fn push_due(due: &mut Vec<Entry>, entries: &[Entry], now: u32) -> Result<(), Fault>
-    ensures ok { OnOk result (due.new.items ≡ due.old.items ++ filter (is_due now) entries.now) }
-    ensures fault { IfErr result (λ e. e ≡ OutOfMemory) }
+fn push_due(due: &mut Vec<Entry>, entries: &[Entry], now: u32) -> Result<(), AllocError>
+    ensures { OnOk result (due.new.items ≡ due.old.items ++ filter (is_due now) entries.now) }
 {
     let now = i64::from(now);
     for entry in entries {
@@ -32,9 +32,8 @@ fn push_due(due: &mut Vec<Entry>, entries: &[Entry], now: u32) -> Result<(), Fau
 }
 
 /// Appends the entries of a list that are due. One with none is not gone through.
-fn push_due_of(due: &mut Vec<Entry>, ticks: &TickList, now: u32) -> Result<(), Fault>
-    ensures ok { OnOk result (due.new.items ≡ due.old.items ++ filter (is_due now) (entries ticks.now)) }
-    ensures fault { IfErr result (λ e. e ≡ OutOfMemory) }
+fn push_due_of(due: &mut Vec<Entry>, ticks: &TickList, now: u32) -> Result<(), AllocError>
+    ensures { OnOk result (due.new.items ≡ due.old.items ++ filter (is_due now) (entries ticks.now)) }
 {
     if !ticks.has_due(now) {
         return Ok(());
@@ -107,9 +106,8 @@ impl World {
     }
 
     /// The entries that are due in tick `now` or before it, in the order of the chunks and of their lists.
-    fn find_due(&self, now: u32) -> Result<Vec<Entry>, Fault>
-        ensures ok { IfOk result (λ due. due.items ≡ flat_map (λ chunk. filter (is_due now) (entries chunk.ticks)) (chunks_of self.now)) }
-        ensures fault { IfErr result (λ e. e ≡ OutOfMemory) }
+    fn find_due(&self, now: u32) -> Result<Vec<Entry>, AllocError>
+        ensures { IfOk result (λ due. due.items ≡ flat_map (λ chunk. filter (is_due now) (entries chunk.ticks)) (chunks_of self.now)) }
     {
         let alloc = *self.positions.allocator();
         let mut due = Vec::new(alloc);
@@ -120,9 +118,8 @@ impl World {
     }
 
     /// The same entries by their time, then by their priority, the lower first, then by chunk and place in the list.
-    fn due_in_order(&self, now: u32) -> Result<Vec<Entry>, Fault>
-        ensures ok { IfOk result (λ due. due.items ≡ ordered due_order (flat_map (λ chunk. filter (is_due now) (entries chunk.ticks)) (chunks_of self.now))) }
-        ensures fault { IfErr result (λ e. e ≡ OutOfMemory) }
+    fn due_in_order(&self, now: u32) -> Result<Vec<Entry>, AllocError>
+        ensures { IfOk result (λ due. due.items ≡ ordered due_order (flat_map (λ chunk. filter (is_due now) (entries chunk.ticks)) (chunks_of self.now))) }
     {
         let mut due = self.find_due(now)?;
         due.sort_by_key(|entry| (entry.due, entry.priority))?;

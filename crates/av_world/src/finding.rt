@@ -18,7 +18,7 @@ use av_types::{ChunkPos, Pos, SectionPos};
 
 /// The chunks of a reach have each another of these.
 #[inline(always)]
-fn near_index(at: ChunkPos) -> usize
+pub(crate) fn near_index(at: ChunkPos) -> usize
     ensures { result < 4 }
 {
     (at.x.rem_euclid(2) + 2 * at.z.rem_euclid(2)) as usize

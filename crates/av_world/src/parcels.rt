@@ -1,9 +1,9 @@
 //! Parcels: sections that are out of a world, with the entries that were put aside for it.
-ghost use Rattle.std.specs.Prelude.{◌≡◌, ◌≤◌, ◌<◌, ◌+◌, ℕ, IsTrue, IsOk, true, false, not, length, option_copied, OnOk, IfErr, All, [], ◌∷◌};
+ghost use Rattle.std.specs.Prelude.{◌≡◌, ◌≤◌, ◌<◌, ◌+◌, ℕ, List, IsTrue, IsOk, true, false, not, length, option_copied, OnOk, All, [], ◌∷◌};
 ghost use Rattle.std.proofs.Props.{props};
-ghost use Rattle.av_types.specs.declared.fault.Fault.TheVariants.{OutOfMemory};
 ghost use Rattle.av_ticks.specs.Ticks.{entries};
-ghost use Rattle.av_world.specs.Parcels.{IsParcel};
+ghost use Rattle.av_types.specs.declared.place.SectionPos.{SectionPos};
+ghost use Rattle.av_world.specs.Parcels.{IsParcel, IsSectionInLimits, AreAbsent};
 ghost use Rattle.av_world.specs.Parts.{index};
 
 use crate::chunks::{append, prepare_slot, set_slot};
@@ -12,6 +12,7 @@ use av_cells::Cells;
 use av_section::Section;
 use av_ticks::TickList;
 use av_types::{Entry, Fault, Pos, SectionPos};
+use std::alloc::AllocError;
 
 /// Sections that are out of a world. What is added to it is put aside.
 #[derive(Drop)]
@@ -22,11 +23,24 @@ pub struct Parcel {
 
     /// Where the sections stand that were looked up last, by whether their x, y and z are odd. A look-up checks it.
     pub(crate) near: [usize; 8],
+
+    /// Sections that were looked up last and are not there, by the same.
+    pub(crate) absent: [SectionPos; 8],
     pub ghost lawful: { IsParcel positions.items sections.items (entries aside) } by { Prim.hlevel props },
+    pub ghost nowhere: { AreAbsent positions.items absent } by { Prim.hlevel props },
+}
+
+/// A section above those of all worlds.
+const NOWHERE: SectionPos = SectionPos { x: 0, y: 64, z: 0 };
+
+/// Sections that no parcel has.
+pub(crate) fn nowhere() -> [SectionPos; 8]
+    ensures { (at : List SectionPos) → All IsSectionInLimits at → AreAbsent at result }
+{
+    [NOWHERE; 8]
 }
 
 /// The index of a section, and the length where it is not there.
-#[inline(never)]
 fn index(positions: &[SectionPos], at: SectionPos) -> usize
     ensures { result ≡ index positions.now at }
 {
@@ -63,6 +77,17 @@ impl Parcel {
     ghost use Rattle.av_world.specs.ParcelViews.{parts, kept_grid, blocks, lists, room, CanSetAt, CanSetAll, IsParcelKept};
     ghost use Rattle.av_world.specs.Turned.{turned};
 
+    /// Where a section stands, by a search, unless it was looked up last and is not there.
+    #[inline(never)]
+    fn search(&self, at: SectionPos) -> usize
+        ensures { result ≡ index self.now.positions.items at }
+    {
+        if self.absent[near_index(at)] == at {
+            return self.positions.len();
+        }
+        index(self.positions.as_slice(), at)
+    }
+
     /// Where a section stands: where it was looked up last for a turn, or else by a search.
     #[inline(always)]
     fn slot_of(&self, at: SectionPos) -> usize
@@ -72,7 +97,19 @@ impl Parcel {
         if near < self.positions.len() && self.positions[near] == at {
             return near;
         }
-        index(self.positions.as_slice(), at)
+        self.search(at)
+    }
+
+    /// Notes where a section stands, so that it is found at once.
+    fn note(&mut self, section: SectionPos, slot: usize)
+        requires { slot ≡ index self.old.positions.items section }
+        ensures { IsParcelKept self.old self.new }
+    {
+        let place = near_index(section);
+        self.near[place] = slot;
+        if slot == self.positions.len() {
+            self.absent[place] = section;
+        }
     }
 
     /// Looks the sections of some blocks up, so that they are found at once.
@@ -82,7 +119,7 @@ impl Parcel {
         for at in at {
             let section = at.section();
             let slot = self.slot_of(section);
-            self.near[near_index(section)] = slot;
+            self.note(section, slot);
         }
     }
 
@@ -124,20 +161,21 @@ impl Parcel {
     }
 
     /// Makes room for so many more entries.
-    fn reserve_aside(&mut self, count: usize) -> Result<(), Fault>
+    fn reserve_aside(&mut self, count: usize) -> Result<(), AllocError>
         ensures kept { IsParcelKept self.old self.new }
         ensures room { OnOk result (count ≤ room self.new) }
-        ensures fault { IfErr result (λ e. e ≡ OutOfMemory) }
         ensures succeeds { count ≤ room self.old → IsOk result }
     {
-        self.aside.reserve_indexed(count)
+        if self.aside.reserve_indexed(count).is_err() {
+            return Err(AllocError);
+        }
+        Ok(())
     }
 
     /// Makes room for numbers in a section, where it is there.
-    fn prepare_section(&mut self, at: SectionPos, numbers: &[u16]) -> Result<(), Fault>
+    fn prepare_section(&mut self, at: SectionPos, numbers: &[u16]) -> Result<(), AllocError>
         ensures kept { IsParcelKept self.old self.new }
         ensures prepared { OnOk result (IsTrue (is_here (kept_grid self.new at)) → All (CanSetAt self.new at) numbers.now) }
-        ensures fault { IfErr result (λ e. e ≡ OutOfMemory) }
         ensures succeeds { (IsTrue (is_here (kept_grid self.old at)) → All (CanSetAt self.old at) numbers.now) → IsOk result }
     {
         let index = self.slot_of(at);
@@ -153,11 +191,10 @@ impl Parcel {
         at: SectionPos,
         ready: SectionPos,
         numbers: &[u16],
-    ) -> Result<(), Fault>
+    ) -> Result<(), AllocError>
         requires ready { IsTrue (is_here (kept_grid self.old ready)) → All (CanSetAt self.old ready) numbers.now }
         ensures kept { IsParcelKept self.old self.new }
         ensures prepared { OnOk result (IsTrue (is_here (kept_grid self.new at)) → All (CanSetAt self.new at) numbers.now) }
-        ensures fault { IfErr result (λ e. e ≡ OutOfMemory) }
         ensures succeeds { (IsTrue (is_here (kept_grid self.old at)) → All (CanSetAt self.old at) numbers.now) → IsOk result }
     {
         if at == ready {
@@ -167,11 +204,10 @@ impl Parcel {
     }
 
     /// Makes room for numbers in the sections of some blocks, where they are there. Most are that of the first block.
-    fn prepare_all(&mut self, at: &[Pos], numbers: &[u16]) -> Result<(), Fault>
+    fn prepare_all(&mut self, at: &[Pos], numbers: &[u16]) -> Result<(), AllocError>
         requires { 0 < length at.now }
         ensures kept { IsParcelKept self.old self.new }
         ensures prepared { OnOk result (All (CanSetAll self.new numbers.now) at.now) }
-        ensures fault { IfErr result (λ e. e ≡ OutOfMemory) }
         ensures succeeds { All (CanSetAll self.old numbers.now) at.now → IsOk result }
     {
         let first = at[0].section();
@@ -183,12 +219,11 @@ impl Parcel {
     }
 
     /// Makes room for the next turn of a block.
-    fn prepare_turn(&mut self, pos: Pos) -> Result<(), Fault>
+    fn prepare_turn(&mut self, pos: Pos) -> Result<(), AllocError>
         requires { IsNearOrigin pos }
         ensures kept { IsParcelKept self.old self.new }
         ensures room { OnOk result (42 ≤ room self.new) }
         ensures prepared { OnOk result (All (CanSetAll self.new (0 ∷ 1 ∷ 2 ∷ 3 ∷ 4 ∷ 5 ∷ 6 ∷ 7 ∷ 8 ∷ 9 ∷ [])) (turned pos)) }
-        ensures fault { IfErr result (λ e. e ≡ OutOfMemory) }
         ensures succeeds { 42 ≤ room self.old → All (CanSetAll self.old (0 ∷ 1 ∷ 2 ∷ 3 ∷ 4 ∷ 5 ∷ 6 ∷ 7 ∷ 8 ∷ 9 ∷ [])) (turned pos) → IsOk result }
     {
         self.look_near(&corners(pos));
@@ -197,11 +232,10 @@ impl Parcel {
     }
 
     /// Makes room for the next set of a block with its waking.
-    fn prepare_one(&mut self, pos: Pos, number: u16) -> Result<(), Fault>
+    fn prepare_one(&mut self, pos: Pos, number: u16) -> Result<(), AllocError>
         ensures kept { IsParcelKept self.old self.new }
         ensures room { OnOk result (7 ≤ room self.new) }
         ensures prepared { OnOk result (CanSetAll self.new (number ∷ []) pos) }
-        ensures fault { IfErr result (λ e. e ≡ OutOfMemory) }
         ensures succeeds { 7 ≤ room self.old → CanSetAll self.old (number ∷ []) pos → IsOk result }
     {
         self.reserve_aside(7)?;
@@ -268,10 +302,12 @@ impl Cells for Parcel {
     }
 
     fn prepare(&mut self, pos: Pos) -> Result<(), Fault> {
-        self.prepare_turn(pos)
+        self.prepare_turn(pos)?;
+        Ok(())
     }
 
     fn prepare_set(&mut self, pos: Pos, number: u16) -> Result<(), Fault> {
-        self.prepare_one(pos, number)
+        self.prepare_one(pos, number)?;
+        Ok(())
     }
 }

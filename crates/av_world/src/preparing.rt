@@ -1,6 +1,5 @@
 //! Room for turns and sets to come.
-ghost use Rattle.std.specs.Prelude.{◌≡◌, ◌≤◌, ◌<◌, length, true, IsTrue, IsOk, OnOk, IfErr, All, [], ◌∷◌};
-ghost use Rattle.av_types.specs.declared.fault.Fault.TheVariants.{OutOfMemory};
+ghost use Rattle.std.specs.Prelude.{◌≡◌, ◌≤◌, ◌<◌, length, true, IsTrue, IsOk, OnOk, All, [], ◌∷◌};
 ghost use Rattle.av_types.specs.Places.{section_of, chunk_of};
 ghost use Rattle.av_cells.specs.Grid.{is_here};
 ghost use Rattle.av_cells.specs.Positions.{IsNearOrigin, around};
@@ -11,14 +10,14 @@ ghost use Rattle.av_world.specs.Views.{grid, blocks, room, positions_of, CanSetA
 use crate::chunks::{is_high, offset, prepare_in, reserve_in};
 use crate::turned::{around, corners, turned};
 use crate::worlds::World;
-use av_types::{ChunkPos, Fault, Pos, SectionPos};
+use av_types::{ChunkPos, Pos, SectionPos};
+use std::alloc::AllocError;
 
 impl World {
     /// Makes room for so many more entries of a chunk, where it is there.
-    pub(crate) fn reserve_chunk(&mut self, at: ChunkPos, count: usize) -> Result<(), Fault>
+    pub(crate) fn reserve_chunk(&mut self, at: ChunkPos, count: usize) -> Result<(), AllocError>
         ensures kept { IsWorldKept self.old self.new }
         ensures room { OnOk result (slot (positions_of self.old) at < length (positions_of self.old) → count ≤ room self.new at) }
-        ensures fault { IfErr result (λ e. e ≡ OutOfMemory) }
         ensures succeeds { count ≤ room self.old at → IsOk result }
     {
         let chunk = self.chunk_slot(at);
@@ -30,27 +29,25 @@ impl World {
 
     /// Makes room for so many more entries of a block's chunk, where the block is loaded. Whether it is loaded is asked only
     /// where memory ran out.
-    fn reserve_at(&mut self, at: Pos, count: usize) -> Result<(), Fault>
+    fn reserve_at(&mut self, at: Pos, count: usize) -> Result<(), AllocError>
         ensures kept { IsWorldKept self.old self.new }
         ensures room { OnOk result (HasRoomAt self.new count at) }
-        ensures fault { IfErr result (λ e. e ≡ OutOfMemory) }
         ensures succeeds { HasRoomAt self.old count at → IsOk result }
     {
         let section = at.section();
-        let Err(fault) = self.reserve_chunk(section.chunk(), count) else {
+        let Err(refused) = self.reserve_chunk(section.chunk(), count) else {
             return Ok(());
         };
         if self.section(section).is_none() {
             return Ok(());
         }
-        Err(fault)
+        Err(refused)
     }
 
     /// Makes room for so many more entries of the chunks of some blocks, where they are loaded.
-    fn reserve_all(&mut self, at: &[Pos], count: usize) -> Result<(), Fault>
+    fn reserve_all(&mut self, at: &[Pos], count: usize) -> Result<(), AllocError>
         ensures kept { IsWorldKept self.old self.new }
         ensures room { OnOk result (All (HasRoomAt self.new count) at.now) }
-        ensures fault { IfErr result (λ e. e ≡ OutOfMemory) }
         ensures succeeds { All (HasRoomAt self.old count) at.now → IsOk result }
     {
         for at in at {
@@ -75,11 +72,10 @@ impl World {
     }
 
     /// Makes room for the entries of a turn in the chunks of a block's reach, which are looked up for it.
-    fn reserve_reach(&mut self, pos: Pos) -> Result<(), Fault>
+    fn reserve_reach(&mut self, pos: Pos) -> Result<(), AllocError>
         requires { IsNearOrigin pos }
         ensures kept { IsWorldKept self.old self.new }
         ensures room { OnOk result (All (HasRoomAt self.new 42) (corners pos)) }
-        ensures fault { IfErr result (λ e. e ≡ OutOfMemory) }
         ensures succeeds { All (HasRoomAt self.old 42) (corners pos) → IsOk result }
     {
         let corners = corners(pos);
@@ -93,10 +89,9 @@ impl World {
     }
 
     /// Makes room for numbers in a section, where it is loaded.
-    fn prepare_section(&mut self, at: SectionPos, numbers: &[u16]) -> Result<(), Fault>
+    fn prepare_section(&mut self, at: SectionPos, numbers: &[u16]) -> Result<(), AllocError>
         ensures kept { IsWorldKept self.old self.new }
         ensures prepared { OnOk result (IsTrue (is_here (grid self.new at)) → All (CanSetAt self.new at) numbers.now) }
-        ensures fault { IfErr result (λ e. e ≡ OutOfMemory) }
         ensures succeeds { (IsTrue (is_here (grid self.old at)) → All (CanSetAt self.old at) numbers.now) → IsOk result }
     {
         let chunk = self.slot_of(at);
@@ -116,11 +111,10 @@ impl World {
         at: SectionPos,
         ready: SectionPos,
         numbers: &[u16],
-    ) -> Result<(), Fault>
+    ) -> Result<(), AllocError>
         requires ready { IsTrue (is_here (grid self.old ready)) → All (CanSetAt self.old ready) numbers.now }
         ensures kept { IsWorldKept self.old self.new }
         ensures prepared { OnOk result (IsTrue (is_here (grid self.new at)) → All (CanSetAt self.new at) numbers.now) }
-        ensures fault { IfErr result (λ e. e ≡ OutOfMemory) }
         ensures succeeds { (IsTrue (is_here (grid self.old at)) → All (CanSetAt self.old at) numbers.now) → IsOk result }
     {
         if at == ready {
@@ -130,11 +124,10 @@ impl World {
     }
 
     /// Makes room for numbers in the sections of some blocks, where they are loaded. Most are that of the first block.
-    fn prepare_all(&mut self, at: &[Pos], numbers: &[u16]) -> Result<(), Fault>
+    fn prepare_all(&mut self, at: &[Pos], numbers: &[u16]) -> Result<(), AllocError>
         requires { 0 < length at.now }
         ensures kept { IsWorldKept self.old self.new }
         ensures prepared { OnOk result (All (CanSetAll self.new numbers.now) at.now) }
-        ensures fault { IfErr result (λ e. e ≡ OutOfMemory) }
         ensures succeeds { All (CanSetAll self.old numbers.now) at.now → IsOk result }
     {
         let first = at[0].section();
@@ -146,12 +139,11 @@ impl World {
     }
 
     /// Makes room for the next turn of a block.
-    pub(crate) fn prepare_turn(&mut self, pos: Pos) -> Result<(), Fault>
+    pub(crate) fn prepare_turn(&mut self, pos: Pos) -> Result<(), AllocError>
         requires { IsNearOrigin pos }
         ensures kept { IsWorldKept self.old self.new }
         ensures room { OnOk result (All (HasRoomAt self.new 42) (corners pos)) }
         ensures prepared { OnOk result (All (CanSetAll self.new (0 ∷ 1 ∷ 2 ∷ 3 ∷ 4 ∷ 5 ∷ 6 ∷ 7 ∷ 8 ∷ 9 ∷ [])) (turned pos)) }
-        ensures fault { IfErr result (λ e. e ≡ OutOfMemory) }
         ensures succeeds { All (HasRoomAt self.old 42) (corners pos)
             → All (CanSetAll self.old (0 ∷ 1 ∷ 2 ∷ 3 ∷ 4 ∷ 5 ∷ 6 ∷ 7 ∷ 8 ∷ 9 ∷ [])) (turned pos) → IsOk result }
     {
@@ -160,12 +152,11 @@ impl World {
     }
 
     /// Makes room for the next set of a block with its waking.
-    pub(crate) fn prepare_one(&mut self, pos: Pos, number: u16) -> Result<(), Fault>
+    pub(crate) fn prepare_one(&mut self, pos: Pos, number: u16) -> Result<(), AllocError>
         requires { IsNearOrigin pos }
         ensures kept { IsWorldKept self.old self.new }
         ensures room { OnOk result (All (HasRoomAt self.new 7) (around pos)) }
         ensures prepared { OnOk result (CanSetAll self.new (number ∷ []) pos) }
-        ensures fault { IfErr result (λ e. e ≡ OutOfMemory) }
         ensures succeeds { All (HasRoomAt self.old 7) (around pos) → CanSetAll self.old (number ∷ []) pos → IsOk result }
     {
         let around = around(pos);

@@ -4,7 +4,7 @@ use Rattle.av_types.specs.Places.{section_of}
 use Rattle.av_world.specs.Near.{cells_near}
 use Rattle.av_world.specs.Views.{CanSetAt}
 use Rattle.av_world.specs.Turned.{HasRoomAt, CanSetAll}
-use Rattle.av_world.proofs.Steps.{site_kept, on_ok, loaded_later}
+use Rattle.av_world.proofs.Steps.{site_kept, not_refused, loaded_later}
 use Rattle.av_world.proofs.Corners.{around_all, one_all, for_around, map_around}
 use Rattle.av_world.proofs.blocks.WorldCells.prepare_set.Goals as goal
 
@@ -14,21 +14,22 @@ prepare_one-requires c = let w = c.args.self.now in cells_near w.height w.positi
 pub returns-clause-room : goal.returns-clause-room
 returns-clause-room c =
     let old = c.args.self.now in let new = c.prepare_one.new.self in
-    on_ok c.prepare_one.result (All (HasRoomAt new 7) (around c.args.pos)) _ c.prepare_one.ensures.room
-    (λ all. map_around (HasRoomAt new 7) _ (λ q h t. h (loaded_later old new q c.prepare_one.ensures.kept t)) c.args.pos (for_around (HasRoomAt new 7) c.args.pos all))
+    map_around (HasRoomAt new 7) _ (λ q h t. h (loaded_later old new q c.prepare_one.ensures.kept t)) c.args.pos (for_around (HasRoomAt new 7) c.args.pos c.in_ok-prepare_one.ensures.room)
 
 pub returns-clause-prepared : goal.returns-clause-prepared
 returns-clause-prepared c =
     let old = c.args.self.now in let new = c.prepare_one.new.self in
-    on_ok c.prepare_one.result (CanSetAll new (c.args.number ∷ []) c.args.pos) _ c.prepare_one.ensures.prepared
-    (λ h. h (loaded_later old new c.args.pos c.prepare_one.ensures.kept c.requires) 0 0 (omega arith))
+    c.in_ok-prepare_one.ensures.prepared (loaded_later old new c.args.pos c.prepare_one.ensures.kept c.requires) 0 0 (omega arith)
+
+pub returns-in_err-prepare_one-clause-site : goal.returns-in_err-prepare_one-clause-site
+returns-in_err-prepare_one-clause-site c = site_kept c.args.self.now c.prepare_one.new.self c.prepare_one.ensures.kept
 
 pub returns-clause-site : goal.returns-clause-site
 returns-clause-site c = site_kept c.args.self.now c.prepare_one.new.self c.prepare_one.ensures.kept
 
-pub returns-clause-succeeds : goal.returns-clause-succeeds
-returns-clause-succeeds c =
+pub returns-in_err-prepare_one-clause-succeeds : goal.returns-in_err-prepare_one-clause-succeeds
+returns-in_err-prepare_one-clause-succeeds c =
     let w = c.args.self.now in
-    λ room number. c.prepare_one.ensures.succeeds
+    λ room number. not_refused c.prepare_one.result _ _ c.in_err-prepare_one.was (c.prepare_one.ensures.succeeds
     (around_all (HasRoomAt w 7) c.args.pos room)
-    (λ t. one_all (CanSetAt w (section_of c.args.pos)) c.args.number number)
+    (λ t. one_all (CanSetAt w (section_of c.args.pos)) c.args.number number))

@@ -18,6 +18,7 @@ invariant_of-self c =
     let same = part_kept at slots s i old w.lawful.parallel is below c.index_mut.ensures.value new c.prepare_slot.ensures.same in
     record {
       lawful = parcel_with at slots (slice_set slots i new) (entries w.aside) w.lawful (length-set slots i new) (λ p h. subst (λ (g : Grid). (cells_of g).pending p ≡ false) (sym same) h);
+      nowhere = w.nowhere;
     }
 
 pub returns-clause-kept : goal.returns-clause-kept

@@ -39,6 +39,7 @@ invariant_of-self c =
     let changed = part_set at slots s i old w.lawful.parallel is below c.index_mut.ensures.value new c.args.pos c.section.ensures c.place.result.index c.args.number c.place.ensures c.set_slot.ensures here in
     record {
       lawful = parcel_with at slots (slice_set slots i new) (entries w.aside) w.lawful (length-set slots i new) (λ p h. subst (λ (v : cells.World). v.pending p ≡ false) (sym changed) h);
+      nowhere = w.nowhere;
     }
 
 pub returns-clause-changed : goal.returns-clause-changed

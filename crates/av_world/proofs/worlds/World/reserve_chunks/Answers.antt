@@ -13,7 +13,7 @@ loop-at-preserved c =
       kept = IsWorldKept-trans c.args.self.now old new c.loop-at.invariant.kept c.reserve_chunk-reserved.ensures.kept;
       done = All-more (HasChunkRoom new n) at c.loop-at.at-index (record { x = pos 0; y = pos 0; z = pos 0 }) c.loop-at-test.true
           (All-weaker (HasChunkRoom old n) (HasChunkRoom new n) (λ p h. chunk_room_lasts old new n p c.reserve_chunk-reserved.ensures.kept h) (take c.loop-at.at-index at) c.loop-at.invariant.done)
-          (chunk_room old new n (slice_index_or at c.loop-at.at-index (record { x = pos 0; y = pos 0; z = pos 0 })) c.chunk.result _ c.reserve_chunk-reserved.result c.chunk.ensures c.reserve_chunk-reserved.ensures.kept (sym c.is_err.ensures.value ∙ c.if-is_err.false) c.reserve_chunk-reserved.ensures.room);
+          (chunk_room old new n (slice_index_or at c.loop-at.at-index (record { x = pos 0; y = pos 0; z = pos 0 })) c.chunk.result _ _ c.reserve_chunk-reserved.result c.chunk.ensures c.reserve_chunk-reserved.ensures.kept (sym c.is_err.ensures.value ∙ c.if-is_err.false) c.reserve_chunk-reserved.ensures.room);
     }
 
 pub returns-clause-room : goal.returns-clause-room

@@ -11,7 +11,7 @@ use Rattle.av_world.proofs.worlds.World.take_due.Goals as goal
 
 pub returns-clause-due : goal.returns-clause-due
 returns-clause-due c = let w = c.args.self.now in
-    c.in_ok-due.ensures.ok ∙ ap (ordered due_order) (sym (filter_flat (is_due c.args.now) (λ x. entries x.ticks) w.chunks.items) ∙ ap (filter (is_due c.args.now)) (sym (lists_flat w.positions.items w.chunks.items w.lawful.parallel w.lawful.rising)))
+    c.in_ok-due.ensures ∙ ap (ordered due_order) (sym (filter_flat (is_due c.args.now) (λ x. entries x.ticks) w.chunks.items) ∙ ap (filter (is_due c.args.now)) (sym (lists_flat w.positions.items w.chunks.items w.lawful.parallel w.lawful.rising)))
 
 pub returns-clause-loaded : goal.returns-clause-loaded
 returns-clause-loaded c = λ i p. same_here (sections c.args.self.now (section_of p)) (sections c.leave_all.new.self (section_of p)) (c.leave_all.ensures.numbers (section_of p)) i
