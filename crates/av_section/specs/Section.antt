@@ -12,7 +12,7 @@ number_at s place = if nat_lt place 4096 then number_in s.palette.items s.longs.
 
 -- whether an entry of a scheduled tick is pending at a place
 abbrev pub is_pending : Section → ℕ → Bool
-is_pending s place = has_place s.pending place
+is_pending s place = has_place s.pending.value place
 
 -- a place can be set to the number without memory
 abbrev pub CanSet : Section → ℕ → Type 0

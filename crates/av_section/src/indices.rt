@@ -2,9 +2,8 @@
 ghost use Rattle.std.specs.Prelude.{◌≡◌, ◌<◌, ◌≤◌, ◌^◌, ◌+◌, ◌⊎◌, ℕ, nat_eq, Some, true, false, map, option_map, length, slice_index, slice_index_or, All, Contains, IfOk, IfErr, OnOk};
 ghost use Rattle.indexmap.specs.IndexSet.{insert_key};
 ghost use Rattle.std.specs.Option.{option_copied};
-ghost use Rattle.av_types.specs.declared.fault.Fault.TheVariants.{OutOfMemory};
 ghost use Rattle.av_nbt.specs.View.{view};
-ghost use Rattle.av_pack.specs.Packing.{longs_for, packed_at};
+ghost use Rattle.av_pack.specs.Packing.{longs_for, packed_at, unpacked};
 ghost use Rattle.av_section.specs.BlockStates.{data_of, packed_indices, are_below};
 ghost use Rattle.av_section.specs.Distinct.{AreDistinct, ArePlaces};
 ghost use Rattle.av_section.specs.Judged.{AreNoIndices};
@@ -50,13 +49,27 @@ pub(crate) fn longs_indices(alloc: Global, longs: &[i64], count: usize) -> Resul
     Ok(indices)
 }
 
+/// The indices that longs hold. The longs are as many as these need, so nothing but memory can be wanted.
+pub(crate) fn unpacked(alloc: Global, longs: &[i64], bits: u32) -> Result<Vec<u16>, AllocError>
+    requires low { 4 ≤ bits }
+    requires high { bits ≤ 16 }
+    requires count { length longs.now ≡ longs_for bits }
+    ensures { IfOk result (λ indices. indices.items ≡ unpacked bits longs.now) }
+{
+    match unpack(alloc, longs, bits) {
+        Ok(indices) => Ok(indices),
+        Err(Fault::OutOfMemory) => Err(AllocError),
+        Err(_) => unreachable!(),
+    }
+}
+
 /// The same indices with `wider` bits each.
 pub(crate) fn repacked(
     alloc: Global,
     longs: &[i64],
     bits: u32,
     wider: u32,
-) -> Result<Vec<i64>, Fault>
+) -> Result<Vec<i64>, AllocError>
     requires low { 4 ≤ bits }
     requires high { bits ≤ 16 }
     requires wider_low { 4 ≤ wider }
@@ -64,10 +77,11 @@ pub(crate) fn repacked(
     requires count { length longs.now ≡ longs_for bits }
     requires fit { (i : ℕ) → i < 4096 → packed_at bits longs.now i < 2 ^ wider }
     ensures ok { IfOk result (λ new. IsRepacked bits longs.now wider new.items) }
-    ensures err { IfErr result (λ e. e ≡ OutOfMemory) }
 {
-    let indices = unpack(alloc, longs, bits)?;
-    let longs = pack(alloc, indices.as_slice(), wider)?;
+    let indices = unpacked(alloc, longs, bits)?;
+    let Ok(longs) = pack(alloc, indices.as_slice(), wider) else {
+        return Err(AllocError);
+    };
     Ok(longs)
 }
 

@@ -1,7 +1,8 @@
 //! Sets of places of a section.
-ghost use Rattle.std.specs.Prelude.{◌≡◌, ◌<◌, ◌/◌, ℕ, true, false};
+ghost use Rattle.std.specs.Prelude.{◌≡◌, ◌<◌, ◌/◌, ℕ, IfOk, true, false};
 
 use av_types::Place;
+use std::alloc::{AllocError, Global};
 
 /// A set of places, which takes no memory of its own.
 #[derive(Clone, Copy, Debug, PartialEq, Eq)]
@@ -25,6 +26,13 @@ impl PlaceSet {
         ensures { (i : ℕ) → has_place result i ≡ false }
     {
         PlaceSet { words: [0; 64] }
+    }
+
+    /// The empty set, in a box: what has one is moved without its 512 bytes.
+    pub(crate) fn boxed(alloc: Global) -> Result<Box<Self>, AllocError>
+        ensures { IfOk result (λ set. (i : ℕ) → has_place set.value i ≡ false) }
+    {
+        Ok(Box::new(alloc, PlaceSet::new())?)
     }
 
     /// Whether a place is in the set.

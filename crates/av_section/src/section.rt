@@ -7,7 +7,7 @@ ghost use Rattle.std.proofs.Props.{props};
 
 use crate::indices::{
     are_below, data_longs, distinct, first_missing, index_of, longs_indices, mapped, places_in,
-    repacked,
+    repacked, unpacked,
 };
 use crate::numbering::number_states;
 use crate::order::written_order;
@@ -15,7 +15,7 @@ use crate::palette::palette_states;
 use crate::places::PlaceSet;
 use crate::writing::{indices_tag, palette_tag};
 use av_nbt::Tag;
-use av_pack::{bits_for, get_at, longs_for, pack, set_at, unpack};
+use av_pack::{bits_for, get_at, longs_for, pack, set_at};
 use av_state::{State, StateTable};
 use av_types::{Fault, Place};
 use std::alloc::{AllocError, Global};
@@ -29,7 +29,7 @@ pub struct Section {
     palette: Vec<u16>,
     longs: Vec<i64>,
     bits: u32,
-    pending: PlaceSet,
+    pending: Box<PlaceSet>,
 
     /// Each number below it is in the palette.
     ready: u16,
@@ -131,12 +131,11 @@ impl Section {
         numbers: &[u16],
         longs: &[i64],
         indices: &[u16],
-    ) -> Result<Self, Fault>
+    ) -> Result<Self, AllocError>
         requires some { 0 < length numbers.now }
         requires few { length numbers.now ≤ 4096 }
         requires indices { packed_indices (length numbers.now) longs.now ≡ Some indices.now }
         ensures ok { IfOk result (HasNumbers numbers.now indices.now) }
-        ensures err { IfErr result (λ e. e ≡ OutOfMemory) }
     {
         let palette = distinct(alloc, numbers)?;
         if palette.len() != numbers.len() {
@@ -146,7 +145,7 @@ impl Section {
             palette,
             longs: Vec::from_slice(alloc, longs)?,
             bits: bits_for(numbers.len()),
-            pending: PlaceSet::new(),
+            pending: PlaceSet::boxed(alloc)?,
             ready: 0,
         })
     }
@@ -157,23 +156,24 @@ impl Section {
         palette: Vec<u16>,
         numbers: &[u16],
         indices: &[u16],
-    ) -> Result<Self, Fault>
+    ) -> Result<Self, AllocError>
         requires palette { AreDistinct numbers.now palette.items }
         requires few { length numbers.now ≤ 4096 }
         requires count { length indices.now ≡ 4096 }
         requires below { All (λ index. index < length numbers.now) indices.now }
         ensures ok { IfOk result (HasNumbers numbers.now indices.now) }
-        ensures err { IfErr result (λ e. e ≡ OutOfMemory) }
     {
         let bits = bits_for(palette.len());
         let places = places_in(alloc, palette.as_slice(), numbers)?;
         let indices = mapped(alloc, indices, places.as_slice())?;
-        let longs = pack(alloc, indices.as_slice(), bits)?;
+        let Ok(longs) = pack(alloc, indices.as_slice(), bits) else {
+            return Err(AllocError);
+        };
         Ok(Section {
             palette,
             longs,
             bits,
-            pending: PlaceSet::new(),
+            pending: PlaceSet::boxed(alloc)?,
             ready: 0,
         })
     }
@@ -228,7 +228,7 @@ impl Section {
             palette,
             longs: Vec::new(alloc),
             bits: 4,
-            pending: PlaceSet::new(),
+            pending: PlaceSet::boxed(alloc)?,
             ready: 0,
         })
     }
@@ -264,10 +264,9 @@ impl Section {
     }
 
     /// Makes room for numbers, one after the other.
-    fn prepare_each(&mut self, numbers: &[u16]) -> Result<(), Fault>
+    fn prepare_each(&mut self, numbers: &[u16]) -> Result<(), AllocError>
         ensures same { KeepsPlaces self.old self.new }
         ensures ok { OnOk result (All (CanSet self.new) numbers.now) }
-        ensures err { IfErr result (λ e. e ≡ OutOfMemory) }
         ensures succeeds { All (CanSet self.old) numbers.now → IsOk result }
     {
         for number in numbers {
@@ -277,10 +276,9 @@ impl Section {
     }
 
     /// Makes room for one number.
-    fn prepare_one(&mut self, number: u16) -> Result<(), Fault>
+    fn prepare_one(&mut self, number: u16) -> Result<(), AllocError>
         ensures same { KeepsPlaces self.old self.new }
         ensures ok { OnOk result (CanSet self.new number) }
-        ensures err { IfErr result (λ e. e ≡ OutOfMemory) }
         ensures succeeds { CanSet self.old number → IsOk result }
     {
         if has_number(self.palette.as_slice(), number) {
@@ -289,7 +287,7 @@ impl Section {
         self.add_longs()?;
         let bits = bits_for(self.palette.len() + 1);
         if bits == self.bits {
-            return Ok(self.append(number)?);
+            return self.append(number);
         }
         self.widen(number, bits)
     }
@@ -322,7 +320,7 @@ impl Section {
     }
 
     /// Appends a new number to the palette, with which the indices have so many bits.
-    fn widen(&mut self, number: u16, bits: u32) -> Result<(), Fault>
+    fn widen(&mut self, number: u16, bits: u32) -> Result<(), AllocError>
         requires new { CanSet self.old number → ⊥ }
         requires room { length self.old.palette.items < 65536 }
         requires bits { bits ≡ bits_for (length self.old.palette.items + 1) }
@@ -332,7 +330,6 @@ impl Section {
         requires count { length self.old.longs.items ≡ longs_for self.old.bits }
         ensures same { KeepsPlaces self.old self.new }
         ensures ok { OnOk result (CanSet self.new number) }
-        ensures err { IfErr result (λ e. e ≡ OutOfMemory) }
     {
         let alloc = *self.longs.allocator();
         let longs = repacked(alloc, self.longs.as_slice(), self.bits, bits)?;
@@ -352,32 +349,30 @@ impl Section {
         ensures err { IfErr result (λ e. e ≡ OutOfMemory) }
     {
         if self.palette.len() == 1 {
-            return self.write_one(alloc, table);
+            return Ok(self.write_one(alloc, table)?);
         }
-        self.write_any(alloc, table)
+        Ok(self.write_any(alloc, table)?)
     }
 
     /// What is written of a palette of one entry, which is at every place.
-    fn write_one(&self, alloc: Global, table: &StateTable) -> Result<(Tag, Option<Tag>), Fault>
+    fn write_one(&self, alloc: Global, table: &StateTable) -> Result<(Tag, Option<Tag>), AllocError>
         requires below { HasNumbersBelow self.now (length (states table.now)) }
         requires one { length self.now.palette.items ≡ 1 }
         ensures palette { IfOk result (λ tags. view tags.0 ≡ palette_tag (section_states (states table.now) self.now)) }
         ensures longs { IfOk result (λ tags. option_map view tags.1 ≡ data_tag (section_states (states table.now) self.now)) }
-        ensures err { IfErr result (λ e. e ≡ OutOfMemory) }
     {
         let palette = palette_tag(alloc, table, self.palette.as_slice())?;
         Ok((palette, None))
     }
 
     /// What is written of a palette of several entries.
-    fn write_any(&self, alloc: Global, table: &StateTable) -> Result<(Tag, Option<Tag>), Fault>
+    fn write_any(&self, alloc: Global, table: &StateTable) -> Result<(Tag, Option<Tag>), AllocError>
         requires below { HasNumbersBelow self.now (length (states table.now)) }
         requires several { length self.now.palette.items ≢ 1 }
         ensures palette { IfOk result (λ tags. view tags.0 ≡ palette_tag (section_states (states table.now) self.now)) }
         ensures longs { IfOk result (λ tags. option_map view tags.1 ≡ data_tag (section_states (states table.now) self.now)) }
-        ensures err { IfErr result (λ e. e ≡ OutOfMemory) }
     {
-        let indices = unpack(alloc, self.longs.as_slice(), self.bits)?;
+        let indices = unpacked(alloc, self.longs.as_slice(), self.bits)?;
         let order = written_order(alloc, self.palette.as_slice(), indices.as_slice())?;
         let palette = palette_tag(alloc, table, order.numbers.as_slice())?;
         let longs = indices_tag(alloc, order.indices.as_slice(), order.numbers.len())?;

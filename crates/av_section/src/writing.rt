@@ -1,6 +1,5 @@
 //! The palette of a section as its tags are written.
-ghost use Rattle.std.specs.Prelude.{◌≡◌, ◌<◌, ◌≤◌, ◌∷◌, map, option_map, length, IfOk, IfErr, All, slice_index_or};
-ghost use Rattle.av_types.specs.declared.fault.Fault.TheVariants.{OutOfMemory};
+ghost use Rattle.std.specs.Prelude.{◌≡◌, ◌<◌, ◌≤◌, ◌∷◌, map, option_map, length, IfOk, All, slice_index_or};
 ghost use Rattle.av_nbt.specs.Nbt.{text, compound, members_of};
 ghost use Rattle.av_nbt.specs.View.{view, views, named_view, named_views};
 ghost use Rattle.av_state.specs.BlockState.{air};
@@ -14,7 +13,6 @@ use crate::palette::{NAME, PROPERTIES};
 use av_nbt::{Kind, Named, Tag};
 use av_pack::{bits_for, pack};
 use av_state::{Property, State, StateTable};
-use av_types::Fault;
 use std::alloc::{AllocError, Global};
 
 /// A property as a named text.
@@ -109,16 +107,17 @@ pub(crate) fn indices_tag(
     alloc: Global,
     indices: &[u16],
     count: usize,
-) -> Result<Option<Tag>, Fault>
+) -> Result<Option<Tag>, AllocError>
     requires long { length indices.now ≡ 4096 }
     requires few { count ≤ 4096 }
     requires below { All (λ index. index < count) indices.now }
     ensures ok { IfOk result (λ tag. option_map view tag ≡ indices_tag count indices.now) }
-    ensures err { IfErr result (λ e. e ≡ OutOfMemory) }
 {
     if count <= 1 {
         return Ok(None);
     }
-    let longs = pack(alloc, indices, bits_for(count))?;
+    let Ok(longs) = pack(alloc, indices, bits_for(count)) else {
+        return Err(AllocError);
+    };
     Ok(Some(Tag::long_array(longs)))
 }

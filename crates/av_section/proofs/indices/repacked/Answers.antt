@@ -4,14 +4,14 @@ use Rattle.av_pack.proofs.Laws.{length-unpacked, get_or-unpacked}
 use Rattle.av_section.proofs.indices.repacked.Goals as goal
 
 pub pack-requires-clause-count : goal.pack-requires-clause-count
-pack-requires-clause-count c = rw (c.as_slice.ensures.value, c.in_ok-indices.ensures.ok) (length-unpacked c.args.bits c.args.longs.now)
+pack-requires-clause-count c = rw (c.as_slice.ensures.value, c.in_ok-indices.ensures) (length-unpacked c.args.bits c.args.longs.now)
 
 pub pack-requires-clause-fit : goal.pack-requires-clause-fit
 pack-requires-clause-fit c k d low =
-    let long = ap length (c.as_slice.ensures.value ∙ c.in_ok-indices.ensures.ok) ∙ length-unpacked c.args.bits c.args.longs.now in
+    let long = ap length (c.as_slice.ensures.value ∙ c.in_ok-indices.ensures) ∙ length-unpacked c.args.bits c.args.longs.now in
     let within = subst (λ n. k < n) long low in
-    rw (c.as_slice.ensures.value, c.in_ok-indices.ensures.ok, get_or-unpacked c.args.bits c.args.longs.now k d within) (c.requires.fit k within)
+    rw (c.as_slice.ensures.value, c.in_ok-indices.ensures, get_or-unpacked c.args.bits c.args.longs.now k d within) (c.requires.fit k within)
 
-pub returns-clause-ok : goal.returns-clause-ok
-returns-clause-ok c = let q = c.in_ok-longs.ensures.meaning in
-    record { count = q.count; entries = λ i low. q.entries i low ∙ rw (c.as_slice.ensures.value, c.in_ok-indices.ensures.ok) (get_or-unpacked c.args.bits c.args.longs.now i 0 low) }
+pub returns : goal.returns
+returns c = let q = c.in-Ok.ensures.meaning in
+    record { ok = record { count = q.count; entries = λ i low. q.entries i low ∙ rw (c.as_slice.ensures.value, c.in_ok-indices.ensures) (get_or-unpacked c.args.bits c.args.longs.now i 0 low) } }

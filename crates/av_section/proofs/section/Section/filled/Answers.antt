@@ -19,6 +19,6 @@ returns-clause-ok c =
     let palette = c.in_ok-push.ensures.items ∙ ap (λ l. l ++ c.args.number ∷ []) c.new-palette.ensures.items in
     record {
       numbers = λ i low. rw (lt-ltb i 4096 low, palette, c.new.ensures.items, packed_at-zeros 4 0 i) refl;
-      pending = c.new-2.ensures;
+      pending = c.in_ok-boxed.ensures;
       prepared = rw palette (0, omega arith, refl);
     }

@@ -21,12 +21,14 @@ invariant_of-result-clause-packed c =
 pub invariant_of-result-clause-known : goal.invariant_of-result-clause-known
 invariant_of-result-clause-known c = none_below c.in_ok-palette.palette.items
 
-pub returns-clause-ok : goal.returns-clause-ok
-returns-clause-ok c =
+pub returns : goal.returns
+returns c =
     let f = from_longs (length c.args.numbers.now) c.args.longs.now c.args.indices.now c.requires.indices in
     let same : length c.in_ok-palette.palette.items ≡ length c.args.numbers.now = omega (arith, c.len.ensures, c.if-len-numbers.false) in
     let palette = c.in_ok-palette.ensures.same same in
     record {
-      numbers_are = λ i low. rw (lt-ltb i 4096 low, c.in_ok-from_slice.ensures.items, palette, c.bits_for.ensures.value, f.entries i 0 low) refl;
-      pending = c.new.ensures;
+      ok = record {
+        numbers_are = λ i low. rw (lt-ltb i 4096 low, c.in_ok-from_slice.ensures.items, palette, c.bits_for.ensures.value, f.entries i 0 low) refl;
+        pending = c.in_ok-boxed.ensures;
+      };
     }

@@ -24,20 +24,22 @@ pub invariant_of-result-clause-packed : goal.invariant_of-result-clause-packed
 invariant_of-result-clause-packed c =
     let p = rw c.as_slice.ensures.value at c.in_ok-places.ensures in
     let values = c.as_slice-3.ensures.value ∙ c.in_ok-indices.ensures ∙ ap (λ l. map (slice_index l) c.args.indices.now) c.as_slice-2.ensures.value in
-    let meaning = rw values at c.in_ok-longs.ensures.meaning in
+    let meaning = rw values at c.in-Ok.ensures.meaning in
     let long : c.len.result ≡ length c.args.palette.items = omega (arith, c.len.ensures) in
     let needed = c.bits_for-bits.ensures.value ∙ ap bits_for long in
-    packed_places c.args.numbers.now c.args.palette.items c.in_ok-places.places.items c.args.indices.now c.in_ok-longs.longs.items c.bits_for-bits.result c.requires.palette c.requires.few needed p c.requires.count c.requires.below meaning
+    packed_places c.args.numbers.now c.args.palette.items c.in_ok-places.places.items c.args.indices.now c.in-Ok.longs.items c.bits_for-bits.result c.requires.palette c.requires.few needed p c.requires.count c.requires.below meaning
 
 pub invariant_of-result-clause-known : goal.invariant_of-result-clause-known
 invariant_of-result-clause-known c = none_below c.args.palette.items
 
-pub returns-clause-ok : goal.returns-clause-ok
-returns-clause-ok c =
+pub returns : goal.returns
+returns c =
     let p = rw c.as_slice.ensures.value at c.in_ok-places.ensures in
     let values = c.as_slice-3.ensures.value ∙ c.in_ok-indices.ensures ∙ ap (λ l. map (slice_index l) c.args.indices.now) c.as_slice-2.ensures.value in
-    let meaning = rw values at c.in_ok-longs.ensures.meaning in
+    let meaning = rw values at c.in-Ok.ensures.meaning in
     record {
-      numbers_are = λ i low. rw (lt-ltb i 4096 low) (number_placed c.args.numbers.now c.args.palette.items c.in_ok-places.places.items c.args.indices.now c.in_ok-longs.longs.items c.bits_for-bits.result p c.requires.count c.requires.below meaning i low);
-      pending = c.new.ensures;
+      ok = record {
+        numbers_are = λ i low. rw (lt-ltb i 4096 low) (number_placed c.args.numbers.now c.args.palette.items c.in_ok-places.places.items c.args.indices.now c.in-Ok.longs.items c.bits_for-bits.result p c.requires.count c.requires.below meaning i low);
+        pending = c.in_ok-boxed.ensures;
+      };
     }
