@@ -1,14 +1,14 @@
 -- Where the water entries of a chunk lie.
 use Rattle.std.proofs.Common.{◌≡◌, Bool, true, false, not, ◌&&◌, ◌||◌, Option, Some, None, List, [], ◌∷◌, ◌++◌, refl, sym, ap, ◌∙◌, if◌then◌else◌, nat_eq}
-use Rattle.std.proofs.lemmas.Bool.Decides.{Decides-int_eq, Decides-eqb}
+use Rattle.std.proofs.lemmas.Bool.Decides.{Decides-eqb}
 use Rattle.std.specs.List.{list_any, list_all}
-use Rattle.std.specs.Ordering.{int_eq}
 use Rattle.av_types.specs.Division.{divided}
 use Rattle.av_types.specs.Places.{place_of}
 use Rattle.av_types.specs.declared.place.Pos.{Pos}
 use Rattle.av_types.specs.declared.place.ChunkPos.{ChunkPos}
 use Rattle.av_types.specs.declared.place.Height.{Height}
 use Rattle.av_types.specs.declared.tick.Entry.{Entry}
+use Rattle.av_types.proofs.SamePlaces.{same_pos_is, same_pos-refl}
 use Rattle.av_nbt.specs.Nbt.{NamedTag}
 use Rattle.av_nbt.specs.Shape.{lacks}
 use Rattle.av_ticks.specs.Entries.{same_pos, is_pending}
@@ -75,17 +75,6 @@ both_ways true b f g = sym (f refl)
 both_ways false true f g = g refl
 both_ways false false f g = refl
 
-same_is : (p q : Pos) → same_pos p q ≡ true → p ≡ q
-same_is p q e =
-    let first = and_left (int_eq p.x q.x && int_eq p.y q.y) (int_eq p.z q.z) e in
-    let ex : p.x ≡ q.x = (Decides-int_eq p.x q.x).0 (and_left _ _ first) in
-    let ey : p.y ≡ q.y = (Decides-int_eq p.y q.y).0 (and_right (int_eq p.x q.x) _ first) in
-    let ez : p.z ≡ q.z = (Decides-int_eq p.z q.z).0 (and_right (int_eq p.x q.x && int_eq p.y q.y) _ e) in
-    λ i. record { x = ex i; y = ey i; z = ez i }
-
-same_refl : (p : Pos) → same_pos p p ≡ true
-same_refl p = and_both (int_eq p.x p.x && int_eq p.y p.y) (int_eq p.z p.z) (and_both (int_eq p.x p.x) (int_eq p.y p.y) ((Decides-int_eq p.x p.x).1 refl) ((Decides-int_eq p.y p.y).1 refl)) ((Decides-int_eq p.z p.z).1 refl)
-
 entry_at_self : (h : Height) (e : Entry) → is_entry_at h (offset_of h (divided e.pos.y 16)) (place_of e.pos) e ≡ true
 entry_at_self h e = and_both (nat_eq (offset_of h (divided e.pos.y 16)) (offset_of h (divided e.pos.y 16))) _ ((Decides-eqb (offset_of h (divided e.pos.y 16)) (offset_of h (divided e.pos.y 16))).1 refl) ((Decides-eqb (place_of e.pos) (place_of e.pos)).1 refl)
 
@@ -97,8 +86,8 @@ entry_same c h p e s t = both_ways _ _
     let places : place_of p ≡ place_of e.pos = (Decides-eqb (place_of p) (place_of e.pos)).0 (and_right (nat_eq (offset_of h (divided p.y 16)) (offset_of h (divided e.pos.y 16))) _ at) in
     let level : divided p.y 16 ≡ divided e.pos.y 16 = offset_apart h (divided p.y 16) (divided e.pos.y 16) (within_from c h p s).height (within_from c h e.pos t).height offsets in
     let same : p ≡ e.pos = sym (block_at-of c h p s) ∙ (ap (λ y. block_at c y (place_of p)) level ∙ (ap (λ i. block_at c (divided e.pos.y 16) i) places ∙ block_at-of c h e.pos t)) in
-    rw same (same_refl e.pos))
-    (λ same. let is : p ≡ e.pos = same_is p e.pos same in rw is (entry_at_self h e))
+    rw same (same_pos-refl e.pos))
+    (λ same. let is : p ≡ e.pos = same_pos_is p e.pos same in rw is (entry_at_self h e))
 
 either : (a b d : Bool) → a ≡ b → (rest : Bool) → rest ≡ d → a || rest ≡ (if b then true else d)
 either a true d e rest f = rw e refl

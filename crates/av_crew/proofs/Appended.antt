@@ -5,7 +5,7 @@ use Rattle.std.proofs.lemmas.List.Elements.{All-from_recursion}
 use Rattle.std.specs.List.{AllByRecursion, AllPairs}
 use Rattle.av_types.specs.declared.place.Pos.{Pos}
 use Rattle.av_types.specs.declared.tick.Made.{Made}
-use Rattle.av_types.proofs.SamePlaces.{same_pos_is, same_pos_from}
+use Rattle.av_types.proofs.SamePlaces.{same_pos_back}
 use Rattle.av_cells.specs.Positions.{same_pos}
 use Rattle.av_cells.specs.World.{World}
 use Rattle.av_world.specs.Appended.{entries_made}
@@ -23,12 +23,6 @@ each_fresh w (m ∷ ms) h = (h.0, each_fresh w ms h.2)
 pub all_fresh : (w : World) (ms : List Made) → AreNew w (entries_of ms) → All (λ m. w.pending m.entry.pos ≡ false) ms
 all_fresh w ms h = All-from_recursion (λ m. w.pending m.entry.pos ≡ false) ms (each_fresh w ms h)
 
-turned_round : (p q : Pos) → same_pos p q ≡ false → same_pos q p ≡ false
-turned_round p q h = by (same_pos q p) refl where
-  by : (b : Bool) → same_pos q p ≡ b → same_pos q p ≡ false
-  by true e = absurd (true≢false (sym (same_pos_from p q (sym (same_pos_is q p e))) ∙ h))
-  by false e = e
-
 not_among : (p : Pos) (ms : List Made) (j : ℕ) (d : Made) → is_among p (entries_of ms) ≡ false → j < length ms → same_pos p (get_or ms j d).entry.pos ≡ false
 not_among p [] j d h u = absurd (omega (arith, u))
 not_among p (m ∷ ms) j d h u = by (same_pos p m.entry.pos) refl h j u (λ i g v. not_among p ms i d g v) where
@@ -40,6 +34,6 @@ not_among p (m ∷ ms) j d h u = by (same_pos p m.entry.pos) refl h j u (λ i g 
 pub all_apart : (w : World) (ms : List Made) → AreNew w (entries_of ms) → AllPairs (λ a b. same_pos b.entry.pos a.entry.pos ≡ false) ms
 all_apart w [] h i j d lt u = absurd (omega (arith, lt, u))
 all_apart w (m ∷ ms) h zero zero d lt u = absurd (omega (arith, lt))
-all_apart w (m ∷ ms) h zero (suc j) d lt u = turned_round m.entry.pos (get_or ms j d).entry.pos (not_among m.entry.pos ms j d h.1 (omega (arith, u)))
+all_apart w (m ∷ ms) h zero (suc j) d lt u = same_pos_back m.entry.pos (get_or ms j d).entry.pos (not_among m.entry.pos ms j d h.1 (omega (arith, u)))
 all_apart w (m ∷ ms) h (suc i) zero d lt u = absurd (omega (arith, lt))
 all_apart w (m ∷ ms) h (suc i) (suc j) d lt u = all_apart w ms h.2 i j d (omega (arith, lt)) (omega (arith, u))

@@ -5,6 +5,7 @@ use Rattle.std.proofs.lemmas.List.Concat.{flat_map-append}
 use Rattle.std.specs.List.{flat_map}
 use Rattle.av_types.specs.declared.place.SectionPos.{SectionPos}
 use Rattle.av_types.specs.declared.tick.Entry.{Entry}
+use Rattle.av_types.proofs.SamePlaces.{same_section_from}
 use Rattle.av_cells.specs.Positions.{same_section}
 use Rattle.av_cells.specs.World as cells
 use Rattle.av_cells.specs.World.{Lists}
@@ -18,7 +19,6 @@ use Rattle.av_world.specs.Parcels.{with_aside}
 use Rattle.av_world.specs.ParcelViews.{blocks as parcel_blocks, lists as parcel_lists}
 use Rattle.av_world.specs.declared.worlds.World.{World}
 use Rattle.av_world.specs.declared.parcels.Parcel.{Parcel}
-use Rattle.av_world.proofs.Grids.{same_section_true}
 use Rattle.av_crew.specs.declared.jobs.Job.{Job}
 use Rattle.av_crew.specs.declared.jobs.Done.{Done}
 use Rattle.av_cluster.specs.declared.cluster_part.Cluster.{Cluster}
@@ -58,7 +58,7 @@ part_there (x ∷ cs) (suc i) c l e = part_there cs i c (omega arith) e
 
 among_at : (ss : List SectionPos) (k : ℕ) (d : SectionPos) → k < length ss → among ss (slice_index_or ss k d) ≡ true
 among_at [] k d h = absurd (omega arith)
-among_at (s ∷ ss) zero d h = ap (λ b. cond b true (among ss s)) (same_section_true s s refl)
+among_at (s ∷ ss) zero d h = ap (λ b. cond b true (among ss s)) (same_section_from s s refl)
 among_at (s ∷ ss) (suc k) d h = either (same_section (slice_index_or ss k d) s) (among ss (slice_index_or ss k d)) (among_at ss k d (omega arith)) where
   either : (b c : Bool) → c ≡ true → cond b true c ≡ true
   either true c e = refl

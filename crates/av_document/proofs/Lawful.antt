@@ -11,6 +11,7 @@ use Rattle.av_types.specs.declared.place.Pos.{Pos}
 use Rattle.av_types.specs.declared.place.ChunkPos.{ChunkPos}
 use Rattle.av_types.specs.declared.place.Height.{Height}
 use Rattle.av_types.specs.declared.tick.Entry.{Entry}
+use Rattle.av_types.proofs.SamePlaces.{same_pos-turned}
 use Rattle.av_nbt.specs.Nbt.{Nbt, NamedTag, Document}
 use Rattle.av_nbt.specs.Shape.{◌>>=◌, compound_of, items_of_list, each, lacks, or_else}
 use Rattle.av_state.specs.BlockState.{BlockState, air, air_name, water, water_name, level_texts, index_in, capped_level, water_level, level_key, value_of, level_of, meant, is_storable, storable}
@@ -22,7 +23,7 @@ use Rattle.av_document.specs.Chunk.{root_tags, ticks, tags_at, block_states_of, 
 use Rattle.av_document.specs.Law.{IsMeant, IsLawful}
 use Rattle.av_document.proofs.Faults.{or_parts}
 use Rattle.av_document.proofs.Numbers.{below_from}
-use Rattle.av_document.proofs.WrittenTicks.{pending-push, same_pos-turned}
+use Rattle.av_document.proofs.WrittenTicks.{pending-push}
 use Rattle.av_document.proofs.Written.{good_from}
 
 -- ---- one state

@@ -1,14 +1,13 @@
 -- Scheduled ticks as they are written, read back.
 use Rattle.std.proofs.Common.{◌≡◌, ℕ, List, [], ◌∷◌, ◌++◌, ℤ, Bool, true, false, not, ◌&&◌, ◌||◌, Some, None, Option, cond, map, refl, sym, ap, ◌∙◌}
 use Rattle.std.specs.List.{list_any, AllByRecursion}
-use Rattle.std.specs.Ordering.{int_eq}
 use Rattle.std.proofs.lemmas.Bool.{false≢true, true≢false}
-use Rattle.std.proofs.lemmas.Cmp.{int_eq_equiv}
 use Rattle.std.proofs.lemmas.List.{append_assoc, append-nil}
 use Rattle.av_types.specs.declared.place.Pos.{Pos}
 use Rattle.av_types.specs.declared.place.ChunkPos.{ChunkPos}
 use Rattle.av_types.specs.declared.place.Height.{Height}
 use Rattle.av_types.specs.declared.tick.Entry.{Entry}
+use Rattle.av_types.proofs.SamePlaces.{same_pos-turned}
 use Rattle.av_nbt.specs.Nbt.{NamedTag}
 use Rattle.av_nbt.specs.Shape.{lacks}
 use Rattle.av_ticks.specs.Entries.{same_pos, is_pending, are_apart}
@@ -58,15 +57,6 @@ pending-push p (x ∷ found) e h g = by (same_pos p x.pos) refl h (λ k. pending
   by : (b : Bool) → same_pos p x.pos ≡ b → cond b true (is_pending p found) ≡ false → (is_pending p found ≡ false → is_pending p (found ++ e ∷ []) ≡ false) → cond b true (is_pending p (found ++ e ∷ [])) ≡ false
   by true i k more = absurd (true≢false k)
   by false i k more = more k
-
-int_eq-turned : (x y : ℤ) → int_eq x y ≡ int_eq y x
-int_eq-turned x y = int_eq_equiv.symm x y
-
-pub same_pos-turned : (p q : Pos) → same_pos p q ≡ same_pos q p
-same_pos-turned p q =
-    ap (λ b. b && int_eq p.y q.y && int_eq p.z q.z) (int_eq-turned p.x q.x)
-    ∙ ap (λ b. int_eq q.x p.x && b && int_eq p.z q.z) (int_eq-turned p.y q.y)
-    ∙ ap (λ b. int_eq q.x p.x && int_eq q.y p.y && b) (int_eq-turned p.z q.z)
 
 module _ (sources : Pos → Bool) (n : ℕ) where
   abbrev pub entry_tags : Entry → List NamedTag

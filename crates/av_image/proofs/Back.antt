@@ -6,12 +6,11 @@ use Rattle.av_types.specs.Places.{region_of, index_of, chunk_at}
 use Rattle.av_types.specs.declared.place.ChunkPos.{ChunkPos}
 use Rattle.av_types.specs.declared.place.RegionPos.{RegionPos}
 use Rattle.av_types.proofs.Coordinates.{region_back, index_back}
-use Rattle.av_types.proofs.SamePlaces.{same_chunk_is}
+use Rattle.av_types.proofs.SamePlaces.{same_chunk_is, same_chunk-refl}
 use Rattle.av_chunk.specs.declared.chunk.Chunk.{Chunk}
 use Rattle.av_cells.specs.Positions.{same_chunk}
 use Rattle.av_files.specs.Files.{same_region}
 use Rattle.av_files.proofs.Coordinates.{same_region_is, same_region-refl}
-use Rattle.av_world.proofs.Search.{same_chunk_self}
 use Rattle.av_image.specs.declared.places.Place.{Place}
 use Rattle.av_image.specs.declared.places.Place.TheVariants.{Absent, Kept, Full}
 use Rattle.av_image.specs.declared.splits.Placed.{Placed}
@@ -52,7 +51,7 @@ of_other c d (Full chunk rest) e = ap (λ b. cond b (Some chunk) None) e
 of_own : (c : ChunkPos) (p : Place) → chunk_found (placed_of c p) c ≡ chunk_in (Some p)
 of_own c Absent = refl
 of_own c (Kept p) = refl
-of_own c (Full chunk rest) = ap (λ b. cond b (Some chunk) None) (same_chunk_self c)
+of_own c (Full chunk rest) = ap (λ b. cond b (Some chunk) None) (same_chunk-refl c)
 
 pub found_none_of : (xs ys : List Placed) (c : ChunkPos) → chunk_found xs c ≡ None → chunk_found (xs ++ ys) c ≡ chunk_found ys c
 found_none_of xs ys c e = found_append xs ys c ∙ ap (λ o. first_some o (chunk_found ys c)) e

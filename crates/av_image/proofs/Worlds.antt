@@ -6,7 +6,7 @@ use Rattle.av_types.specs.Places.{chunk_of_section}
 use Rattle.av_types.specs.declared.place.Height.{Height}
 use Rattle.av_types.specs.declared.place.ChunkPos.{ChunkPos}
 use Rattle.av_types.specs.declared.place.SectionPos.{SectionPos}
-use Rattle.av_types.proofs.SamePlaces.{same_chunk_is}
+use Rattle.av_types.proofs.SamePlaces.{same_chunk_is, same_chunk_from}
 use Rattle.av_ticks.specs.Ticks.{entries}
 use Rattle.av_chunk.specs.declared.chunk.Chunk.{Chunk}
 use Rattle.av_cells.specs.Positions.{same_chunk}
@@ -16,7 +16,6 @@ use Rattle.av_world.specs.Index.{slot}
 use Rattle.av_world.specs.Inserted.{chunk_grid, with_chunk, with_list, Inserts}
 use Rattle.av_world.specs.Views.{grid, lists}
 use Rattle.av_world.specs.declared.worlds.World.{World}
-use Rattle.av_world.proofs.Search.{same_chunk_true}
 use Rattle.av_land.specs.Land.{has_chunk}
 use Rattle.av_image.specs.declared.splits.Placed.{Placed}
 use Rattle.av_image.specs.Splits.{chunk_found, ArePlacedOnce, HasAt, IsWorldOf}
@@ -24,7 +23,7 @@ use Rattle.av_image.specs.Splits.{chunk_found, ArePlacedOnce, HasAt, IsWorldOf}
 pub not_same : (a b : ChunkPos) → same_chunk a b ≡ false → same_chunk b a ≡ false
 not_same a b h = by (same_chunk b a) refl where
   by : (t : Bool) → same_chunk b a ≡ t → t ≡ false
-  by true e = absurd (false≢true (sym h ∙ same_chunk_true a b (sym (same_chunk_is b a e))))
+  by true e = absurd (false≢true (sym h ∙ same_chunk_from a b (sym (same_chunk_is b a e))))
   by false e = refl
 
 pub slot_none : (ps : List ChunkPos) (c : ChunkPos) → has_chunk ps c ≡ false → slot ps c ≡ length ps

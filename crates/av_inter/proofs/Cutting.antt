@@ -3,6 +3,7 @@ use Rattle.std.proofs.Common.{◌≡◌, ℕ, zero, suc, ◌+◌, ◌<◌, Bool,
 use Rattle.std.proofs.lemmas.List.{length-append}
 use Rattle.std.proofs.lemmas.Option.{get_or_from_slice_get}
 use Rattle.av_types.specs.declared.place.SectionPos.{SectionPos}
+use Rattle.av_types.proofs.SamePlaces.{same_section_from}
 use Rattle.av_cells.specs.Positions.{same_section}
 use Rattle.av_cells.specs.Grid.{Grid, is_here, among, only, without, over}
 use Rattle.av_world.specs.OutOf.{IsPartOf}
@@ -10,7 +11,6 @@ use Rattle.av_world.specs.Views.{grid, lists, site, IsSamePlaces}
 use Rattle.av_world.specs.ParcelViews.{kept_grid, aside, blocks as parcel_blocks, lists as parcel_lists}
 use Rattle.av_world.specs.declared.worlds.World.{World}
 use Rattle.av_world.specs.declared.parcels.Parcel.{Parcel}
-use Rattle.av_world.proofs.Grids.{same_section_true}
 use Rattle.av_cluster.specs.Clusters.{sections_at}
 use Rattle.av_inter.specs.Cut.{CanCut, IsCutOut, AreCut, IsSlotOf, put_grid}
 
@@ -25,7 +25,7 @@ got_new (x ∷ xs) y = got_new xs y
 
 among_at : (ss : List SectionPos) (k : ℕ) (d : SectionPos) → k < length ss → among ss (slice_index_or ss k d) ≡ true
 among_at [] k d h = absurd (omega arith)
-among_at (s ∷ ss) zero d h = ap (λ b. cond b true (among ss s)) (same_section_true s s refl)
+among_at (s ∷ ss) zero d h = ap (λ b. cond b true (among ss s)) (same_section_from s s refl)
 among_at (s ∷ ss) (suc k) d h = either (same_section (slice_index_or ss k d) s) (among ss (slice_index_or ss k d)) (among_at ss k d (omega arith)) where
   either : (b c : Bool) → c ≡ true → cond b true c ≡ true
   either true c e = refl

@@ -13,12 +13,12 @@ use Rattle.av_types.specs.declared.place.SectionPos.{SectionPos}
 use Rattle.av_types.specs.declared.place.Height.{Height}
 use Rattle.av_types.specs.declared.tick.Entry.{Entry}
 use Rattle.av_types.specs.declared.tick.Made.{Made}
+use Rattle.av_types.proofs.SamePlaces.{same_pos_from, same_pos_back}
 use Rattle.av_ticks.specs.Entries.{is_pending, made_order}
 use Rattle.av_ticks.specs.Order.{ordered, inserted}
 use Rattle.av_cells.specs.Positions.{same_pos}
 use Rattle.av_cells.specs.World.{World, Lists}
 use Rattle.av_world.specs.Appended.{entries_made, with_entries as with_appended}
-use Rattle.av_world.proofs.Grids.{same_pos_true}
 use Rattle.av_play.specs.declared.event.Placed.{Placed}
 use Rattle.av_play.specs.declared.event.Stage.{Stage}
 use Rattle.av_play.specs.declared.event.Stage.TheVariants.{Ended}
@@ -28,7 +28,7 @@ use Rattle.av_inter.specs.Out.{Out}
 use Rattle.av_inter.specs.Whole.{whole}
 use Rattle.av_inter.specs.Lawful.{is_home, is_ended, listed, IsCore}
 use Rattle.av_inter.proofs.LookUps.{AreOff, read_off}
-use Rattle.av_inter.proofs.OneTurn.{new_among, new_from, same_back}
+use Rattle.av_inter.proofs.OneTurn.{new_among, new_from}
 
 among_inserted : (q : Pos) (m : Made) (ms : List Made) → is_among q (entries_of (inserted made_order m ms)) ≡ cond (same_pos q m.entry.pos) true (is_among q (entries_of ms))
 among_inserted q m [] = refl
@@ -58,7 +58,7 @@ new_inserted w m (y ∷ ys) p a h = by (is_lt (made_order y m)) (new_inserted w 
   by : (b : Bool) → (is_among m.entry.pos (entries_of ys) ≡ false → AreNew w (entries_of ys) → AreNew w (entries_of (inserted made_order m ys))) → AreNew w (entries_of (cond b (y ∷ inserted made_order m ys) (m ∷ y ∷ ys)))
   by true more =
       let n = parts (same_pos m.entry.pos y.entry.pos) (is_among m.entry.pos (entries_of ys)) a in
-      (h.0, among_inserted y.entry.pos m ys ∙ ap (λ c. cond c true (is_among y.entry.pos (entries_of ys))) (same_back m.entry.pos y.entry.pos n.0) ∙ h.1, more n.1 h.2)
+      (h.0, among_inserted y.entry.pos m ys ∙ ap (λ c. cond c true (is_among y.entry.pos (entries_of ys))) (same_pos_back m.entry.pos y.entry.pos n.0) ∙ h.1, more n.1 h.2)
   by false more = (p, a, h)
 
 pub new_ordered : (w : World) (ms : List Made) → AreNew w (entries_of ms) → AreNew w (entries_of (ordered made_order ms))
@@ -69,7 +69,7 @@ new_ordered w (m ∷ ms) h = new_inserted w m (ordered made_order ms) h.0 (among
 pub each_among : (P : Pos → Type 0) (ms : List Made) → ((q : Pos) → is_among q (entries_of ms) ≡ true → P q) → All (λ m. P m.entry.pos) ms
 each_among P [] h = All-nil (λ m. P m.entry.pos)
 each_among P (m ∷ ms) h =
-    All-cons (λ m. P m.entry.pos) m ms (h m.entry.pos (ap (λ c. cond c true (is_among m.entry.pos (entries_of ms))) (same_pos_true m.entry.pos m.entry.pos refl))) (each_among P ms (λ q a. h q (or_later (same_pos q m.entry.pos) a)))
+    All-cons (λ m. P m.entry.pos) m ms (h m.entry.pos (ap (λ c. cond c true (is_among m.entry.pos (entries_of ms))) (same_pos_from m.entry.pos m.entry.pos refl))) (each_among P ms (λ q a. h q (or_later (same_pos q m.entry.pos) a)))
   where
     or_later : (c : Bool) {d : Bool} → d ≡ true → cond c true d ≡ true
     or_later true e = refl
@@ -80,7 +80,7 @@ none_among q [] h = All-nil (λ m. same_pos m.entry.pos q ≡ false)
 none_among q (m ∷ ms) h = by (same_pos q m.entry.pos) refl h (none_among q ms) where
   by : (c : Bool) → same_pos q m.entry.pos ≡ c → cond c true (is_among q (entries_of ms)) ≡ false → (is_among q (entries_of ms) ≡ false → All (λ m. same_pos m.entry.pos q ≡ false) ms) → All (λ m. same_pos m.entry.pos q ≡ false) (m ∷ ms)
   by true e u more = absurd (true≢false u)
-  by false e u more = All-cons (λ m. same_pos m.entry.pos q ≡ false) m ms (same_back q m.entry.pos e) (more u)
+  by false e u more = All-cons (λ m. same_pos m.entry.pos q ≡ false) m ms (same_pos_back q m.entry.pos e) (more u)
 
 pub new_pairs : (w : World) (ms : List Made) → AreNew w (entries_of ms) → AllPairs (λ a b. same_pos b.entry.pos a.entry.pos ≡ false) ms
 new_pairs w [] h = λ i j d l m. absurd (omega arith)

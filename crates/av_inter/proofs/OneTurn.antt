@@ -10,7 +10,7 @@ use Rattle.av_types.specs.declared.place.SectionPos.{SectionPos}
 use Rattle.av_types.specs.declared.place.Height.{Height}
 use Rattle.av_types.specs.declared.tick.Entry.{Entry}
 use Rattle.av_types.specs.declared.tick.Made.{Made}
-use Rattle.av_types.proofs.SamePlaces.{same_pos_is}
+use Rattle.av_types.proofs.SamePlaces.{same_pos_is, same_pos_back}
 use Rattle.av_ticks.specs.Entries.{is_pending}
 use Rattle.av_cells.specs.declared.kind.Kind.{Kind}
 use Rattle.av_cells.specs.Positions.{InReach, same_pos}
@@ -21,7 +21,6 @@ use Rattle.av_water.specs.Frame.{Agree, Same, Kept, InLoadedReach}
 use Rattle.av_water.proofs.Inside.{turn_kept, turn_made}
 use Rattle.av_world.specs.OutOf.{IsPartOf}
 use Rattle.av_world.proofs.Tied.{tied_added}
-use Rattle.av_world.proofs.Grids.{same_pos_true}
 use Rattle.av_play.specs.declared.event.Placed.{Placed}
 use Rattle.av_play.specs.declared.event.Stage.{Stage}
 use Rattle.av_play.specs.Parts.{part_at}
@@ -81,12 +80,6 @@ neither : (b c : Bool) → cond b true c ≡ false → (b ≡ false) × (c ≡ f
 neither true c h = absurd (true≢false h)
 neither false c h = (refl, h)
 
-pub same_back : (p q : Pos) → same_pos p q ≡ false → same_pos q p ≡ false
-same_back p q h = by (same_pos q p) refl where
-  by : (b : Bool) → same_pos q p ≡ b → b ≡ false
-  by true e = absurd (true≢false (sym (same_pos_true p q (sym (same_pos_is q p e))) ∙ h))
-  by false e = refl
-
 -- new after es were made, and so new before
 new_after : (w v : World) (es fs : List Entry) → AreNew w es → ((q : Pos) → v.pending q ≡ cond (is_among q es) true (w.pending q)) → AreNew v fs → AreNew w (es ++ fs)
 new_after w v es fs h c g = join es h (λ q n. (neither (is_among q es) (w.pending q) (sym (c q) ∙ n)).0) where
@@ -96,7 +89,7 @@ new_after w v es fs h c g = join es h (λ q n. (neither (is_among q es) (w.pendi
 
   outside : (x : Entry) (fs : List Entry) → ((q : Pos) → v.pending q ≡ false → same_pos q x.pos ≡ false) → AreNew v fs → is_among x.pos fs ≡ false
   outside x [] o g = refl
-  outside x (f ∷ fs) o g = ap (λ b. cond b true (is_among x.pos fs)) (same_back f.pos x.pos (o f.pos g.0)) ∙ outside x fs o g.2
+  outside x (f ∷ fs) o g = ap (λ b. cond b true (is_among x.pos fs)) (same_pos_back f.pos x.pos (o f.pos g.0)) ∙ outside x fs o g.2
 
   join : (xs : List Entry) → AreNew w xs → ((q : Pos) → v.pending q ≡ false → is_among q xs ≡ false) → AreNew w (xs ++ fs)
   join [] h o = drops fs g

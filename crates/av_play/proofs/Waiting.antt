@@ -1,11 +1,10 @@
 -- A turn makes pending what it makes entries of, and nothing else.
 use Rattle.std.proofs.Common.{◌≡◌, ℕ, nat_le, Bool, true, false, not, ◌&&◌, ◌||◌, cond, List, [], ◌∷◌, ◌++◌, Option, Some, None, refl, sym, ap, ◌∙◌, arith}
 use Rattle.std.proofs.lemmas.Bool.{true≢false}
-use Rattle.std.proofs.lemmas.Bool.Decides.{Decides-int_eq}
 use Rattle.av_types.specs.declared.place.Pos.{Pos}
 use Rattle.av_types.specs.declared.tick.Entry.{Entry}
 use Rattle.av_types.specs.declared.water.Direction.TheVariants.{North, South, West, East}
-use Rattle.av_types.proofs.SamePlaces.{same_pos_is}
+use Rattle.av_types.proofs.SamePlaces.{same_pos_back}
 use Rattle.av_cells.specs.declared.kind.Kind.{Kind}
 use Rattle.av_cells.specs.Positions.{step, around, same_pos}
 use Rattle.av_cells.specs.World.{World, with_number, with_entry_if}
@@ -101,14 +100,6 @@ neither : (b c : Bool) → cond b true c ≡ false → (b ≡ false) × (c ≡ f
 neither true c h = absurd (true≢false h)
 neither false c h = (refl, h)
 
-same_back : (p q : Pos) → same_pos p q ≡ false → same_pos q p ≡ false
-same_back p q h = by (same_pos q p) refl where
-  by : (b : Bool) → same_pos q p ≡ b → b ≡ false
-  by true e = absurd (true≢false (sym (ap (λ (r : Pos). same_pos r p) (same_pos_is q p e) ∙ own p) ∙ (ap (λ (r : Pos). same_pos r p) (same_pos_is q p e) ∙ ap (λ (r : Pos). same_pos p r) (sym (same_pos_is q p e)) ∙ h))) where
-    own : (r : Pos) → same_pos r r ≡ true
-    own r = (λ i. (Decides-int_eq r.x r.x).1 refl i && (Decides-int_eq r.y r.y).1 refl i && (Decides-int_eq r.z r.z).1 refl i)
-  by false e = refl
-
 not_among : (q : Pos) (es : List Entry) (e : Entry) → is_among q es ≡ false → same_pos q e.pos ≡ false → is_among q (es ++ e ∷ []) ≡ false
 not_among q [] e h g = ap (λ b. cond b true false) g
 not_among q (x ∷ xs) e h g = let n = neither (same_pos q x.pos) (is_among q xs) h in ap (λ b. cond b true (is_among q (xs ++ e ∷ []))) n.0 ∙ not_among q xs e n.1 g
@@ -117,7 +108,7 @@ new_push : (w : World) (es : List Entry) (e : Entry) → AreNew w es → w.pendi
 new_push w [] e h p g = (p, refl, tt)
 new_push w (x ∷ xs) e h p g =
     let n = neither (same_pos e.pos x.pos) (is_among e.pos xs) g in
-    (h.0, not_among x.pos xs e h.1 (same_back e.pos x.pos n.0), new_push w xs e h.2 p n.1)
+    (h.0, not_among x.pos xs e h.1 (same_pos_back e.pos x.pos n.0), new_push w xs e h.2 p n.1)
 
 record IsFresh (w : World) (c : Change) : Type 0 where
   counted : IsCounted w c
@@ -192,7 +183,7 @@ new_after w v es fs h c g = join es h (λ q n. (neither (is_among q es) (w.pendi
 
   outside : (x : Entry) (fs : List Entry) → ((q : Pos) → v.pending q ≡ false → same_pos q x.pos ≡ false) → AreNew v fs → is_among x.pos fs ≡ false
   outside x [] o g = refl
-  outside x (f ∷ fs) o g = ap (λ b. cond b true (is_among x.pos fs)) (same_back f.pos x.pos (o f.pos g.0)) ∙ outside x fs o g.2
+  outside x (f ∷ fs) o g = ap (λ b. cond b true (is_among x.pos fs)) (same_pos_back f.pos x.pos (o f.pos g.0)) ∙ outside x fs o g.2
 
   join : (xs : List Entry) → AreNew w xs → ((q : Pos) → v.pending q ≡ false → is_among q xs ≡ false) → AreNew w (xs ++ fs)
   join [] h o = drops fs g

@@ -12,6 +12,7 @@ use Rattle.av_types.specs.declared.place.Pos.{Pos}
 use Rattle.av_types.specs.declared.place.ChunkPos.{ChunkPos}
 use Rattle.av_types.specs.declared.place.Height.{Height}
 use Rattle.av_types.specs.declared.fault.Fault.{Fault}
+use Rattle.av_types.proofs.SamePlaces.{same_chunk_is}
 use Rattle.av_pack.specs.Nibbles.{nibble_at}
 use Rattle.av_state.specs.BlockState.{air}
 use Rattle.av_state.specs.Table.{states}
@@ -29,7 +30,6 @@ use Rattle.av_flood.specs.Light.{Terrain, IsLight}
 use Rattle.av_land.specs.Land.{has_chunk, is_loaded}
 use Rattle.av_land.specs.Good.{Good, IsTimely}
 use Rattle.av_world.specs.Index.{slot}
-use Rattle.av_world.specs.Near.{same_chunk_is}
 use Rattle.av_world.specs.Lands.{land_of, IsWhole}
 use Rattle.av_world.specs.Views.{blocks, height_of, positions_of, is_broken}
 use Rattle.av_world.specs.declared.worlds.World.{World}

@@ -13,14 +13,13 @@ use Rattle.av_types.specs.declared.place.Pos.{Pos}
 use Rattle.av_types.specs.declared.place.ChunkPos.{ChunkPos}
 use Rattle.av_types.specs.declared.place.Height.{Height}
 use Rattle.av_types.specs.declared.tick.Entry.{Entry}
+use Rattle.av_types.proofs.SamePlaces.{same_chunk_is, same_chunk-refl}
 use Rattle.av_ticks.specs.Entries.{is_due, due_order}
 use Rattle.av_ticks.specs.Order.{inserted, ordered}
 use Rattle.av_document.specs.Ticks.{lies_in}
 use Rattle.av_cells.specs.Positions.{same_chunk}
 use Rattle.av_land.specs.Land.{has_chunk, is_loaded}
 use Rattle.av_land.specs.Tick.{due_entries}
-use Rattle.av_world.specs.Near.{same_chunk_is}
-use Rattle.av_world.proofs.Search.{same_chunk_self}
 use Rattle.av_world.specs.Views.{blocks, lists}
 use Rattle.av_world.specs.Lands.{land_of, IsWhole}
 use Rattle.av_world.specs.declared.worlds.World.{World}
@@ -55,7 +54,7 @@ or_right false = refl
 
 has_at : (ps : List ChunkPos) (j : ℕ) (d : ChunkPos) → j < length ps → has_chunk ps (get_or ps j d) ≡ true
 has_at [] j d h = absurd (omega arith)
-has_at (p ∷ ps) zero d h = ap (λ b. b || has_chunk ps p) (same_chunk_self p)
+has_at (p ∷ ps) zero d h = ap (λ b. b || has_chunk ps p) (same_chunk-refl p)
 has_at (p ∷ ps) (suc j) d h = ap (λ b. same_chunk p (get_or ps j d) || b) (has_at ps j d (omega arith)) ∙ or_right (same_chunk p (get_or ps j d))
 
 one_loaded : (h : Height) (ps : List ChunkPos) (c : ChunkPos) (p : Pos) → has_chunk ps c ≡ true → lies_in c h p ≡ true → has_chunk ps (chunk_of p) && is_block_of h p.y ≡ true

@@ -1,15 +1,13 @@
 -- Entries of scheduled ticks, and the orders in which they are gone through (minecraft.wiki, "Tick", "Scheduled tick").
-use Rattle.std.specs.Prelude.{ℕ, ℤ, pos, int_le, Bool, true, false, ◌&&◌, if◌then◌else◌, List, [], ◌∷◌}
+use Rattle.std.specs.Prelude.{ℕ, ℤ, pos, int_le, Bool, true, false, if◌then◌else◌, List, [], ◌∷◌}
 use Rattle.std.specs.Int.{int_min}
 use Rattle.std.specs.List.{fold}
-use Rattle.std.specs.Ordering.{int_eq, int_cmp, nat_cmp, ordering_then}
+use Rattle.std.specs.Ordering.{int_cmp, nat_cmp, ordering_then}
 use Rattle.std.specs.declared.cmp.Ordering.{Ordering}
+pub use Rattle.av_types.specs.Places.{same_pos}
 use Rattle.av_types.specs.declared.place.Pos.{Pos}
 use Rattle.av_types.specs.declared.tick.Entry.{Entry}
 use Rattle.av_types.specs.declared.tick.Made.{Made}
-
-abbrev pub same_pos : Pos → Pos → Bool
-same_pos p q = int_eq p.x q.x && int_eq p.y q.y && int_eq p.z q.z
 
 -- an entry of the position is there
 abbrev pub is_pending : Pos → List Entry → Bool

@@ -1,8 +1,9 @@
 -- The tests of positions tell what is equal.
-use Rattle.std.proofs.Common.{◌≡◌, ℤ, true, ◌&&◌, refl, subst}
+use Rattle.std.proofs.Common.{◌≡◌, ◌∙◌, ℤ, true, false, ◌&&◌, refl, ap, subst}
 use Rattle.std.specs.Ordering.{int_eq}
 use Rattle.std.proofs.lemmas.Bool.{and_parts, and_from}
 use Rattle.std.proofs.lemmas.Bool.Decides.{Decides-int_eq}
+use Rattle.std.proofs.lemmas.Cmp.{int_eq_equiv}
 use Rattle.av_types.specs.Places.{same_pos, same_chunk, same_section}
 use Rattle.av_types.specs.declared.place.Pos.{Pos}
 use Rattle.av_types.specs.declared.place.ChunkPos.{ChunkPos}
@@ -25,6 +26,15 @@ same_pos-refl p = and_from (int_eq p.x p.x && int_eq p.y p.y) (int_eq p.z p.z) (
 
 pub same_pos_from : (p q : Pos) → p ≡ q → same_pos p q ≡ true
 same_pos_from p q e = subst (λ r. same_pos p r ≡ true) e (same_pos-refl p)
+
+pub same_pos-turned : (p q : Pos) → same_pos p q ≡ same_pos q p
+same_pos-turned p q =
+    ap (λ b. b && int_eq p.y q.y && int_eq p.z q.z) (int_eq_equiv.symm p.x q.x)
+    ∙ ap (λ b. int_eq q.x p.x && b && int_eq p.z q.z) (int_eq_equiv.symm p.y q.y)
+    ∙ ap (λ b. int_eq q.x p.x && int_eq q.y p.y && b) (int_eq_equiv.symm p.z q.z)
+
+pub same_pos_back : (p q : Pos) → same_pos p q ≡ false → same_pos q p ≡ false
+same_pos_back p q h = same_pos-turned q p ∙ h
 
 pub same_chunk_is : (a b : ChunkPos) → same_chunk a b ≡ true → a ≡ b
 same_chunk_is a b h =

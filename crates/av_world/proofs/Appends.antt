@@ -7,13 +7,12 @@ use Rattle.av_types.specs.Places.{chunk_of}
 use Rattle.av_types.specs.declared.place.ChunkPos.{ChunkPos}
 use Rattle.av_types.specs.declared.tick.Entry.{Entry}
 use Rattle.av_types.specs.declared.tick.Made.{Made}
+use Rattle.av_types.proofs.SamePlaces.{same_chunk_is, same_chunk-refl}
 use Rattle.av_ticks.specs.Entries.{is_pending}
 use Rattle.av_cells.specs.Positions.{same_pos, same_chunk}
 use Rattle.av_cells.specs.World.{World, with_entry_if}
 use Rattle.av_world.specs.Index.{slot}
-use Rattle.av_world.specs.Near.{same_chunk_is}
 use Rattle.av_world.specs.Appended.{entries_made, with_entries}
-use Rattle.av_world.proofs.Search.{same_chunk_self}
 use Rattle.av_world.specs.Appending.{entered_all, CanAppend, count_in, count_at}
 
 -- the next of those that are left
@@ -44,7 +43,7 @@ nat_eq_self n = eq-eqb n n refl
 
 -- an entry counts for its own chunk
 pub own_counts : (c : ChunkPos) (n : ℕ) → cond (same_chunk c c) 1 0 + n ≡ 1 + n
-own_counts c n = ap (λ b. cond b 1 0 + n) (same_chunk_self c)
+own_counts c n = ap (λ b. cond b 1 0 + n) (same_chunk-refl c)
 
 pub index_counts : (j k n : ℕ) → j ≡ k → cond (nat_eq j k) 1 0 + n ≡ 1 + n
 index_counts j k n e = ap (λ m. cond (nat_eq m k) 1 0 + n) e ∙ ap (λ b. cond b 1 0 + n) (nat_eq_self k)

@@ -1,5 +1,4 @@
 pub mod Search
-pub mod Grids
 pub mod Moved
 pub mod Kept
 pub mod Tied

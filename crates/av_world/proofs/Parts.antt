@@ -6,6 +6,7 @@ use Rattle.std.proofs.lemmas.List.{drop_more, drop_all, get_or_default}
 use Rattle.av_types.specs.Places.{section_of, place_of, chunk_of}
 use Rattle.av_types.specs.declared.place.Pos.{Pos}
 use Rattle.av_types.specs.declared.place.SectionPos.{SectionPos}
+use Rattle.av_types.proofs.SamePlaces.{same_section_is, same_section_from}
 use Rattle.av_section.specs.declared.section.Section.{Section}
 use Rattle.av_ticks.specs.Entries.{is_pending}
 use Rattle.av_cells.specs.Positions.{same_section}
@@ -14,8 +15,6 @@ use Rattle.av_cells.specs.Grid.{Grid, Filling, with_filling, among, only, withou
 use Rattle.av_world.specs.Lawful.{IsTied}
 use Rattle.av_world.specs.Sections.{filling_in}
 use Rattle.av_world.specs.Parts.{index, part_grid}
-use Rattle.av_world.specs.Near.{same_section_is}
-use Rattle.av_world.proofs.Grids.{same_section_true}
 
 -- ---- a section exchanged keeps what waits tied to the lists
 
@@ -30,14 +29,14 @@ tied_exchanged g l s f tied new = λ p t. by p (same_section (section_of p) s) r
 
 pub index_found : (ts : List SectionPos) (s d : SectionPos) (i : ℕ) → i < length ts → get_or ts i d ≡ s → ((j : ℕ) → j < i → same_section (get_or ts j d) s ≡ false) → index ts s ≡ i
 index_found [] s d i below at others = absurd (omega arith)
-index_found (t ∷ ts) s d zero below at others = rw (same_section_true t s at) refl
+index_found (t ∷ ts) s d zero below at others = rw (same_section_from t s at) refl
 index_found (t ∷ ts) s d (suc i) below at others = rw (others 0 (omega arith)) (ap suc (index_found ts s d i (omega arith) at (λ j h. others (suc j) (omega arith))))
 
 -- in a list of distinct sections a section stands where it is found
 pub index_at_index : (ts : List SectionPos) (s d : SectionPos) (i : ℕ) → AllPairs (λ s t. same_section t s ≡ false) ts → i < length ts → get_or ts i d ≡ s → index ts s ≡ i
 index_at_index ts s d i distinct below at = index_found ts s d i below at (λ j lt. by j (same_section (get_or ts j d) s) refl lt) where
   by : (j : ℕ) (b : Bool) → same_section (get_or ts j d) s ≡ b → j < i → b ≡ false
-  by j true e lt = absurd (true≢false (sym (same_section_true (get_or ts i d) (get_or ts j d) (at ∙ sym (same_section_is (get_or ts j d) s e))) ∙ distinct j i d lt below))
+  by j true e lt = absurd (true≢false (sym (same_section_from (get_or ts i d) (get_or ts j d) (at ∙ sym (same_section_is (get_or ts j d) s e))) ∙ distinct j i d lt below))
   by j false e lt = refl
 
 pub index_absent : (ts : List SectionPos) (s : SectionPos) → among ts s ≡ false → index ts s ≡ length ts
@@ -45,7 +44,7 @@ index_absent [] s h = refl
 index_absent (t ∷ ts) s h = by (same_section s t) (same_section t s) refl refl h (λ n. index_absent ts s n) where
   by : (b c : Bool) → same_section s t ≡ b → same_section t s ≡ c → cond b true (among ts s) ≡ false → (among ts s ≡ false → index ts s ≡ length ts) → cond c zero (suc (index ts s)) ≡ suc (length ts)
   by true c e f n rest = absurd (true≢false n)
-  by false true e f n rest = absurd (true≢false (sym (same_section_true s t (sym (same_section_is t s f))) ∙ e))
+  by false true e f n rest = absurd (true≢false (sym (same_section_from s t (sym (same_section_is t s f))) ∙ e))
   by false false e f n rest = ap suc (rest n)
 
 pub index_among : (ts : List SectionPos) (s d : SectionPos) → among ts s ≡ true → (index ts s < length ts) × (get_or ts (index ts s) d ≡ s)
@@ -54,7 +53,7 @@ index_among (t ∷ ts) s d h = by (same_section s t) (same_section t s) refl ref
   by : (b c : Bool) → same_section s t ≡ b → same_section t s ≡ c → cond b true (among ts s) ≡ true → (among ts s ≡ true → (index ts s < length ts) × (get_or ts (index ts s) d ≡ s))
       → (cond c zero (suc (index ts s)) < suc (length ts)) × (get_or (t ∷ ts) (cond c zero (suc (index ts s))) d ≡ s)
   by b true e f n rest = (omega arith, same_section_is t s f)
-  by true false e f n rest = absurd (true≢false (sym (same_section_true t s (sym (same_section_is s t e))) ∙ f))
+  by true false e f n rest = absurd (true≢false (sym (same_section_from t s (sym (same_section_is s t e))) ∙ f))
   by false false e f n rest = let r = rest n in (omega (arith, r.0), r.1)
 
 pub past_none : (slots : List (Option Section)) (i : ℕ) → length slots ≤ i → get_or slots i None ≡ None

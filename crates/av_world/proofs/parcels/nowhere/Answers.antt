@@ -3,8 +3,8 @@ use Rattle.std.proofs.Common.{◌≡◌, ◌<◌, ℕ, Bool, true, false, List, 
 use Rattle.std.proofs.lemmas.Int.{ints}
 use Rattle.std.proofs.lemmas.List.Elements.{All-replicate}
 use Rattle.av_types.specs.declared.place.SectionPos.{SectionPos}
+use Rattle.av_types.proofs.SamePlaces.{same_section_is}
 use Rattle.av_cells.specs.Positions.{same_section}
-use Rattle.av_world.specs.Near.{same_section_is}
 use Rattle.av_world.specs.Parcels.{IsSectionInLimits}
 use Rattle.av_world.specs.Parts.{index}
 use Rattle.av_world.proofs.Parts.{index_past}
