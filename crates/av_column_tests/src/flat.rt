@@ -6,7 +6,7 @@ use av_drop::drop_distance;
 use av_rules::{Kinds, Rules};
 use av_state::{Property, State, StateTable};
 use av_types::{Direction, Entry, Fault, Pos, Wet};
-use av_water::{incoming, turn};
+use av_water::{incoming, turn, turn_onto};
 use std::alloc::Global;
 use std::process::Abort;
 use std::test::Fail;
@@ -123,6 +123,25 @@ pub fn turned(
     assert!(rt; column.has_kinds(kinds));
     assert!(rt; column.room() >= 42);
     Ok(turn(column, kinds, 1, pos))
+}
+
+/// A turn in tick 1, prepared before, onto a list whose entries are forgotten.
+pub fn turn_onto_again(
+    rt: &impl Abort,
+    column: &mut Column,
+    kinds: &Kinds,
+    block: Block,
+    made: &mut ArrayVec<Entry, 42>,
+) -> Result<(), Fault> {
+    let pos = at(block);
+    assert!(rt; column.loaded(pos));
+    column.prepare(pos)?;
+    assert!(rt; column.loaded(pos));
+    assert!(rt; column.has_kinds(kinds));
+    assert!(rt; column.room() >= 42);
+    made.clear();
+    turn_onto(column, kinds, 1, pos, made);
+    Ok(())
 }
 
 /// A set in tick 1 with its waking, prepared before.

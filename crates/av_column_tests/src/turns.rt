@@ -1,5 +1,9 @@
 //! Turns of (8, 64, 8), which is called p here.
-use crate::flat::{AIR, FALLING, GRASS, SOAKED_GRASS, SOURCE, STONE, expect_turn};
+use crate::flat::{
+    AIR, FALLING, GRASS, SOAKED_GRASS, SOURCE, STONE, expect_entries, expect_turn, flat_with,
+    kinds, turn_onto_again,
+};
+use arrayvec::ArrayVec;
 use std::test::Fail;
 
 #[test]
@@ -38,6 +42,20 @@ fn a_wet_block_is_not_entered_though_its_row_is_open(rt: HostRuntime) -> Result<
             ((7, 64, 8), 2),
         ],
     )
+}
+
+#[test]
+fn one_list_serves_turn_after_turn(rt: HostRuntime) -> Result<(), Fail> {
+    let kinds = kinds(rt.alloc(), &rt)?;
+    let blocks = [((8, 64, 8), SOURCE), ((9, 64, 8), SOAKED_GRASS)];
+    let mut column = flat_with(rt.alloc(), &blocks)?;
+    let mut made = ArrayVec::new();
+    turn_onto_again(&rt, &mut column, &kinds, (8, 64, 8), &mut made)?;
+    let first = [(8, 64, 7), (8, 64, 8), (8, 64, 9), (7, 64, 8)];
+    expect_entries(&rt, made.as_slice(), &first);
+    turn_onto_again(&rt, &mut column, &kinds, (8, 66, 8), &mut made)?;
+    expect_entries(&rt, made.as_slice(), &[]);
+    Ok(())
 }
 
 #[test]
