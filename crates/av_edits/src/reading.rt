@@ -15,7 +15,7 @@ use crate::words::{Statement, line_edit, parts};
 use av_cells::Cells;
 use av_state::{State, StateTable};
 use av_types::Fault;
-use std::alloc::Global;
+use std::alloc::{AllocError, Global};
 
 /// A line without one carriage return at its end.
 fn without_return(line: &[u8]) -> &[u8]
@@ -109,9 +109,8 @@ fn read_line<C: Cells>(
 }
 
 /// One edit more, if there is one.
-fn push_some(edits: &mut Vec<Edit>, edit: Option<Edit>) -> Result<(), Fault>
-    ensures ok { OnOk result (edits.new.items ≡ edits.old.items ++ option_list edit) }
-    ensures memory { IfErr result (λ e. e ≡ OutOfMemory) }
+fn push_some(edits: &mut Vec<Edit>, edit: Option<Edit>) -> Result<(), AllocError>
+    ensures { OnOk result (edits.new.items ≡ edits.old.items ++ option_list edit) }
 {
     if let Some(edit) = edit {
         edits.push(edit)?;

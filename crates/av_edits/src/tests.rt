@@ -1,11 +1,10 @@
 //! Lines of edits by hand.
 use crate::words::line_edit;
-use av_types::Fault;
-use std::alloc::Global;
+use std::alloc::{AllocError, Global};
 use std::test::Fail;
 
 /// The tick and the position that a line states, if it is of the form.
-fn place(alloc: Global, line: &str) -> Result<Option<(u64, i32, i32, i32)>, Fault> {
+fn place(alloc: Global, line: &str) -> Result<Option<(u64, i32, i32, i32)>, AllocError> {
     Ok(match line_edit(alloc, line.as_bytes())? {
         None => None,
         Some(edit) => Some((edit.tick, edit.pos.x, edit.pos.y, edit.pos.z)),

@@ -26,6 +26,6 @@ loop-index-preserved g c =
     record {
       faults = faults_next L c.args.ticks t u (c.loop-index.index + 1) (c.loop-index.index + 1 + 1) _ _ _ _ next (ap (fault_of L c.args.ticks t (c.loop-index.index + 1)) (sym c.without_return.ensures) ∙ c.in_ok-edit.ensures.none) (c.in_ok-edit.ensures.after ∙ ap (table_of t) c.without_return.ensures) (omega arith) c.loop-index.invariant.faults;
       tables = tables_next t u _ _ _ _ next (c.in_ok-edit.ensures.after ∙ ap (table_of t) c.without_return.ensures) c.loop-index.invariant.tables;
-      read = read_next t u c.loop-index.edits.items c.push_some.new.edits.items c.in_ok-edit.edit _ _ _ _ next c.read_line.ensures.grows c.in_ok-push_some.ensures.ok (c.in_ok-edit.ensures.ok ∙ ap (λ x. map Some (edits_in x)) c.without_return.ensures) c.loop-index.invariant.read;
+      read = read_next t u c.loop-index.edits.items c.push_some.new.edits.items c.in_ok-edit.edit _ _ _ _ next c.read_line.ensures.grows c.in_ok-push_some.ensures (c.in_ok-edit.ensures.ok ∙ ap (λ x. map Some (edits_in x)) c.without_return.ensures) c.loop-index.invariant.read;
       grows = grows_on (states c.args.table.now) t u c.loop-index.invariant.grows c.read_line.ensures.grows;
     }
