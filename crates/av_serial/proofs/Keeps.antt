@@ -1,5 +1,5 @@
 -- A world stays ready.
-use Rattle.std.proofs.Common.{◌≡◌, ℕ, zero, suc, ◌<◌, ◌+◌, IsTrue, Bool, true, false, cond, nat_eq, List, [], ◌∷◌, length, get_or, drop, refl, sym, ap, subst, ◌∙◌, arith}
+use Rattle.std.proofs.Common.{◌≡◌, ℕ, zero, suc, ◌<◌, ◌+◌, IsTrue, Bool, true, false, cond, nat_eq, List, [], ◌∷◌, length, get_or, drop, Result, Ok, Err, OnOk, is_err, true≢false, refl, sym, ap, subst, ◌∙◌, arith}
 use Rattle.std.specs.List.{list_all}
 use Rattle.std.proofs.lemmas.Bool.{and_parts}
 use Rattle.av_types.specs.declared.place.Pos.{Pos}
@@ -36,6 +36,11 @@ sound_on u v a s = ap (λ (x : cells.Site). x.broken) a.site_is ∙ s
 
 pub can_apply_on : (n : ℕ) (u v : World) (e : Edit) → IsSamePlace u v → CanApply n u e → CanApply n v e
 can_apply_on n u v e a c = record { loaded = subst (λ (f : Pos → Bool). IsTrue (f e.pos)) (sym a.loaded_is) c.loaded; number = c.number }
+
+-- what an answer that is no refusal says
+pub when_ok : {A E : Type 0} (r : Result A E) (P : Type 0) → is_err r ≡ false → OnOk r P → P
+when_ok (Ok x) P e h = h
+when_ok (Err x) P e h = absurd (true≢false e)
 
 -- ---- one more turn, one more edit
 

@@ -74,10 +74,6 @@ pub if_ok : {A E : Type 0} {P Q : A → Type 0} (r : Result A E) → ((x : A) �
 if_ok (Ok x) f h = f x h
 if_ok (Err e) f h = h
 
-pub on_err : {A E P Q : Type 0} (r : Result A E) → (P → Q) → OnErr r P → OnErr r Q
-on_err (Ok x) f h = h
-on_err (Err e) f h = f h
-
 pub on_err_always : {A E P : Type 0} (r : Result A E) → P → OnErr r P
 on_err_always (Ok x) h = tt
 on_err_always (Err e) h = h

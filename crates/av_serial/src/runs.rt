@@ -17,7 +17,7 @@ use av_edits::Edit;
 use av_rules::Kinds;
 use av_types::Fault;
 use av_world::World;
-use std::alloc::Global;
+use std::alloc::{AllocError, Global};
 
 /// A tick before which nothing is due.
 fn soonest(world: &World) -> u64
@@ -42,7 +42,7 @@ fn tick_from<F: Fn(&mut World, u32, &[Edit]) -> Result<u64, Fault>>(
     edits: &[Edit],
     next: &mut u64,
     tick: &F,
-) -> Result<u64, Fault>
+) -> Result<u64, AllocError>
     requires accepts { AcceptsTicks kinds.now (F.pre tick.now) }
     requires takes { TakesTicks kinds.now (F.post tick.now) }
     requires ready { IsReady (kind_count kinds.now) world.old }
@@ -55,13 +55,14 @@ fn tick_from<F: Fn(&mut World, u32, &[Edit]) -> Result<u64, Fault>>(
     ensures ready { OnOk result (IsReady (kind_count kinds.now) world.new) }
     ensures place { OnOk result (IsSamePlace world.old world.new) }
     ensures broken { OnErr result (is_broken world.new ≡ true) }
-    ensures fault { IfErr result (λ e. e ≡ OutOfMemory) }
 {
     let idle = is_idle(edits, now, *next);
     if idle {
         return Ok(0);
     }
-    let count = tick(world, now, edits)?;
+    let Ok(count) = tick(world, now, edits) else {
+        return Err(AllocError);
+    };
     *next = soonest(world);
     Ok(count)
 }
@@ -83,7 +84,7 @@ fn next_tick<F: Fn(&mut World, u32, &[Edit]) -> Result<u64, Fault>>(
     done: u32,
     schedule: &mut Schedule,
     tick: &F,
-) -> Result<u64, Fault>
+) -> Result<u64, AllocError>
     requires accepts { AcceptsTicks kinds.now (F.pre tick.now) }
     requires takes { TakesTicks kinds.now (F.post tick.now) }
     requires few { done + 1 < 2 ^ 32 }
@@ -98,7 +99,6 @@ fn next_tick<F: Fn(&mut World, u32, &[Edit]) -> Result<u64, Fault>>(
     ensures ready { OnOk result (IsReady (kind_count kinds.now) world.new) }
     ensures place { OnOk result (IsSamePlace world.old world.new) }
     ensures broken { OnErr result (is_broken world.new ≡ true) }
-    ensures fault { IfErr result (λ e. e ≡ OutOfMemory) }
 {
     let now = done + 1;
     let from = schedule.from;
@@ -121,7 +121,7 @@ fn run_sorted<F: Fn(&mut World, u32, &[Edit]) -> Result<u64, Fault>>(
     edits: &[Edit],
     n: u32,
     tick: &F,
-) -> Result<u128, Fault>
+) -> Result<u128, AllocError>
     requires accepts { AcceptsTicks kinds.now (F.pre tick.now) }
     requires takes { TakesTicks kinds.now (F.post tick.now) }
     requires ready { IsReady (kind_count kinds.now) world.old }
@@ -133,7 +133,6 @@ fn run_sorted<F: Fn(&mut World, u32, &[Edit]) -> Result<u64, Fault>>(
     ensures ready { OnOk result (IsReady (kind_count kinds.now) world.new) }
     ensures place { OnOk result (IsSamePlace world.old world.new) }
     ensures broken { OnErr result (is_broken world.new ≡ true) }
-    ensures fault { IfErr result (λ e. e ≡ OutOfMemory) }
 {
     let next = soonest(world);
     let mut schedule = Schedule { from: 0, next };
@@ -176,7 +175,7 @@ pub fn run_ticks_with<F: Fn(&mut World, u32, &[Edit]) -> Result<u64, Fault>>(
         return Err(Fault::Broken);
     }
     let sorted = sorted_by_tick(alloc, edits)?;
-    run_sorted(world, kinds, sorted.as_slice(), n, tick)
+    Ok(run_sorted(world, kinds, sorted.as_slice(), n, tick)?)
 }
 
 /// Ticks 1 to `n` on one thread, with the edits of each. Returns how many entries were taken in all of them.

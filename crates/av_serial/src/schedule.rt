@@ -1,19 +1,16 @@
 //! The edits of a run by their ticks.
-ghost use Rattle.std.specs.Prelude.{◌≡◌, ◌≤◌, ◌<◌, IfOk, IfErr, length};
+ghost use Rattle.std.specs.Prelude.{◌≡◌, ◌≤◌, ◌<◌, IfOk, length};
 ghost use Rattle.std.specs.List.Sorted.{IsNonDecreasingBy, IsPermutation};
-ghost use Rattle.av_types.specs.declared.fault.Fault.TheVariants.{OutOfMemory};
 ghost use Rattle.av_serial.specs.Schedule.{tick_of, AreUpTo, IsAfter, SameByTick};
 
 use av_edits::Edit;
-use av_types::Fault;
-use std::alloc::Global;
+use std::alloc::{AllocError, Global};
 
 /// The edits by their ticks, and those of one tick in the order that they had.
-pub(crate) fn sorted_by_tick(alloc: Global, edits: &[Edit]) -> Result<Vec<Edit>, Fault>
+pub(crate) fn sorted_by_tick(alloc: Global, edits: &[Edit]) -> Result<Vec<Edit>, AllocError>
     ensures same { IfOk result (λ sorted. SameByTick sorted.items edits.now) }
     ensures sorted { IfOk result (λ sorted. IsNonDecreasingBy tick_of sorted.items) }
     ensures permutation { IfOk result (λ sorted. IsPermutation edits.now sorted.items) }
-    ensures fault { IfErr result (λ e. e ≡ OutOfMemory) }
 {
     let mut sorted = Vec::from_slice(alloc, edits)?;
     sorted.sort_by_key(|edit| edit.tick)?;

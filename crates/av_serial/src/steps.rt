@@ -14,18 +14,25 @@ use av_rules::Kinds;
 use av_types::{Fault, Pos};
 use av_water::turn;
 use av_world::World;
+use std::alloc::AllocError;
 
 /// Sets a block, after its room was made.
-fn set_block(world: &mut World, kinds: &Kinds, now: u32, edit: &Edit) -> Result<(), Fault>
+pub(crate) fn set_block(
+    world: &mut World,
+    kinds: &Kinds,
+    now: u32,
+    edit: &Edit,
+) -> Result<(), AllocError>
     requires ready { IsReady (kind_count kinds.now) world.old }
     requires edit { CanApply (kind_count kinds.now) world.old edit.now }
     ensures done { OnOk result (land_of world.new ≡ set_in (kinds_of kinds.now) now edit.now.pos edit.now.number (land_of world.old)) }
     ensures undone { OnErr result (land_of world.new ≡ land_of world.old) }
     ensures ready { IsReady (kind_count kinds.now) world.new }
     ensures place { IsSamePlace world.old world.new }
-    ensures fault { IfErr result (λ e. e ≡ OutOfMemory) }
 {
-    world.prepare_set(edit.pos, edit.number)?;
+    if world.prepare_set(edit.pos, edit.number).is_err() {
+        return Err(AllocError);
+    }
     set_awake(world, kinds, now, edit.pos, edit.number);
     Ok(())
 }
@@ -47,19 +54,26 @@ pub fn apply(world: &mut World, kinds: &Kinds, now: u32, edit: &Edit) -> Result<
     if world.broken() {
         return Err(Fault::Broken);
     }
-    set_block(world, kinds, now, edit)
+    set_block(world, kinds, now, edit)?;
+    Ok(())
 }
 
 /// Turns a block, after its room was made.
-pub(crate) fn turn_block(world: &mut World, kinds: &Kinds, now: u32, pos: Pos) -> Result<(), Fault>
+pub(crate) fn turn_block(
+    world: &mut World,
+    kinds: &Kinds,
+    now: u32,
+    pos: Pos,
+) -> Result<(), AllocError>
     requires ready { IsReady (kind_count kinds.now) world.old }
     requires loaded { IsTrue ((blocks world.old).loaded pos) }
     ensures done { OnOk result (land_of world.new ≡ turned (kinds_of kinds.now) now pos (land_of world.old)) }
     ensures ready { IsReady (kind_count kinds.now) world.new }
     ensures place { IsSamePlace world.old world.new }
-    ensures fault { IfErr result (λ e. e ≡ OutOfMemory) }
 {
-    world.prepare(pos)?;
+    if world.prepare(pos).is_err() {
+        return Err(AllocError);
+    }
     turn(world, kinds, now, pos);
     Ok(())
 }

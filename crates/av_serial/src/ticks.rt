@@ -10,20 +10,20 @@ ghost use Rattle.av_world.specs.Lands.{land_of};
 ghost use Rattle.av_edits.specs.Numbered.{number_sets};
 ghost use Rattle.av_serial.specs.Ready.{IsReady, IsSamePlace, CanApply};
 
-use crate::steps::{apply, turn_block};
+use crate::steps::{set_block, turn_block};
 use av_edits::Edit;
 use av_rules::Kinds;
 use av_types::{Entry, Fault};
 use av_world::World;
+use std::alloc::AllocError;
 
 /// Turns the blocks of some entries, one after the other.
-fn turn_all(world: &mut World, kinds: &Kinds, now: u32, entries: &[Entry]) -> Result<(), Fault>
+fn turn_all(world: &mut World, kinds: &Kinds, now: u32, entries: &[Entry]) -> Result<(), AllocError>
     requires ready { IsReady (kind_count kinds.now) world.old }
     requires loaded { list_all (λ e. (blocks world.old).loaded e.pos) entries.now ≡ true }
     ensures done { OnOk result (land_of world.new ≡ turned_all (kinds_of kinds.now) now entries.now (land_of world.old)) }
     ensures ready { IsReady (kind_count kinds.now) world.new }
     ensures place { IsSamePlace world.old world.new }
-    ensures fault { IfErr result (λ e. e ≡ OutOfMemory) }
 {
     for entry in entries {
         turn_block(world, kinds, now, entry.pos)?;
@@ -32,17 +32,15 @@ fn turn_all(world: &mut World, kinds: &Kinds, now: u32, entries: &[Entry]) -> Re
 }
 
 /// Applies an edit, if it is of this tick.
-fn apply_now(world: &mut World, kinds: &Kinds, now: u32, edit: &Edit) -> Result<(), Fault>
+fn apply_now(world: &mut World, kinds: &Kinds, now: u32, edit: &Edit) -> Result<(), AllocError>
     requires ready { IsReady (kind_count kinds.now) world.old }
-    requires sound { is_broken world.old ≡ false }
     requires edit { CanApply (kind_count kinds.now) world.old edit.now }
     ensures done { OnOk result (land_of world.new ≡ (if nat_eq edit.now.tick now then set_in (kinds_of kinds.now) now edit.now.pos edit.now.number (land_of world.old) else land_of world.old)) }
     ensures ready { IsReady (kind_count kinds.now) world.new }
     ensures place { IsSamePlace world.old world.new }
-    ensures fault { IfErr result (λ e. e ≡ OutOfMemory) }
 {
     if edit.tick == now {
-        apply(world, kinds, now, edit)?;
+        set_block(world, kinds, now, edit)?;
     }
     Ok(())
 }
@@ -67,22 +65,23 @@ pub fn apply_all(world: &mut World, kinds: &Kinds, now: u32, edits: &[Edit]) -> 
 }
 
 /// Takes what is due, and turns it.
-fn turn_due(world: &mut World, kinds: &Kinds, now: u32) -> Result<u64, Fault>
+fn turn_due(world: &mut World, kinds: &Kinds, now: u32) -> Result<u64, AllocError>
     requires ready { IsReady (kind_count kinds.now) world.old }
     requires sound { is_broken world.old ≡ false }
     ensures done { OnOk result (land_of world.new ≡ turned_all (kinds_of kinds.now) now (due_entries now (land_of world.old)) (without_due now (land_of world.old))) }
     ensures count { IfOk result (λ n. n ≡ length (due_entries now (land_of world.old))) }
     ensures ready { IsReady (kind_count kinds.now) world.new }
     ensures place { IsSamePlace world.old world.new }
-    ensures fault { IfErr result (λ e. e ≡ OutOfMemory) }
 {
-    let due = world.take_due(now)?;
+    let Ok(due) = world.take_due(now) else {
+        return Err(AllocError);
+    };
     turn_all(world, kinds, now, due.as_slice())?;
     Ok(due.len() as u64)
 }
 
 /// The edits of a tick, and then the entries that are due.
-fn work(world: &mut World, kinds: &Kinds, now: u32, edits: &[Edit]) -> Result<u64, Fault>
+fn work(world: &mut World, kinds: &Kinds, now: u32, edits: &[Edit]) -> Result<u64, AllocError>
     requires ready { IsReady (kind_count kinds.now) world.old }
     requires sound { is_broken world.old ≡ false }
     requires edits { All (CanApply (kind_count kinds.now) world.old) edits.now }
@@ -90,9 +89,10 @@ fn work(world: &mut World, kinds: &Kinds, now: u32, edits: &[Edit]) -> Result<u6
     ensures count { IfOk result (λ n. n ≡ tick_count (kinds_of kinds.now) now (number_sets edits.now) (land_of world.old)) }
     ensures ready { IsReady (kind_count kinds.now) world.new }
     ensures place { IsSamePlace world.old world.new }
-    ensures fault { IfErr result (λ e. e ≡ OutOfMemory) }
 {
-    apply_all(world, kinds, now, edits)?;
+    if apply_all(world, kinds, now, edits).is_err() {
+        return Err(AllocError);
+    }
     turn_due(world, kinds, now)
 }
 
@@ -118,9 +118,9 @@ pub fn tick(world: &mut World, kinds: &Kinds, now: u32, edits: &[Edit]) -> Resul
     }
     match work(world, kinds, now, edits) {
         Ok(count) => Ok(count),
-        Err(fault) => {
+        Err(_) => {
             world.give_up();
-            Err(fault)
+            Err(Fault::OutOfMemory)
         }
     }
 }

@@ -10,7 +10,7 @@ use Rattle.av_edits.specs.declared.edit.Edit.{Edit}
 use Rattle.av_edits.specs.Numbered.{number_sets}
 use Rattle.av_serial.specs.Ready.{CanApply}
 use Rattle.av_serial.specs.Schedule.{tick_of}
-use Rattle.av_serial.proofs.RunSteps.{on_ok, if_ok, on_err, on_err_always}
+use Rattle.av_serial.proofs.RunSteps.{on_err_always}
 use Rattle.av_serial.proofs.runs.run_ticks_with.Goals as goal
 
 pub run_sorted-requires-clause-edits : goal.run_sorted-requires-clause-edits
@@ -26,16 +26,16 @@ pub returns-clause-done : goal.returns-clause-done
 returns-clause-done g c =
     let k = kinds_of c.args.kinds.now in let w = land_of c.args.world.now in
     let same = run_by_ticks k (number_sets c.in_ok-sorted.sorted.items) (number_sets c.args.edits.now) c.args.n w c.in_ok-sorted.ensures.same in
-    on_ok c.run_sorted.result (λ h. h ∙ (ap (λ (es : List Edit). run k (number_sets es) c.args.n w) c.as_slice.ensures.value ∙ same.world)) c.run_sorted.ensures.done
+    c.in_ok-run_sorted.ensures.done ∙ (ap (λ (es : List Edit). run k (number_sets es) c.args.n w) c.as_slice.ensures.value ∙ same.world)
 
 pub returns-clause-count : goal.returns-clause-count
 returns-clause-count g c =
     let k = kinds_of c.args.kinds.now in let w = land_of c.args.world.now in
     let same = run_by_ticks k (number_sets c.in_ok-sorted.sorted.items) (number_sets c.args.edits.now) c.args.n w c.in_ok-sorted.ensures.same in
-    if_ok c.run_sorted.result (λ x h. h ∙ (ap (λ (es : List Edit). run_count k (number_sets es) c.args.n w) c.as_slice.ensures.value ∙ same.count)) c.run_sorted.ensures.count
+    c.in_ok-run_sorted.ensures.count ∙ (ap (λ (es : List Edit). run_count k (number_sets es) c.args.n w) c.as_slice.ensures.value ∙ same.count)
 
-pub returns-clause-stands : goal.returns-clause-stands
-returns-clause-stands g c = on_err c.run_sorted.result (λ h. inr h) c.run_sorted.ensures.broken
+pub returns-in_err-run_sorted-clause-stands : goal.returns-in_err-run_sorted-clause-stands
+returns-in_err-run_sorted-clause-stands g c = on_err_always _ (inr c.in_err-run_sorted.ensures.broken)
 
 pub returns-in_err-sorted-clause-stands : goal.returns-in_err-sorted-clause-stands
 returns-in_err-sorted-clause-stands g c = on_err_always _ (inl refl)

@@ -10,16 +10,16 @@ use Rattle.av_serial.proofs.Keeps.{ready_on, ready_same}
 use Rattle.av_serial.proofs.DueLoaded.{due_loaded}
 use Rattle.av_serial.proofs.ticks.turn_due.Goals as goal
 
-pub returns-in_err-due-clause-ready : goal.returns-in_err-due-clause-ready
-returns-in_err-due-clause-ready c = ready_same (kind_count c.args.kinds.now) c.args.world.now c.take_due.new.self c.take_due.ensures.site c.in_err-due.ensures.unchanged c.requires.ready
+pub returns-in_default-clause-ready : goal.returns-in_default-clause-ready
+returns-in_default-clause-ready c = ready_same (kind_count c.args.kinds.now) c.args.world.now c.take_due.new.self c.take_due.ensures.site c.in_default.ensures.unchanged c.requires.ready
 
 pub turn_all-requires-clause-ready : goal.turn_all-requires-clause-ready
 turn_all-requires-clause-ready c =
     let old = c.args.world.now in let new = c.take_due.new.self in
     ready_on (kind_count c.args.kinds.now) old new c.take_due.ensures.site c.take_due.ensures.loaded
-    (HasKinds-same (kind_count c.args.kinds.now) (blocks old) (blocks new) (record { loaded = c.take_due.ensures.loaded; number = ap (λ (l : Land ℕ). l.at) c.in_ok-due.ensures.left }) c.requires.ready.numbers) c.requires.ready
+    (HasKinds-same (kind_count c.args.kinds.now) (blocks old) (blocks new) (record { loaded = c.take_due.ensures.loaded; number = ap (λ (l : Land ℕ). l.at) c.in-Ok.ensures.left }) c.requires.ready.numbers) c.requires.ready
 
 pub turn_all-requires-clause-loaded : goal.turn_all-requires-clause-loaded
 turn_all-requires-clause-loaded c =
     subst (λ (f : Pos → _). list_all (λ (e : Entry). f e.pos) c.as_slice.result.now ≡ true) (sym c.take_due.ensures.loaded)
-    (subst (λ (es : List Entry). list_all (λ (e : Entry). (blocks c.args.world.now).loaded e.pos) es ≡ true) (sym (c.as_slice.ensures.value ∙ c.in_ok-due.ensures.due)) (due_loaded c.args.now c.args.world.now c.requires.ready.whole))
+    (subst (λ (es : List Entry). list_all (λ (e : Entry). (blocks c.args.world.now).loaded e.pos) es ≡ true) (sym (c.as_slice.ensures.value ∙ c.in-Ok.ensures.due)) (due_loaded c.args.now c.args.world.now c.requires.ready.whole))
