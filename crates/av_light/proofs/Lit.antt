@@ -1,6 +1,6 @@
 -- The light of each chunk of a world.
-use Rattle.std.proofs.Common.{◌≡◌, ℕ, zero, suc, arith, List, [], ◌∷◌, slice_get, Some, Result, Ok, Err, refl, subst}
-use Rattle.std.specs.Prelude.{MatchOption, IsSomeAnd, IfOk}
+use Rattle.std.proofs.Common.{◌≡◌, ℕ, zero, suc, arith, List, [], ◌∷◌, slice_get, Some, refl, subst}
+use Rattle.std.specs.Prelude.{MatchOption, IsSomeAnd}
 use Rattle.std.specs.List.{All, AllZip}
 use Rattle.std.proofs.lemmas.Slice.Zip.{AllZip-right}
 use Rattle.av_types.specs.Places.{chunk_of, section_of}
@@ -17,10 +17,6 @@ use Rattle.av_world.specs.declared.worlds.World.{World}
 use Rattle.av_world.proofs.ChunkReads.{slot_there}
 use Rattle.av_section_light.specs.Light.{IsChunkLight}
 use Rattle.av_light.specs.Lights.{AreLit}
-
-pub if_ok : {T E : Type 0} {P Q : T → Type 0} → (r : Result T E) → ((t : T) → P t → Q t) → IfOk r P → IfOk r Q
-if_ok (Ok t) f h = f t h
-if_ok (Err e) f h = tt
 
 pub weaken : {A B : Type 0} (R S : A → B → Type 0) → ((x : A) (y : B) → R x y → S x y) → (xs : List A) (ys : List B) → AllZip R xs ys → AllZip S xs ys
 weaken R S turn [] [] h = tt

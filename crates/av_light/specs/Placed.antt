@@ -1,9 +1,8 @@
 -- Lights of chunks, with where the chunks stand. Working definitions: no public clause cites them.
-use Rattle.std.specs.Prelude.{ℕ, ◌≡◌, ◌<◌, List, length, Vec, None, Option, Result, MatchResult, slice_index_or, IfSome}
+use Rattle.std.specs.Prelude.{ℕ, ◌<◌, List, length, Vec, None, Option, Result, slice_index_or, IfOk, IfSome}
 use Rattle.std.specs.List.{All}
 use Rattle.std.specs.declared.alloc.Global.{Global}
-use Rattle.av_types.specs.declared.fault.Fault.{Fault}
-use Rattle.av_types.specs.declared.fault.Fault.TheVariants.{OutOfMemory}
+use Rattle.std.specs.declared.alloc.AllocError.{AllocError}
 use Rattle.av_light.specs.declared.dealt.PlacedLight.{PlacedLight}
 use Rattle.av_types.specs.declared.place.ChunkPos.{ChunkPos}
 use Rattle.av_chunk.specs.declared.light.ChunkLight.{ChunkLight}
@@ -21,9 +20,9 @@ pub record IsPlaced (k : Kinds) (w : World) (i : ℕ) (l : ChunkLight) : Type 0 
 abbrev pub IsLitAt : Kinds → World → PlacedLight → Type 0
 IsLitAt k w p = IsPlaced k w p.index p.light
 
--- what a thread answers: such lights, or a fault
-abbrev pub IsTaken : Kinds → World → Result (Vec PlacedLight Global) Fault → Type 0
-IsTaken k w r = MatchResult r (λ v. All (IsLitAt k w) v.items) (λ e. e ≡ OutOfMemory)
+-- what a thread answers: such lights, or that memory was refused
+abbrev pub IsTaken : Kinds → World → Result (Vec PlacedLight Global) AllocError → Type 0
+IsTaken k w r = IfOk r (λ v. All (IsLitAt k w) v.items)
 
 -- each slot is empty, or has the light of the chunk that stands there
 abbrev pub ArePlaced : Kinds → World → List (Option ChunkLight) → Type 0

@@ -16,7 +16,7 @@ use av_types::Fault;
 use av_world::World;
 use rayon::current_num_threads;
 use rayon::prelude::*;
-use std::alloc::Global;
+use std::alloc::{AllocError, Global};
 use std::sync::atomic::AtomicU64;
 use std::thread::Threads;
 
@@ -26,9 +26,8 @@ fn lights_by(
     rt: &(impl Threads + Sync),
     alloc: Global,
     lamps: &Lamps<'_>,
-) -> Result<Vec<ChunkLight>, Fault>
-    ensures each { IfOk result (λ lights. AllZip (IsChunkLight lamps.now.kinds.now (blocks lamps.now.world.now) (height_of lamps.now.world.now)) (positions_of lamps.now.world.now) lights.items) }
-    ensures fault { IfErr result (λ e. e ≡ OutOfMemory) }
+) -> Result<Vec<ChunkLight>, AllocError>
+    ensures { IfOk result (λ lights. AllZip (IsChunkLight lamps.now.kinds.now (blocks lamps.now.world.now) (height_of lamps.now.world.now)) (positions_of lamps.now.world.now) lights.items) }
 {
     let next = AtomicU64::new(0);
     let count = current_num_threads(rt).min(lamps.world.positions().len());
@@ -36,11 +35,11 @@ fn lights_by(
         .into_par_iter()
         .with_min_len(1)
         .map(
-            |_thread: usize| -> Result<Vec<PlacedLight>, Fault>
+            |_thread: usize| -> Result<Vec<PlacedLight>, AllocError>
                 ensures { IsTaken lamps.entry.now.kinds.now lamps.entry.now.world.now result }
             { lights_taken(alloc, lamps, &next) },
         )
-        .collect::<Vec<Result<Vec<PlacedLight>, Fault>>>(rt, alloc)?;
+        .collect::<Vec<Result<Vec<PlacedLight>, AllocError>>>(rt, alloc)?;
     gathered(alloc, lamps, taken)
 }
 
@@ -50,9 +49,8 @@ fn lights(
     alloc: Global,
     world: &World,
     kinds: &Kinds,
-) -> Result<Vec<ChunkLight>, Fault>
-    ensures each { IfOk result (λ lights. AllZip (IsChunkLight kinds.now (blocks world.now) (height_of world.now)) (positions_of world.now) lights.items) }
-    ensures fault { IfErr result (λ e. e ≡ OutOfMemory) }
+) -> Result<Vec<ChunkLight>, AllocError>
+    ensures { IfOk result (λ lights. AllZip (IsChunkLight kinds.now (blocks world.now) (height_of world.now)) (positions_of world.now) lights.items) }
 {
     let lamps = Lamps::new(rt, alloc, world, kinds)?;
     lights_by(rt, alloc, &lamps)
@@ -78,5 +76,5 @@ pub fn light_all(
     if world.broken() {
         return Err(Fault::Broken);
     }
-    lights(rt, alloc, world, kinds)
+    Ok(lights(rt, alloc, world, kinds)?)
 }

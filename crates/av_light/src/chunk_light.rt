@@ -6,7 +6,7 @@ ghost use Rattle.av_types.specs.declared.fault.Fault.TheVariants.{OutOfMemory, B
 ghost use Rattle.av_flood.specs.Light.{IsLight};
 ghost use Rattle.av_flood.specs.Board.{light_of};
 ghost use Rattle.av_world.specs.Views.{height_of, blocks, is_broken};
-ghost use Rattle.av_section_light.specs.Light.{terrain_of, IsChunkLight, IsAnswer};
+ghost use Rattle.av_section_light.specs.Light.{terrain_of, IsChunkLight};
 
 use crate::around::Around;
 use crate::lamps::Lamps;
@@ -17,7 +17,7 @@ use av_rules::Kinds;
 use av_section_light::{flood_in, light_in};
 use av_types::{ChunkPos, Fault};
 use av_world::World;
-use std::alloc::Global;
+use std::alloc::{AllocError, Global};
 
 /// A board on which each block of a chunk has its light: that of its brightest path in the whole world. The nine
 /// chunks around it are looked through for what gives light; for the light of many chunks, `light_all` does that once.
@@ -40,18 +40,20 @@ pub fn flood(alloc: Global, world: &World, kinds: &Kinds, chunk: ChunkPos) -> Re
     flood_in(alloc, &around, kinds, chunk, None)
 }
 
-/// The light of a chunk of a world, broken or not. A board is used again, and left for the next chunk. Refuses with
-/// `OutOfMemory` alone.
+/// The light of a chunk of a world, broken or not. A board is used again, and left for the next chunk.
 pub(crate) fn light_at(
     alloc: Global,
     lamps: &Lamps<'_>,
     chunk: ChunkPos,
     board: &mut Option<Flood>,
-) -> Result<ChunkLight, Fault>
-    ensures { IsAnswer lamps.now.kinds.now (blocks lamps.now.world.now) (height_of lamps.now.world.now) chunk result }
+) -> Result<ChunkLight, AllocError>
+    ensures { IfOk result (IsChunkLight lamps.now.kinds.now (blocks lamps.now.world.now) (height_of lamps.now.world.now) chunk) }
 {
     let around = Around::new(lamps.world, lamps.lists.as_slice(), chunk);
-    light_in(alloc, &around, lamps.kinds, chunk, board)
+    let Ok(light) = light_in(alloc, &around, lamps.kinds, chunk, board) else {
+        return Err(AllocError);
+    };
+    Ok(light)
 }
 
 /// The light of a chunk's sections: the half byte of each block is its light. It costs what `flood` does.

@@ -1,16 +1,15 @@
 //! Chunks that several threads light, each the next that none has taken.
-ghost use Rattle.std.specs.Prelude.{◌≡◌, length, replicate, None, IfOk, IfErr, IfSome};
+ghost use Rattle.std.specs.Prelude.{◌≡◌, length, replicate, None, IfOk, IfSome};
 ghost use Rattle.std.specs.List.{All, AllZip};
-ghost use Rattle.av_types.specs.declared.fault.Fault.TheVariants.{OutOfMemory};
 ghost use Rattle.av_world.specs.Views.{height_of, positions_of, blocks};
-ghost use Rattle.av_section_light.specs.Light.{IsChunkLight, IsAnswer};
+ghost use Rattle.av_section_light.specs.Light.{IsChunkLight};
 ghost use Rattle.av_light.specs.Placed.{IsLitAt, IsTaken, ArePlaced};
 
 use crate::chunk_light::light_at;
 use crate::lamps::Lamps;
 use av_chunk::ChunkLight;
-use av_types::{ChunkPos, Fault};
-use std::alloc::Global;
+use av_types::ChunkPos;
+use std::alloc::{AllocError, Global};
 use std::sync::atomic::AtomicU64;
 use std::sync::atomic::Ordering::SeqCst;
 
@@ -26,7 +25,7 @@ pub(crate) fn lights_taken(
     alloc: Global,
     lamps: &Lamps<'_>,
     next: &AtomicU64,
-) -> Result<Vec<PlacedLight>, Fault>
+) -> Result<Vec<PlacedLight>, AllocError>
     ensures { IsTaken lamps.now.kinds.now lamps.now.world.now result }
 {
     let positions = lamps.world.positions();
@@ -44,9 +43,8 @@ pub(crate) fn lights_taken(
 }
 
 /// So many slots without lights.
-fn empty_slots(alloc: Global, count: usize) -> Result<Vec<Option<ChunkLight>>, Fault>
-    ensures empty { IfOk result (λ slots. slots.items ≡ replicate count None) }
-    ensures fault { IfErr result (λ e. e ≡ OutOfMemory) }
+fn empty_slots(alloc: Global, count: usize) -> Result<Vec<Option<ChunkLight>>, AllocError>
+    ensures { IfOk result (λ slots. slots.items ≡ replicate count None) }
 {
     let mut slots = Vec::with_capacity(alloc, count)?;
     for _ in 0..count {
@@ -74,9 +72,9 @@ fn light_of(
     lamps: &Lamps<'_>,
     chunk: ChunkPos,
     slot: Option<ChunkLight>,
-) -> Result<ChunkLight, Fault>
+) -> Result<ChunkLight, AllocError>
     requires { IfSome slot (IsChunkLight lamps.now.kinds.now (blocks lamps.now.world.now) (height_of lamps.now.world.now) chunk) }
-    ensures { IsAnswer lamps.now.kinds.now (blocks lamps.now.world.now) (height_of lamps.now.world.now) chunk result }
+    ensures { IfOk result (IsChunkLight lamps.now.kinds.now (blocks lamps.now.world.now) (height_of lamps.now.world.now) chunk) }
 {
     match slot {
         Some(light) => Ok(light),
@@ -89,11 +87,10 @@ fn in_order(
     alloc: Global,
     lamps: &Lamps<'_>,
     mut slots: Vec<Option<ChunkLight>>,
-) -> Result<Vec<ChunkLight>, Fault>
+) -> Result<Vec<ChunkLight>, AllocError>
     requires long { length slots.items ≡ length (positions_of lamps.now.world.now) }
     requires placed { ArePlaced lamps.now.kinds.now lamps.now.world.now slots.items }
-    ensures each { IfOk result (λ lights. AllZip (IsChunkLight lamps.now.kinds.now (blocks lamps.now.world.now) (height_of lamps.now.world.now)) (positions_of lamps.now.world.now) lights.items) }
-    ensures fault { IfErr result (λ e. e ≡ OutOfMemory) }
+    ensures { IfOk result (λ lights. AllZip (IsChunkLight lamps.now.kinds.now (blocks lamps.now.world.now) (height_of lamps.now.world.now)) (positions_of lamps.now.world.now) lights.items) }
 {
     let positions = lamps.world.positions();
     let mut lights = Vec::with_capacity(alloc, positions.len())?;
@@ -109,11 +106,10 @@ fn in_order(
 pub(crate) fn gathered(
     alloc: Global,
     lamps: &Lamps<'_>,
-    mut taken: Vec<Result<Vec<PlacedLight>, Fault>>,
-) -> Result<Vec<ChunkLight>, Fault>
+    mut taken: Vec<Result<Vec<PlacedLight>, AllocError>>,
+) -> Result<Vec<ChunkLight>, AllocError>
     requires { All (IsTaken lamps.now.kinds.now lamps.now.world.now) taken.items }
-    ensures each { IfOk result (λ lights. AllZip (IsChunkLight lamps.now.kinds.now (blocks lamps.now.world.now) (height_of lamps.now.world.now)) (positions_of lamps.now.world.now) lights.items) }
-    ensures fault { IfErr result (λ e. e ≡ OutOfMemory) }
+    ensures { IfOk result (λ lights. AllZip (IsChunkLight lamps.now.kinds.now (blocks lamps.now.world.now) (height_of lamps.now.world.now)) (positions_of lamps.now.world.now) lights.items) }
 {
     let mut slots = empty_slots(alloc, lamps.world.positions().len())?;
     while let Some(lights) = taken.pop() {
