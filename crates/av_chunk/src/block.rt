@@ -1,6 +1,5 @@
 //! One block of a region file.
 ghost use Rattle.std.specs.Prelude.{◌≡◌, ◌≤◌, ◌<◌, IfOk, IfErr, IsSome, option_map, length, slice_get, Some, true};
-ghost use Rattle.av_types.specs.declared.fault.Fault.TheVariants.{OutOfMemory};
 ghost use Rattle.av_types.specs.Places.{is_block_of};
 ghost use Rattle.av_state.specs.States.{state_of};
 ghost use Rattle.av_state.specs.Table.{states};
@@ -14,7 +13,7 @@ use crate::sections::offset_of;
 use av_region::Region;
 use av_state::{State, StateTable};
 use av_types::{Fault, Height, Pos, RegionPos};
-use std::alloc::Global;
+use std::alloc::{AllocError, Global};
 
 /// Whether a position is one of a region.
 fn is_of_region(region: RegionPos, pos: Pos) -> bool
@@ -43,12 +42,11 @@ fn number_in(chunk: &Chunk, pos: Pos, height: Height) -> Option<u16>
 }
 
 /// A copy of the state of a number.
-fn state_of_number(table: &StateTable, number: u16) -> Result<State, Fault>
+fn state_of_number(table: &StateTable, number: u16) -> Result<State, AllocError>
     requires { number < length (states table.now) }
-    ensures ok { IfOk result (λ s. slice_get (states table.now) number ≡ Some (state_of s)) }
-    ensures err { IfErr result (λ e. e ≡ OutOfMemory) }
+    ensures { IfOk result (λ s. slice_get (states table.now) number ≡ Some (state_of s)) }
 {
-    Ok(table.state(number).clone()?)
+    table.state(number).clone()
 }
 
 /// The state of a block, None where that is out of the height.
@@ -57,11 +55,10 @@ fn state_in(
     table: &StateTable,
     pos: Pos,
     height: Height,
-) -> Result<Option<State>, Fault>
+) -> Result<Option<State>, AllocError>
     requires whole { IsWhole height chunk.now }
     requires numbered { IsNumbered (states table.now) height chunk.now pos }
-    ensures ok { IfOk result (λ found. option_map state_of found ≡ found_in (states table.now) height chunk.now pos) }
-    ensures err { IfErr result (λ e. e ≡ OutOfMemory) }
+    ensures { IfOk result (λ found. option_map state_of found ≡ found_in (states table.now) height chunk.now pos) }
 {
     if !is_in_height(height, pos.y) {
         return Ok(None);
@@ -86,7 +83,7 @@ fn block_in_payload(
     let mut table = StateTable::new(alloc)?;
     match read_payload(alloc, payload, pos.chunk(), height, &mut table)? {
         Reading::Kept => Ok(None),
-        Reading::Full { chunk, rest: _ } => state_in(&chunk, &table, pos, height),
+        Reading::Full { chunk, rest: _ } => Ok(state_in(&chunk, &table, pos, height)?),
     }
 }
 

@@ -1,6 +1,5 @@
 //! Tags, put together.
-ghost use Rattle.std.specs.Prelude.{◌≡◌, [], ◌∷◌, ◌++◌, IfOk, IfErr};
-ghost use Rattle.av_types.specs.declared.fault.Fault.TheVariants.{OutOfMemory};
+ghost use Rattle.std.specs.Prelude.{◌≡◌, [], ◌∷◌, ◌++◌, IfOk};
 ghost use Rattle.av_nbt.specs.Nbt.{list, items_of};
 ghost use Rattle.av_nbt.specs.declared.tag.Kind.TheVariants.{Compound};
 ghost use Rattle.av_nbt.specs.Place.{place};
@@ -9,13 +8,11 @@ ghost use Rattle.av_nbt.specs.View.{view, views, named_view, named_views};
 ghost use Rattle.av_document.specs.Layout.{compound_with};
 
 use av_nbt::{Kind, Named, Tag, copy_tags, place};
-use av_types::Fault;
-use std::alloc::Global;
+use std::alloc::{AllocError, Global};
 
 /// A tag under a name.
-pub(crate) fn named(alloc: Global, name: &[u8], tag: Tag) -> Result<Named, Fault>
-    ensures ok { IfOk result (λ named. named_view named ≡ record { name = name.now; tag = view tag }) }
-    ensures err { IfErr result (λ e. e ≡ OutOfMemory) }
+pub(crate) fn named(alloc: Global, name: &[u8], tag: Tag) -> Result<Named, AllocError>
+    ensures { IfOk result (λ named. named_view named ≡ record { name = name.now; tag = view tag }) }
 {
     Ok(Named::new(Vec::from_slice(alloc, name)?, tag))
 }
@@ -26,11 +23,10 @@ pub(crate) fn placed(
     mut tags: Vec<Named>,
     name: &[u8],
     tag: Tag,
-) -> Result<Vec<Named>, Fault>
-    ensures ok { IfOk result (λ new. named_views new.items ≡ place name.now (view tag) (named_views tags.items)) }
-    ensures err { IfErr result (λ e. e ≡ OutOfMemory) }
+) -> Result<Vec<Named>, AllocError>
+    ensures { IfOk result (λ new. named_views new.items ≡ place name.now (view tag) (named_views tags.items)) }
 {
-    place(&mut tags, named(alloc, name, tag)?)?;
+    place(&mut tags, named(alloc, name, tag)?).map_err(|_| AllocError)?;
     Ok(tags)
 }
 
@@ -40,21 +36,26 @@ pub(crate) fn appended(
     mut tags: Vec<Named>,
     name: &[u8],
     tag: Tag,
-) -> Result<Vec<Named>, Fault>
-    ensures ok { IfOk result (λ new. named_views new.items ≡ named_views tags.items ++ record { name = name.now; tag = view tag } ∷ []) }
-    ensures err { IfErr result (λ e. e ≡ OutOfMemory) }
+) -> Result<Vec<Named>, AllocError>
+    ensures { IfOk result (λ new. named_views new.items ≡ named_views tags.items ++ record { name = name.now; tag = view tag } ∷ []) }
 {
     tags.push(named(alloc, name, tag)?)?;
     Ok(tags)
 }
 
 /// Tags after others.
-pub(crate) fn joined(mut tags: Vec<Named>, mut others: Vec<Named>) -> Result<Vec<Named>, Fault>
-    ensures ok { IfOk result (λ new. named_views new.items ≡ named_views tags.items ++ named_views others.items) }
-    ensures err { IfErr result (λ e. e ≡ OutOfMemory) }
+pub(crate) fn joined(mut tags: Vec<Named>, mut others: Vec<Named>) -> Result<Vec<Named>, AllocError>
+    ensures { IfOk result (λ new. named_views new.items ≡ named_views tags.items ++ named_views others.items) }
 {
     tags.append(&mut others)?;
     Ok(tags)
+}
+
+/// Copies of tags.
+pub(crate) fn copied(alloc: Global, tags: &[Named]) -> Result<Vec<Named>, AllocError>
+    ensures { IfOk result (λ copies. named_views copies.items ≡ named_views tags.now) }
+{
+    copy_tags(alloc, tags).map_err(|_| AllocError)
 }
 
 /// The tags of a Compound, or none of another tag.
@@ -65,11 +66,10 @@ fn members(tag: &Tag) -> &[Named]
 }
 
 /// A copy of a Compound.
-pub(crate) fn copied_compound(alloc: Global, tag: &Tag) -> Result<Tag, Fault>
-    ensures ok { IfOk result (λ copy. view copy ≡ compound_with (or_else [] (compound_of (view tag.now)))) }
-    ensures err { IfErr result (λ e. e ≡ OutOfMemory) }
+pub(crate) fn copied_compound(alloc: Global, tag: &Tag) -> Result<Tag, AllocError>
+    ensures { IfOk result (λ copy. view copy ≡ compound_with (or_else [] (compound_of (view tag.now)))) }
 {
-    Ok(Tag::compound(copy_tags(alloc, members(tag))?))
+    Ok(Tag::compound(copied(alloc, members(tag))?))
 }
 
 /// A List of Compounds.

@@ -19,7 +19,7 @@ use av_nbt::{Named, Tag, exchange, find, remove};
 use av_section::Section;
 use av_state::StateTable;
 use av_types::{Fault, Height};
-use std::alloc::Global;
+use std::alloc::{AllocError, Global};
 
 /// A section taken apart.
 #[derive(Drop)]
@@ -35,9 +35,8 @@ pub(crate) enum Part {
 }
 
 /// An empty place under a name.
-fn blank(alloc: Global, name: &[u8]) -> Result<Named, Fault>
-    ensures ok { IfOk result (λ m. named_view m ≡ record { name = name.now; tag = blank }) }
-    ensures err { IfErr result (λ e. e ≡ OutOfMemory) }
+fn blank(alloc: Global, name: &[u8]) -> Result<Named, AllocError>
+    ensures { IfOk result (λ m. named_view m ≡ record { name = name.now; tag = blank }) }
 {
     Ok(Named::new(Vec::from_slice(alloc, name)?, Tag::byte(0)))
 }
@@ -47,12 +46,11 @@ pub(crate) fn emptied(
     alloc: Global,
     tags: &mut Vec<Named>,
     name: &[u8],
-) -> Result<Option<Tag>, Fault>
+) -> Result<Option<Tag>, AllocError>
     ensures place { OnOk result (named_views tags.new.items ≡ emptied name.now (named_views tags.old.items)) }
     ensures taken { IfOk result (λ t. option_map view t ≡ tag_of name.now (named_views tags.old.items)) }
-    ensures err { IfErr result (λ e. e ≡ OutOfMemory) }
 {
-    exchange(tags, blank(alloc, name)?)
+    exchange(tags, blank(alloc, name)?).map_err(|_| AllocError)
 }
 
 /// The section of its `block_states`, one of air where there are none, and the tags that are kept of them.
@@ -130,9 +128,8 @@ pub(crate) fn offset_of(height: Height, y: i32) -> usize
 
 impl Sections {
     /// All sections missing.
-    fn missing(alloc: Global, height: Height) -> Result<Self, Fault>
-        ensures ok { IfOk result (AreMissing height) }
-        ensures err { IfErr result (λ e. e ≡ OutOfMemory) }
+    fn missing(alloc: Global, height: Height) -> Result<Self, AllocError>
+        ensures { IfOk result (AreMissing height) }
     {
         let mut sections = Vec::new(alloc);
         let mut kept = Vec::new(alloc);
@@ -148,12 +145,11 @@ impl Sections {
     }
 
     /// Puts a section where it belongs.
-    fn place(&mut self, part: Part, height: Height) -> Result<(), Fault>
+    fn place(&mut self, part: Part, height: Height) -> Result<(), AllocError>
         requires fits { FitsHeight height part }
         requires count { length self.old.sections.items ≡ height.sections }
         requires count_kept { length self.old.kept.items ≡ height.sections }
-        ensures ok { OnOk result (IsPlaced height part self.old self.new) }
-        ensures err { IfErr result (λ e. e ≡ OutOfMemory) }
+        ensures { OnOk result (IsPlaced height part self.old self.new) }
     {
         match part {
             Part::Inside { y, section, kept } => {
@@ -168,20 +164,18 @@ impl Sections {
 }
 
 /// Puts a section of air where there is none.
-fn fill(alloc: Global, slot: &mut Option<Section>) -> Result<(), Fault>
-    ensures ok { OnOk result (SlotFilled slot.old slot.new) }
-    ensures err { IfErr result (λ e. e ≡ OutOfMemory) }
+fn fill(alloc: Global, slot: &mut Option<Section>) -> Result<(), AllocError>
+    ensures { OnOk result (SlotFilled slot.old slot.new) }
 {
     if slot.is_none() {
-        *slot = Some(Section::filled(alloc, 0)?);
+        *slot = Some(Section::filled(alloc, 0).map_err(|_| AllocError)?);
     }
     Ok(())
 }
 
 /// Puts a section of air wherever there is none.
-fn fill_all(alloc: Global, sections: &mut Vec<Option<Section>>) -> Result<(), Fault>
-    ensures ok { OnOk result (AreFilled sections.old.items sections.new.items) }
-    ensures err { IfErr result (λ e. e ≡ OutOfMemory) }
+fn fill_all(alloc: Global, sections: &mut Vec<Option<Section>>) -> Result<(), AllocError>
+    ensures { OnOk result (AreFilled sections.old.items sections.new.items) }
 {
     for index in 0..sections.len() {
         fill(alloc, &mut sections[index])?;

@@ -1,7 +1,6 @@
 //! One section of a chunk, written.
-ghost use Rattle.std.specs.Prelude.{◌≡◌, ◌<◌, length, [], ◌∷◌, ◌++◌, codes, option_map, IfOk, IfErr};
+ghost use Rattle.std.specs.Prelude.{◌≡◌, ◌<◌, length, [], ◌∷◌, ◌++◌, codes, option_map, IfOk};
 ghost use Rattle.std.specs.Option.{option_copied};
-ghost use Rattle.av_types.specs.declared.fault.Fault.TheVariants.{OutOfMemory};
 ghost use Rattle.av_nbt.specs.Nbt.{byte};
 ghost use Rattle.av_nbt.specs.View.{view, named_views};
 ghost use Rattle.av_state.specs.Table.{states};
@@ -10,18 +9,16 @@ ghost use Rattle.av_document.specs.Layout.{data_tags, states_layout};
 ghost use Rattle.av_chunk.specs.Rest.{tags_of, missing, section_or_missing, found_outside};
 ghost use Rattle.av_chunk.specs.WritingSteps.{section_with};
 
-use crate::build::{appended, joined, placed};
+use crate::build::{appended, copied, joined, placed};
 use crate::rest::{OutsideSection, SectionTags};
-use av_nbt::{Named, Tag, copy_tags};
+use av_nbt::{Named, Tag};
 use av_section::Section;
 use av_state::StateTable;
-use av_types::Fault;
-use std::alloc::Global;
+use std::alloc::{AllocError, Global};
 
 /// The packed indices, where there are any, after other tags.
-fn with_data(alloc: Global, tags: Vec<Named>, packed: Option<Tag>) -> Result<Vec<Named>, Fault>
-    ensures ok { IfOk result (λ new. named_views new.items ≡ named_views tags.items ++ data_tags (option_map view packed)) }
-    ensures err { IfErr result (λ e. e ≡ OutOfMemory) }
+fn with_data(alloc: Global, tags: Vec<Named>, packed: Option<Tag>) -> Result<Vec<Named>, AllocError>
+    ensures { IfOk result (λ new. named_views new.items ≡ named_views tags.items ++ data_tags (option_map view packed)) }
 {
     match packed {
         Some(longs) => appended(alloc, tags, b"data", longs),
@@ -35,21 +32,19 @@ fn states_tag(
     section: &Section,
     table: &StateTable,
     others: Vec<Named>,
-) -> Result<Tag, Fault>
+) -> Result<Tag, AllocError>
     requires { HasNumbersBelow section.now (length (states table.now)) }
-    ensures ok { IfOk result (λ tag. view tag ≡ states_layout (named_views others.items) (section_states (states table.now) section.now)) }
-    ensures err { IfErr result (λ e. e ≡ OutOfMemory) }
+    ensures { IfOk result (λ tag. view tag ≡ states_layout (named_views others.items) (section_states (states table.now) section.now)) }
 {
-    let (palette, packed) = section.write(alloc, table)?;
+    let (palette, packed) = section.write(alloc, table).map_err(|_| AllocError)?;
     let tags = appended(alloc, Vec::new(alloc), b"palette", palette)?;
     let tags = with_data(alloc, tags, packed)?;
     Ok(Tag::compound(joined(tags, others)?))
 }
 
 /// What is kept of a section that is missing.
-fn missing_section(alloc: Global, y: i8) -> Result<SectionTags, Fault>
-    ensures ok { IfOk result (λ kept. tags_of kept ≡ missing y) }
-    ensures err { IfErr result (λ e. e ≡ OutOfMemory) }
+fn missing_section(alloc: Global, y: i8) -> Result<SectionTags, AllocError>
+    ensures { IfOk result (λ kept. tags_of kept ≡ missing y) }
 {
     let tags = appended(alloc, Vec::new(alloc), b"Y", Tag::byte(y))?;
     let tags = placed(alloc, tags, b"block_states", Tag::byte(0))?;
@@ -65,15 +60,14 @@ pub(crate) fn kept_section(
     alloc: Global,
     y: i8,
     kept: Option<&SectionTags>,
-) -> Result<SectionTags, Fault>
-    ensures ok { IfOk result (λ copy. tags_of copy ≡ section_or_missing y (option_copied kept.entry)) }
-    ensures err { IfErr result (λ e. e ≡ OutOfMemory) }
+) -> Result<SectionTags, AllocError>
+    ensures { IfOk result (λ copy. tags_of copy ≡ section_or_missing y (option_copied kept.entry)) }
 {
     match kept {
         None => missing_section(alloc, y),
         Some(section) => Ok(SectionTags {
-            tags: copy_tags(alloc, section.tags.as_slice())?,
-            states: copy_tags(alloc, section.states.as_slice())?,
+            tags: copied(alloc, section.tags.as_slice())?,
+            states: copied(alloc, section.states.as_slice())?,
         }),
     }
 }
@@ -85,10 +79,9 @@ pub(crate) fn section_tags(
     section: &Section,
     table: &StateTable,
     light: &[u8],
-) -> Result<Vec<Named>, Fault>
+) -> Result<Vec<Named>, AllocError>
     requires { HasNumbersBelow section.now (length (states table.now)) }
-    ensures ok { IfOk result (λ tags. named_views tags.items ≡ section_with (tags_of kept) (section_states (states table.now) section.now) light.now) }
-    ensures err { IfErr result (λ e. e ≡ OutOfMemory) }
+    ensures { IfOk result (λ tags. named_views tags.items ≡ section_with (tags_of kept) (section_states (states table.now) section.now) light.now) }
 {
     let SectionTags {
         tags,
@@ -117,12 +110,11 @@ pub(crate) fn outside_section(
     alloc: Global,
     outside: &[OutsideSection],
     y: i8,
-) -> Result<Option<Vec<Named>>, Fault>
-    ensures ok { IfOk result (λ found. option_map (λ tags. named_views tags.items) found ≡ found_outside y outside.now) }
-    ensures err { IfErr result (λ e. e ≡ OutOfMemory) }
+) -> Result<Option<Vec<Named>>, AllocError>
+    ensures { IfOk result (λ found. option_map (λ tags. named_views tags.items) found ≡ found_outside y outside.now) }
 {
     match find_outside(outside, y) {
         None => Ok(None),
-        Some(tags) => Ok(Some(copy_tags(alloc, tags)?)),
+        Some(tags) => Ok(Some(copied(alloc, tags)?)),
     }
 }

@@ -1,8 +1,7 @@
 //! The sections of a chunk, written.
-ghost use Rattle.std.specs.Prelude.{◌≡◌, ◌<◌, ◌++◌, true, map, option_map, None, slice_index_or, IfOk, OnOk, IfErr};
+ghost use Rattle.std.specs.Prelude.{◌≡◌, ◌<◌, ◌++◌, true, map, option_map, None, slice_index_or, IfOk, OnOk};
 ghost use Rattle.std.specs.Option.{option_copied};
 ghost use Rattle.av_types.specs.Places.{is_section_of};
-ghost use Rattle.av_types.specs.declared.fault.Fault.TheVariants.{OutOfMemory};
 ghost use Rattle.av_nbt.specs.View.{views, named_views};
 ghost use Rattle.av_document.specs.Layout.{compound_with, kept_section};
 ghost use Rattle.av_chunk.specs.WritingSteps.{CanWriteSections, number_at, inside_layout, written_section, first_sections};
@@ -15,8 +14,8 @@ use crate::write_section::{kept_section, outside_section, section_tags};
 use av_nbt::{Named, Tag};
 use av_rules::Kinds;
 use av_section::Section;
-use av_types::{Fault, Height};
-use std::alloc::Global;
+use av_types::Height;
+use std::alloc::{AllocError, Global};
 
 /// The number of a section, by its place among all that there can be.
 fn number_at(index: u16) -> i8
@@ -48,11 +47,10 @@ fn inside_section(
     kinds: &Kinds,
     light: &ChunkLight,
     y: i8,
-) -> Result<Vec<Named>, Fault>
+) -> Result<Vec<Named>, AllocError>
     requires can { CanWriteSections chunk.now rest.now kinds.now light.now }
     requires inside { is_section_of rest.now.height y ≡ true }
-    ensures ok { IfOk result (λ tags. named_views tags.items ≡ inside_layout chunk.now rest.now kinds.now light.now y) }
-    ensures err { IfErr result (λ e. e ≡ OutOfMemory) }
+    ensures { IfOk result (λ tags. named_views tags.items ≡ inside_layout chunk.now rest.now kinds.now light.now y) }
 {
     let index = offset_of(rest.height, i32::from(y));
     let Some(section) = section_at(chunk, index) else {
@@ -76,10 +74,9 @@ fn section_of(
     kinds: &Kinds,
     light: &ChunkLight,
     y: i8,
-) -> Result<Option<Vec<Named>>, Fault>
+) -> Result<Option<Vec<Named>>, AllocError>
     requires { CanWriteSections chunk.now rest.now kinds.now light.now }
-    ensures ok { IfOk result (λ found. option_map (λ tags. named_views tags.items) found ≡ written_section chunk.now rest.now kinds.now light.now y) }
-    ensures err { IfErr result (λ e. e ≡ OutOfMemory) }
+    ensures { IfOk result (λ found. option_map (λ tags. named_views tags.items) found ≡ written_section chunk.now rest.now kinds.now light.now y) }
 {
     if rest.height.has_section(i32::from(y)) {
         let tags = inside_section(alloc, chunk, rest, kinds, light, y)?;
@@ -90,9 +87,8 @@ fn section_of(
 }
 
 /// A section, where there is one, after others.
-fn push_section(sections: &mut Vec<Tag>, tags: Option<Vec<Named>>) -> Result<(), Fault>
-    ensures ok { OnOk result (views sections.new.items ≡ views sections.old.items ++ map compound_with (kept_section (option_map (λ t. named_views t.items) tags))) }
-    ensures err { IfErr result (λ e. e ≡ OutOfMemory) }
+fn push_section(sections: &mut Vec<Tag>, tags: Option<Vec<Named>>) -> Result<(), AllocError>
+    ensures { OnOk result (views sections.new.items ≡ views sections.old.items ++ map compound_with (kept_section (option_map (λ t. named_views t.items) tags))) }
 {
     if let Some(tags) = tags {
         sections.push(Tag::compound(tags))?;
@@ -107,10 +103,9 @@ pub(crate) fn all_sections(
     rest: &ChunkRest,
     kinds: &Kinds,
     light: &ChunkLight,
-) -> Result<Vec<Tag>, Fault>
+) -> Result<Vec<Tag>, AllocError>
     requires { CanWriteSections chunk.now rest.now kinds.now light.now }
-    ensures ok { IfOk result (λ sections. views sections.items ≡ first_sections chunk.now rest.now kinds.now light.now 256) }
-    ensures err { IfErr result (λ e. e ≡ OutOfMemory) }
+    ensures { IfOk result (λ sections. views sections.items ≡ first_sections chunk.now rest.now kinds.now light.now 256) }
 {
     let mut sections = Vec::new(alloc);
     for index in 0..256u16 {

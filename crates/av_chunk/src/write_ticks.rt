@@ -1,8 +1,7 @@
 //! The scheduled fluid ticks of a chunk, written.
 ghost use Rattle.std.specs.Int.{w32};
 ghost use Rattle.std.specs.Int.RustNames.{FitsSigned};
-ghost use Rattle.std.specs.Prelude.{◌≡◌, pos, ◌-ℤ◌, [], ◌∷◌, ◌++◌, map, codes, true, ◌<◌, IfOk, IfErr, IfSome};
-ghost use Rattle.av_types.specs.declared.fault.Fault.TheVariants.{OutOfMemory};
+ghost use Rattle.std.specs.Prelude.{◌≡◌, pos, ◌-ℤ◌, [], ◌∷◌, ◌++◌, map, codes, true, ◌<◌, IfOk, IfSome};
 ghost use Rattle.av_nbt.specs.Nbt.{int};
 ghost use Rattle.av_nbt.specs.View.{view, views, named_views};
 ghost use Rattle.av_document.specs.Layout.{compound_with, fluid_name, entry_layout};
@@ -24,8 +23,8 @@ use crate::sections::offset_of;
 use crate::write_sections::section_at;
 use av_nbt::{Named, Tag};
 use av_rules::Kinds;
-use av_types::{Entry, Fault, Height, Pos};
-use std::alloc::Global;
+use av_types::{Entry, Height, Pos};
+use std::alloc::{AllocError, Global};
 
 /// The name of a water's fluid.
 fn fluid_name(source: bool) -> &'static [u8]
@@ -39,10 +38,9 @@ fn fluid_name(source: bool) -> &'static [u8]
 }
 
 /// A position's three numbers after other tags.
-fn with_position(alloc: Global, tags: Vec<Named>, pos: Pos) -> Result<Vec<Named>, Fault>
-    ensures ok { IfOk result (λ new. named_views new.items ≡ named_views tags.items
+fn with_position(alloc: Global, tags: Vec<Named>, pos: Pos) -> Result<Vec<Named>, AllocError>
+    ensures { IfOk result (λ new. named_views new.items ≡ named_views tags.items
         ++ record { name = codes "x"; tag = int pos.x } ∷ record { name = codes "y"; tag = int pos.y } ∷ record { name = codes "z"; tag = int pos.z } ∷ []) }
-    ensures err { IfErr result (λ e. e ≡ OutOfMemory) }
 {
     let tags = appended(alloc, tags, b"x", Tag::int(pos.x))?;
     let tags = appended(alloc, tags, b"y", Tag::int(pos.y))?;
@@ -58,10 +56,14 @@ fn due_in(entry: Entry, elapsed: u32) -> i32
 }
 
 /// The tags of a water entry.
-fn entry_tags(alloc: Global, source: bool, elapsed: u32, entry: Entry) -> Result<Vec<Named>, Fault>
+fn entry_tags(
+    alloc: Global,
+    source: bool,
+    elapsed: u32,
+    entry: Entry,
+) -> Result<Vec<Named>, AllocError>
     requires { FitsSigned w32 (entry.due -ℤ pos elapsed) }
-    ensures ok { IfOk result (λ tags. named_views tags.items ≡ entry_layout source elapsed entry) }
-    ensures err { IfErr result (λ e. e ≡ OutOfMemory) }
+    ensures { IfOk result (λ tags. named_views tags.items ≡ entry_layout source elapsed entry) }
 {
     let fluid = Vec::from_slice(alloc, fluid_name(source))?;
     let tags = appended(alloc, Vec::new(alloc), b"i", Tag::text(fluid))?;
@@ -71,9 +73,8 @@ fn entry_tags(alloc: Global, source: bool, elapsed: u32, entry: Entry) -> Result
 }
 
 /// Copies of the ticks that are no water.
-fn foreign_ticks(alloc: Global, foreign: &[Tag]) -> Result<Vec<Tag>, Fault>
-    ensures ok { IfOk result (λ ticks. views ticks.items ≡ map compound_with (opened (views foreign.now))) }
-    ensures err { IfErr result (λ e. e ≡ OutOfMemory) }
+fn foreign_ticks(alloc: Global, foreign: &[Tag]) -> Result<Vec<Tag>, AllocError>
+    ensures { IfOk result (λ ticks. views ticks.items ≡ map compound_with (opened (views foreign.now))) }
 {
     let mut ticks = Vec::new(alloc);
     for tag in foreign {
@@ -103,11 +104,10 @@ fn water_tick(
     kinds: &Kinds,
     elapsed: u32,
     entry: Entry,
-) -> Result<Tag, Fault>
+) -> Result<Tag, AllocError>
     requires { CanWriteEntry chunk.now rest.now kinds.now elapsed entry }
     ensures ok { IfOk result (λ tick. view tick ≡ written_entry chunk.now rest.now kinds.now elapsed entry) }
     ensures ints { HasInts elapsed entry }
-    ensures err { IfErr result (λ e. e ≡ OutOfMemory) }
 {
     let source = is_source(chunk, rest.height, kinds, entry.pos);
     Ok(Tag::compound(entry_tags(alloc, source, elapsed, entry)?))
@@ -121,12 +121,11 @@ fn with_water(
     rest: &ChunkRest,
     kinds: &Kinds,
     elapsed: u32,
-) -> Result<Vec<Tag>, Fault>
+) -> Result<Vec<Tag>, AllocError>
     requires { All (CanWriteEntry chunk.now rest.now kinds.now elapsed) (entries chunk.now.ticks) }
     ensures ok { IfOk result (λ new. views new.items ≡ views ticks.items ++ map (written_entry chunk.now rest.now kinds.now elapsed) (entries chunk.now.ticks)) }
     // the numbers of an entry are Ints by their types, and its time by the condition
     ensures ints { IfOk result (λ _. All (HasInts elapsed) (entries chunk.now.ticks)) }
-    ensures err { IfErr result (λ e. e ≡ OutOfMemory) }
 {
     for entry in chunk.ticks.as_slice() {
         ticks.push(water_tick(alloc, chunk, rest, kinds, elapsed, *entry)?)?;
@@ -141,11 +140,10 @@ pub(crate) fn all_ticks(
     rest: &ChunkRest,
     kinds: &Kinds,
     elapsed: u32,
-) -> Result<Vec<Tag>, Fault>
+) -> Result<Vec<Tag>, AllocError>
     requires { All (CanWriteEntry chunk.now rest.now kinds.now elapsed) (entries chunk.now.ticks) }
     ensures ok { IfOk result (λ ticks. views ticks.items ≡ map compound_with (opened (views rest.now.foreign.items)) ++ map (written_entry chunk.now rest.now kinds.now elapsed) (entries chunk.now.ticks)) }
     ensures ints { IfOk result (λ _. All (HasInts elapsed) (entries chunk.now.ticks)) }
-    ensures err { IfErr result (λ e. e ≡ OutOfMemory) }
 {
     let ticks = foreign_ticks(alloc, rest.foreign.as_slice())?;
     with_water(alloc, ticks, chunk, rest, kinds, elapsed)

@@ -6,7 +6,7 @@ use Rattle.av_state.specs.Table.{states}
 use Rattle.av_chunk.specs.Reading.{IsLoaded}
 use Rattle.av_chunk.specs.Payload.{IsPayloadReading}
 use Rattle.av_chunk.specs.Block.{IsPayloadRefused}
-use Rattle.av_chunk.proofs.Found.{denoted_by, if_ok_then, if_err_then, err_from}
+use Rattle.av_chunk.proofs.Found.{denoted_by, err_from}
 use Rattle.av_chunk.proofs.block.block_in_payload.Goals as goal
 
 pub returns-in_err-read_payload-clause-err : goal.returns-in_err-read_payload-clause-err
@@ -21,9 +21,5 @@ returns-clause-ok c =
     rw (c.chunk.ensures, c.in_ok-table.ensures.ok) at c.in_ok-read_payload.ensures.ok in
     let loaded : IsLoaded (chunk_of c.args.pos) c.args.height read.document first_states (states c.read_payload.new.table) c.in-Full.chunk c.in-Full.rest =
     rw c.in-Full.is at read.reading in
-    if_ok_then c.state_in.result c.state_in.ensures.ok
-    (λ found is. denoted_by c.args.payload.now c.args.height c.args.pos read.document (states c.read_payload.new.table) c.in-Full.chunk c.in-Full.rest (option_map state_of found)
-    read.spelled loaded is)
-
-pub returns-clause-err : goal.returns-clause-err
-returns-clause-err c = if_err_then c.state_in.result c.state_in.ensures.err (λ e is other. absurd (other is))
+    denoted_by c.args.payload.now c.args.height c.args.pos read.document (states c.read_payload.new.table) c.in-Full.chunk c.in-Full.rest (option_map state_of c.in_ok-state_in-in-Full.field-0)
+    read.spelled loaded c.in_ok-state_in-in-Full.ensures

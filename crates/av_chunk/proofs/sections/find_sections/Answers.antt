@@ -17,7 +17,7 @@ loop-section-preserved-in-Continue-branch-2 c =
     let x : Tag = c.in-Some.section in
     let rest : List Tag = into_iter_items c.next.new.self in
     let step : into_iter_items c.loop-section.section-iterator ≡ x ∷ rest = c.in-Some.ensures.steps.0 in
-    let placed = c.in_ok-place-in-Ok.ensures.ok in
+    let placed = c.in_ok-place-in-Ok.ensures in
     let all : c.loop-section.yielded ++ x ∷ rest ≡ c.args.sections.items = rw step at inv.split in
     let apart : share_a_number (opened (views c.loop-section.yielded) ++ tags_in (view x) ∷ opened (views rest)) ≡ false =
     ap share_a_number (sym (rows-append c.loop-section.yielded (x ∷ rest)) ∙ ap (λ ts. opened (views ts)) all) ∙ c.requires.apart in

@@ -9,4 +9,4 @@ pub returns-clause-ok : goal.returns-clause-ok
 returns-clause-ok c =
     AreRead-filled c.args.height (opened (views c.args.sections.items)) (states c.args.table.now) (states c.find_sections.new.table) c.in_ok-read.read
     (record { sections = c.fill_all.new.sections; kept = c.in_ok-read.read.kept; outside = c.in_ok-read.read.outside })
-    c.find_sections.new.table.numbered.begins c.in_ok-read.ensures.ok c.in_ok-fill_all.ensures.ok refl refl
+    c.find_sections.new.table.numbered.begins c.in_ok-read.ensures.ok c.in_ok-fill_all.ensures refl refl

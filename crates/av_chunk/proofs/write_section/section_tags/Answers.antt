@@ -5,9 +5,9 @@ use Rattle.av_nbt.specs.Place.{place}
 use Rattle.av_nbt.specs.View.{named_views}
 use Rattle.av_chunk.proofs.write_section.section_tags.Goals as goal
 
-pub returns-clause-ok : goal.returns-clause-ok
-returns-clause-ok c =
-    let tags = c.in_ok-tags.ensures.ok ∙ ap (λ n. place (codes "block_states") n (named_views c.args.kept.tags.items)) c.in_ok-states.ensures.ok in
+pub returns : goal.returns
+returns c =
+    let tags = c.in_ok-tags.ensures ∙ ap (λ n. place (codes "block_states") n (named_views c.args.kept.tags.items)) c.in_ok-states.ensures in
     let light = c.byte_array-light.ensures ∙ ap byte_array c.in_ok-from_slice.ensures.items in
     let both = ap (λ n. place (codes "BlockLight") n (named_views c.in_ok-tags.tags.items)) light ∙ ap (place (codes "BlockLight") (byte_array c.args.light.now)) tags in
-    subst (λ ns. IfOk c.placed-2.result (λ new. named_views new.items ≡ ns)) both c.placed-2.ensures.ok
+    subst (λ ns. IfOk c.placed-2.result (λ new. named_views new.items ≡ ns)) both c.placed-2.ensures

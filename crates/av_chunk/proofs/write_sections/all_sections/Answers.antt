@@ -17,8 +17,8 @@ loop-index-preserved c =
     let written = written_section c.args.chunk.now c.args.rest.now c.args.kinds.now c.args.light.now in
     let before = first_sections c.args.chunk.now c.args.rest.now c.args.kinds.now c.args.light.now c.loop-index.index in
     let found : Option (List NamedTag) = option_map (λ t. named_views t.items) c.in_ok-tags.tags in
-    let here : found ≡ written (number_at c.loop-index.index) = c.in_ok-tags.ensures.ok ∙ ap written (same_number ∙ c.number_at.ensures) in
-    c.in_ok-push_section.ensures.ok
+    let here : found ≡ written (number_at c.loop-index.index) = c.in_ok-tags.ensures ∙ ap written (same_number ∙ c.number_at.ensures) in
+    c.in_ok-push_section.ensures
     ∙ ap (λ (v : List Nbt). v ++ map compound_with (kept_section found)) c.loop-index.invariant
     ∙ ap (λ (o : Option (List NamedTag)). before ++ map compound_with (kept_section o)) here
     ∙ sym (more_sections written c.loop-index.index)

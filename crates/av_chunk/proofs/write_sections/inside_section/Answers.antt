@@ -24,8 +24,8 @@ section_tags-requires c =
     ap (λ n. slice_index_or c.args.chunk.now.sections.items n None) (sym index) ∙ sym c.in-Some.ensures in
     rw c.table.ensures (numbers-of_section (states_of_kinds c.args.kinds.now) c.args.rest.now.place c.args.rest.now.height c.args.chunk.now c.args.y c.in-Some.section.now c.requires.inside there c.requires.can.numbered)
 
-pub returns-clause-ok : goal.returns-clause-ok
-returns-clause-ok c =
+pub returns : goal.returns
+returns c =
     let fits : FitsSigned w8 c.args.y = search rules in
     let wide_fits : FitsSigned w32 c.from.result = search rules in
     let same : c.from.result ≡ c.args.y = search rules in
@@ -35,10 +35,10 @@ returns-clause-ok c =
     let there : section_in c.args.rest.now.height c.args.chunk.now c.args.y ≡ Some c.in-Some.section.now =
     ap (λ n. slice_index_or c.args.chunk.now.sections.items n None) (sym index) ∙ sym c.in-Some.ensures in
     let kept : tags_of c.in_ok-kept.kept ≡ section_or_missing c.args.y (slice_index_or c.args.rest.now.sections.items c.offset_of-index.result None) =
-    c.in_ok-kept.ensures.ok ∙ ap (section_or_missing (to_z w8 (of_z w8 c.args.y))) c.kept_at.ensures ∙ ap (λ y. section_or_missing y (slice_index_or c.args.rest.now.sections.items c.offset_of-index.result None)) same_number in
+    c.in_ok-kept.ensures ∙ ap (section_or_missing (to_z w8 (of_z w8 c.args.y))) c.kept_at.ensures ∙ ap (λ y. section_or_missing y (slice_index_or c.args.rest.now.sections.items c.offset_of-index.result None)) same_number in
     let kept_here = kept ∙ ap (λ n. section_or_missing c.args.y (slice_index_or c.args.rest.now.sections.items n None)) index in
     let bytes = c.section.ensures.value ∙ ap (light_section c.args.light.now) index in
     let same = ap (λ t. section_with (tags_of c.in_ok-kept.kept) (section_states (states t) c.in-Some.section.now) c.section.result.now) c.table.ensures
     ∙ inside_layout-is c.args.chunk.now c.args.rest.now c.args.kinds.now c.args.light.now c.args.y c.in-Some.section.now (tags_of c.in_ok-kept.kept) c.section.result.now there kept_here bytes in
     let P : List NamedTag → Type 0 = λ v. IfOk c.section_tags.result (λ tags. named_views tags.items ≡ v) in
-    subst P same c.section_tags.ensures.ok
+    subst P same c.section_tags.ensures

@@ -8,19 +8,19 @@ use Rattle.av_chunk.proofs.Heights.{section_test}
 use Rattle.av_chunk.proofs.Written.{written_section-inside, written_section-outside}
 use Rattle.av_chunk.proofs.write_sections.section_of.Goals as goal
 
-pub returns-in_ok-tags-clause-ok : goal.returns-in_ok-tags-clause-ok
-returns-in_ok-tags-clause-ok c =
+pub returns-in_ok-tags : goal.returns-in_ok-tags
+returns-in_ok-tags c =
     let fits : FitsSigned w32 c.from.result = search rules in
     let byte_fits : FitsSigned w8 c.args.y = search rules in
     let same : c.from.result ≡ c.args.y = search rules in
     let same_number : to_z w8 (of_z w8 c.args.y) ≡ c.args.y = to_z-of_z byte_fits in
     let test = simp to_z-of_z at (section_test c.args.rest.now.height _ c.has_section.result c.has_section.ensures) in
     let inside : is_section_of c.args.rest.now.height c.args.y ≡ true = ap (is_section_of c.args.rest.now.height) (sym same) ∙ sym test ∙ c.if-has_section.true in
-    ap Some (c.in_ok-tags.ensures.ok ∙ ap (inside_layout c.args.chunk.now c.args.rest.now c.args.kinds.now c.args.light.now) same_number)
+    ap Some (c.in_ok-tags.ensures ∙ ap (inside_layout c.args.chunk.now c.args.rest.now c.args.kinds.now c.args.light.now) same_number)
     ∙ sym (written_section-inside c.args.chunk.now c.args.rest.now c.args.kinds.now c.args.light.now c.args.y inside)
 
-pub returns-else-has_section-clause-ok : goal.returns-else-has_section-clause-ok
-returns-else-has_section-clause-ok c =
+pub returns-else-has_section : goal.returns-else-has_section
+returns-else-has_section c =
     let fits : FitsSigned w32 c.from.result = search rules in
     let byte_fits : FitsSigned w8 c.args.y = search rules in
     let same : c.from.result ≡ c.args.y = search rules in
@@ -31,4 +31,4 @@ returns-else-has_section-clause-ok c =
     let found = ap (λ os. found_outside (to_z w8 (of_z w8 c.args.y)) os) c.as_slice.ensures.value
     ∙ ap (λ y. found_outside y c.args.rest.now.outside.items) same_number
     ∙ sym (written_section-outside c.args.chunk.now c.args.rest.now c.args.kinds.now c.args.light.now c.args.y outside) in
-    subst P found c.outside_section.ensures.ok
+    subst P found c.outside_section.ensures

@@ -14,8 +14,8 @@ returns-clause-ok c =
     (named_views c.in_ok-tags.tags.items) (named_views c.in_ok-tags-2.tags.items) (named_views c.in_ok-tags-3.tags.items)
     (c.in_ok-name.ensures.items ∙ c.as_slice-2.ensures.value)
     (c.in_ok-tags.ensures.copied ∙ ap named_views c.as_slice.ensures.value)
-    c.in_ok-tags-2.ensures.ok c.in_ok-tags-3.ensures.ok c.compounds.ensures c.compounds-2.ensures
-    c.in_ok-sections.ensures.ok c.in_ok-ticks.ensures.ok
+    c.in_ok-tags-2.ensures c.in_ok-tags-3.ensures c.compounds.ensures c.compounds-2.ensures
+    c.in_ok-sections.ensures c.in_ok-ticks.ensures.ok
 
 pub returns-clause-well_formed : goal.returns-clause-well_formed
 returns-clause-well_formed c =
@@ -25,8 +25,8 @@ returns-clause-well_formed c =
     (named_views c.in_ok-tags.tags.items) (named_views c.in_ok-tags-2.tags.items) (named_views c.in_ok-tags-3.tags.items)
     (c.in_ok-name.ensures.items ∙ c.as_slice-2.ensures.value)
     (c.in_ok-tags.ensures.copied ∙ ap named_views c.as_slice.ensures.value)
-    c.in_ok-tags-2.ensures.ok c.in_ok-tags-3.ensures.ok c.compounds.ensures c.compounds-2.ensures
-    c.in_ok-sections.ensures.ok c.in_ok-ticks.ensures.ok in
+    c.in_ok-tags-2.ensures c.in_ok-tags-3.ensures c.compounds.ensures c.compounds-2.ensures
+    c.in_ok-sections.ensures c.in_ok-ticks.ensures.ok in
     subst IsWellFormed (sym same)
     (written-well_formed c.args.self.now c.args.rest.now c.args.kinds.now c.args.light.now c.args.elapsed c.requires c.in_ok-ticks.ensures.ints)
 
@@ -38,7 +38,7 @@ returns-clause-denotes c =
     (named_views c.in_ok-tags.tags.items) (named_views c.in_ok-tags-2.tags.items) (named_views c.in_ok-tags-3.tags.items)
     (c.in_ok-name.ensures.items ∙ c.as_slice-2.ensures.value)
     (c.in_ok-tags.ensures.copied ∙ ap named_views c.as_slice.ensures.value)
-    c.in_ok-tags-2.ensures.ok c.in_ok-tags-3.ensures.ok c.compounds.ensures c.compounds-2.ensures
-    c.in_ok-sections.ensures.ok c.in_ok-ticks.ensures.ok in
+    c.in_ok-tags-2.ensures c.in_ok-tags-3.ensures c.compounds.ensures c.compounds-2.ensures
+    c.in_ok-sections.ensures c.in_ok-ticks.ensures.ok in
     subst (DenotesSooner c.args.self.now c.args.rest.now c.args.kinds.now c.args.elapsed) (sym same)
     (written-denotes c.args.self.now c.args.rest.now c.args.kinds.now c.args.light.now c.args.elapsed c.requires)
