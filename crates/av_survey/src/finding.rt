@@ -1,8 +1,8 @@
 //! What a survey finds.
-ghost use Rattle.std.specs.Prelude.{◌≡◌, ◌++◌, IfErr, OnOk};
-ghost use Rattle.av_types.specs.declared.fault.Fault.TheVariants.{OutOfMemory};
+ghost use Rattle.std.specs.Prelude.{◌≡◌, ◌++◌, OnOk};
 
 use av_types::{ChunkPos, Fault, RegionPos};
+use std::alloc::AllocError;
 
 /// What is wrong with a region's file, or with one chunk of it.
 #[derive(Debug, Drop)]
@@ -22,9 +22,8 @@ impl Finding {
         region: RegionPos,
         chunk: ChunkPos,
         fault: Option<Fault>,
-    ) -> Result<(), Fault>
-        ensures ok { OnOk result (found.new.items ≡ found.old.items ++ noted region chunk fault) }
-        ensures err { IfErr result (λ e. e ≡ OutOfMemory) }
+    ) -> Result<(), AllocError>
+        ensures { OnOk result (found.new.items ≡ found.old.items ++ noted region chunk fault) }
     {
         match fault {
             None => Ok(()),

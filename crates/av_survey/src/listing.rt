@@ -7,6 +7,7 @@ ghost use Rattle.av_survey.specs.Listing.{IsListInOrder, IsListFault, in_order, 
 
 use av_sink::RegionFile;
 use av_types::{Fault, RegionPos};
+use std::alloc::AllocError;
 
 /// The most files that are taken.
 const MOST_FILES: usize = 1024;
@@ -52,10 +53,9 @@ fn share_a_region(files: &[RegionFile]) -> bool
 }
 
 /// The files by (z, x) of their regions.
-fn sorted(files: Vec<RegionFile>) -> Result<Vec<RegionFile>, Fault>
+fn sorted(files: Vec<RegionFile>) -> Result<Vec<RegionFile>, AllocError>
     ensures ok { IfOk result (λ fs. fs.items ≡ in_order files.items) }
     ensures same { IfOk result (λ fs. IsPermutation files.items fs.items) }
-    ensures err { IfErr result (λ e. e ≡ OutOfMemory) }
 {
     let mut files = files;
     files.sort_by_key(|file| (file.pos.z, file.pos.x))?;
@@ -76,5 +76,5 @@ pub(crate) fn judged(files: Vec<RegionFile>) -> Result<Vec<RegionFile>, Fault>
     if share_a_region(files.as_slice()) {
         return Err(Fault::RepeatedRegion);
     }
-    sorted(files)
+    Ok(sorted(files)?)
 }

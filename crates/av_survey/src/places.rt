@@ -1,5 +1,5 @@
 //! One chunk of a region's file.
-ghost use Rattle.std.specs.Prelude.{◌≡◌, ◌≢◌, ◌≤◌, ◌<◌, IfOk, IfErr, MatchOption, Some, length};
+ghost use Rattle.std.specs.Prelude.{◌≡◌, ◌≢◌, ◌≤◌, ◌<◌, IfOk, MatchOption, Some, length};
 ghost use Rattle.av_types.specs.declared.fault.Fault.TheVariants.{OutOfMemory};
 ghost use Rattle.av_types.specs.Places.{IsInLimits, chunk_at};
 ghost use Rattle.av_survey.specs.Survey.{IsFirstAt, IsFirstIn};
@@ -8,15 +8,14 @@ use av_chunk::read_payload;
 use av_region::Region;
 use av_state::StateTable;
 use av_types::{ChunkPos, Fault, Height, RegionPos};
-use std::alloc::Global;
+use std::alloc::{AllocError, Global};
 
 /// A fault that is found, or want of memory, which is none of a file.
-fn found(fault: Fault) -> Result<Option<Fault>, Fault>
-    ensures ok { IfOk result (λ o. (fault ≢ OutOfMemory) × (o ≡ Some fault)) }
-    ensures err { IfErr result (λ e. e ≡ OutOfMemory) }
+fn found(fault: Fault) -> Result<Option<Fault>, AllocError>
+    ensures { IfOk result (λ o. (fault ≢ OutOfMemory) × (o ≡ Some fault)) }
 {
     if fault.number() == 1 {
-        return Err(Fault::OutOfMemory);
+        return Err(AllocError);
     }
     Ok(Some(fault))
 }
@@ -27,12 +26,13 @@ fn fault_in(
     payload: &[u8],
     at: ChunkPos,
     height: Height,
-) -> Result<Option<Fault>, Fault>
+) -> Result<Option<Fault>, AllocError>
     requires { length payload.now ≤ 1044475 }
-    ensures ok { IfOk result (IsFirstIn height payload.now at) }
-    ensures err { IfErr result (λ e. e ≡ OutOfMemory) }
+    ensures { IfOk result (IsFirstIn height payload.now at) }
 {
-    let mut table = StateTable::new(alloc)?;
+    let Ok(mut table) = StateTable::new(alloc) else {
+        return Err(AllocError);
+    };
     match read_payload(alloc, payload, at, height, &mut table) {
         Ok(_) => Ok(None),
         Err(fault) => found(fault),
@@ -46,11 +46,10 @@ pub(crate) fn fault_at(
     pos: RegionPos,
     index: usize,
     height: Height,
-) -> Result<Option<Fault>, Fault>
+) -> Result<Option<Fault>, AllocError>
     requires limits { IsInLimits pos }
     requires index { index < 1024 }
-    ensures ok { IfOk result (IsFirstAt height region.now.bytes.now (chunk_at pos index) index) }
-    ensures err { IfErr result (λ e. e ≡ OutOfMemory) }
+    ensures { IfOk result (IsFirstAt height region.now.bytes.now (chunk_at pos index) index) }
 {
     match region.payload(index) {
         Err(fault) => Ok(Some(fault)),

@@ -1,5 +1,5 @@
 //! A survey of region files.
-ghost use Rattle.std.specs.Prelude.{◌≡◌, ◌≢◌, IfOk, IfErr};
+ghost use Rattle.std.specs.Prelude.{◌≢◌, IfOk, IfErr};
 ghost use Rattle.std.specs.List.{All};
 ghost use Rattle.av_types.specs.declared.fault.Fault.TheVariants.{OutOfMemory};
 ghost use Rattle.av_types.specs.Places.{IsInLimits};
@@ -12,7 +12,7 @@ use crate::places::fault_at;
 use av_region::Region;
 use av_sink::RegionFile;
 use av_types::{Fault, Height, RegionPos};
-use std::alloc::Global;
+use std::alloc::{AllocError, Global};
 
 /// What is wrong with the chunks of a region, in the order of their indices.
 fn survey_places(
@@ -20,10 +20,9 @@ fn survey_places(
     region: &Region<'_>,
     pos: RegionPos,
     height: Height,
-) -> Result<Vec<Finding>, Fault>
+) -> Result<Vec<Finding>, AllocError>
     requires { IsInLimits pos }
-    ensures ok { IfOk result (λ found. FindsUpTo height pos region.now.bytes.now 1024 found.items) }
-    ensures err { IfErr result (λ e. e ≡ OutOfMemory) }
+    ensures { IfOk result (λ found. FindsUpTo height pos region.now.bytes.now 1024 found.items) }
 {
     let mut found = Vec::new(alloc);
     for index in 0..1024 {
@@ -34,10 +33,9 @@ fn survey_places(
 }
 
 /// What is wrong with a file.
-fn survey_file(alloc: Global, file: &RegionFile, height: Height) -> Result<Vec<Finding>, Fault>
+fn survey_file(alloc: Global, file: &RegionFile, height: Height) -> Result<Vec<Finding>, AllocError>
     requires { IsInLimits file.now.pos }
-    ensures ok { IfOk result (λ found. FindsInFile height file.now found.items) }
-    ensures err { IfErr result (λ e. e ≡ OutOfMemory) }
+    ensures { IfOk result (λ found. FindsInFile height file.now found.items) }
 {
     match Region::read(file.bytes.as_slice()) {
         Err(fault) => {
@@ -54,10 +52,13 @@ fn survey_file(alloc: Global, file: &RegionFile, height: Height) -> Result<Vec<F
 }
 
 /// What is wrong with files, one after the other.
-fn survey_all(alloc: Global, files: Vec<RegionFile>, height: Height) -> Result<Vec<Finding>, Fault>
+fn survey_all(
+    alloc: Global,
+    files: Vec<RegionFile>,
+    height: Height,
+) -> Result<Vec<Finding>, AllocError>
     requires { All (λ f. IsInLimits f.pos) files.items }
-    ensures ok { IfOk result (λ found. FindsInAll height files.items found.items) }
-    ensures err { IfErr result (λ e. e ≡ OutOfMemory) }
+    ensures { IfOk result (λ found. FindsInAll height files.items found.items) }
 {
     let mut found = Vec::new(alloc);
     for file in files {
@@ -78,5 +79,5 @@ pub fn survey(alloc: Global, files: Vec<RegionFile>, height: Height) -> Result<V
     ensures err { IfErr result (λ e. e ≢ OutOfMemory → IsListFault files.items e) }
 {
     let files = judged(files)?;
-    survey_all(alloc, files, height)
+    Ok(survey_all(alloc, files, height)?)
 }

@@ -1,14 +1,10 @@
-use Rattle.std.proofs.Common.{rules, ◌≡◌, ◌∙◌, ◌≤◌, length, false, List, Result, Ok, Err, IfOk, ap, sym, subst}
+use Rattle.std.proofs.Common.{rules, ◌≡◌, ◌∙◌, ◌≤◌, length, false, List, ap, sym, subst}
 use Rattle.std.specs.List.{All}
 use Rattle.std.proofs.lemmas.List.Sorted.{All-permutation}
 use Rattle.av_types.specs.Places.{IsInLimits}
 use Rattle.av_sink.specs.declared.files.RegionFile.{RegionFile}
 use Rattle.av_survey.specs.Listing.{share_a_region}
 use Rattle.av_survey.proofs.listing.judged.Goals as goal
-
-if_ok_both : {T E : Type 0} (r : Result T E) {P Q R : T → Type 0} → IfOk r P → IfOk r Q → ((x : T) → P x → Q x → R x) → IfOk r R
-if_ok_both (Ok x) p q f = f x p q
-if_ok_both (Err e) p q f = tt
 
 pub returns-clause-ok : goal.returns-clause-ok
 returns-clause-ok c =
@@ -17,9 +13,8 @@ returns-clause-ok c =
     let limits : All (λ f. IsInLimits f.pos) files =
     subst (λ (xs : List RegionFile). All (λ f. IsInLimits f.pos) xs) c.as_slice.ensures.value (c.are_in_limits.ensures.0 c.if-not-are_in_limits.false) in
     let apart : share_a_region files ≡ false = ap share_a_region (sym c.as_slice-2.ensures.value) ∙ sym c.share_a_region.ensures ∙ c.if-share_a_region.false in
-    if_ok_both c.sorted.result c.sorted.ensures.ok c.sorted.ensures.same
-    (λ fs order same. record {
+    record {
       good = record { few = few; limits = limits; apart = apart };
-      order = order;
-      limits = All-permutation (λ f. IsInLimits f.pos) files fs.items same limits;
-    })
+      order = c.in_ok-sorted.ensures.ok;
+      limits = All-permutation (λ f. IsInLimits f.pos) files c.in_ok-sorted.field-0.items c.in_ok-sorted.ensures.same limits;
+    }

@@ -4,8 +4,8 @@ use Rattle.av_chunk.proofs.Found.{if_ok_then}
 use Rattle.av_survey.specs.Survey.{IsFirstIn}
 use Rattle.av_survey.proofs.places.fault_in.Goals as goal
 
-pub returns-clause-ok : goal.returns-clause-ok
-returns-clause-ok c =
-    if_ok_then c.found.result c.found.ensures.ok
+pub returns : goal.returns
+returns c =
+    if_ok_then c.found.result c.found.ensures
     (λ o is. subst (λ (x : Option Fault). IsFirstIn c.args.height c.args.payload.now c.args.at x) (sym is.1)
-    (rw c.in_ok-table.ensures.ok at (c.in-Err.ensures.err is.0)))
+    (rw c.in-Ok.ensures.ok at (c.in-Err.ensures.err is.0)))

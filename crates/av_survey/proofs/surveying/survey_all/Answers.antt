@@ -16,5 +16,5 @@ loop-file-preserved c =
     record {
       split = append_assoc c.loop-file.yielded (file ∷ []) rest ∙ subst (λ (xs : List RegionFile). c.loop-file.yielded ++ xs ≡ c.args.files.items) step c.loop-file.invariant.split;
       limits = All-tail (λ f. IsInLimits f.pos) file rest limits;
-      found = finds_more c.args.height c.loop-file.yielded file c.loop-file.found.items c.in_ok-more.more.items c.append.new.self.items c.loop-file.invariant.found c.in_ok-more.ensures.ok c.in_ok-append.ensures.items;
+      found = finds_more c.args.height c.loop-file.yielded file c.loop-file.found.items c.in_ok-more.more.items c.append.new.self.items c.loop-file.invariant.found c.in_ok-more.ensures c.in_ok-append.ensures.items;
     }
