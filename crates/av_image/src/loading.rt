@@ -23,7 +23,7 @@ use av_sink::RegionFile;
 use av_state::StateTable;
 use av_types::{Fault, Height, RegionPos};
 use av_world::World;
-use std::alloc::Global;
+use std::alloc::{AllocError, Global};
 
 /// Whether all regions are within the limits.
 fn are_in_limits(files: &[RegionFile]) -> bool
@@ -38,9 +38,8 @@ fn are_in_limits(files: &[RegionFile]) -> bool
 }
 
 /// The files by (z, x) of their regions.
-fn files_in_order(files: Vec<RegionFile>) -> Result<Vec<RegionFile>, Fault>
-    ensures ok { IfOk result (λ fs. map file_in fs.items ≡ in_order (map file_in files.items)) }
-    ensures err { IfErr result (λ e. e ≡ OutOfMemory) }
+fn files_in_order(files: Vec<RegionFile>) -> Result<Vec<RegionFile>, AllocError>
+    ensures { IfOk result (λ fs. map file_in fs.items ≡ in_order (map file_in files.items)) }
 {
     let mut files = files;
     files.sort_by_key(|f| (f.pos.z, f.pos.x))?;
@@ -48,9 +47,8 @@ fn files_in_order(files: Vec<RegionFile>) -> Result<Vec<RegionFile>, Fault>
 }
 
 /// The chunks by (z, x).
-fn placed_in_order(found: Vec<Placed>) -> Result<Vec<Placed>, Fault>
-    ensures ok { IfOk result (λ xs. xs.items ≡ ordered placed_order found.items) }
-    ensures err { IfErr result (λ e. e ≡ OutOfMemory) }
+fn placed_in_order(found: Vec<Placed>) -> Result<Vec<Placed>, AllocError>
+    ensures { IfOk result (λ xs. xs.items ≡ ordered placed_order found.items) }
 {
     let mut found = found;
     found.sort_by_key(|x| (x.at.z, x.at.x))?;

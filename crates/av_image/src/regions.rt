@@ -15,7 +15,7 @@ use av_region::Region;
 use av_sink::RegionFile;
 use av_state::StateTable;
 use av_types::{Fault, Height, RegionPos};
-use std::alloc::Global;
+use std::alloc::{AllocError, Global};
 
 /// A region that was read.
 #[derive(Drop)]
@@ -46,10 +46,9 @@ fn read_places(
 }
 
 /// All timestamps of a region.
-fn read_stamps(alloc: Global, region: &Region<'_>) -> Result<Vec<u32>, Fault>
+fn read_stamps(alloc: Global, region: &Region<'_>) -> Result<Vec<u32>, AllocError>
     ensures ok { IfOk result (λ stamps. stamps.items ≡ are_stamps region.now.bytes.now 1024) }
     ensures small { IfOk result (λ stamps. All (λ n. n < 2 ^ 32) stamps.items) }
-    ensures err { IfErr result (λ e. e ≡ OutOfMemory) }
 {
     let mut stamps = Vec::new(alloc);
     for index in 0..1024 {

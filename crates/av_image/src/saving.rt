@@ -18,7 +18,7 @@ use av_rules::Kinds;
 use av_sink::RegionFile;
 use av_types::{ChunkPos, Fault};
 use av_world::World;
-use std::alloc::Global;
+use std::alloc::{AllocError, Global};
 use std::convert::AsSlice;
 
 /// What is written for a chunk.
@@ -44,7 +44,7 @@ impl AsSlice<u8> for Payload<'_> {
     }
 }
 
-/// The payload of a chunk.
+/// The payload of a chunk. To write and to encode it can only want memory.
 fn written_chunk(
     alloc: Global,
     chunk: &Chunk,
@@ -52,13 +52,17 @@ fn written_chunk(
     kinds: &Kinds,
     light: &ChunkLight,
     elapsed: u32,
-) -> Result<Vec<u8>, Fault>
+) -> Result<Vec<u8>, AllocError>
     requires { CanWrite chunk.now rest.now kinds.now light.now elapsed }
-    ensures ok { IfOk result (λ bytes. bytes.items ≡ written_document (written chunk.now rest.now kinds.now light.now elapsed)) }
-    ensures err { IfErr result (λ e. e ≡ OutOfMemory) }
+    ensures { IfOk result (λ bytes. bytes.items ≡ written_document (written chunk.now rest.now kinds.now light.now elapsed)) }
 {
-    let root = chunk.write(alloc, rest, kinds, light, elapsed)?;
-    encode(alloc, &root)
+    let Ok(root) = chunk.write(alloc, rest, kinds, light, elapsed) else {
+        return Err(AllocError);
+    };
+    let Ok(bytes) = encode(alloc, &root) else {
+        return Err(AllocError);
+    };
+    Ok(bytes)
 }
 
 /// The payload of the world's chunk at a place.
@@ -70,13 +74,12 @@ fn loaded_payload(
     kinds: &Kinds,
     lights: &[ChunkLight],
     elapsed: u32,
-) -> Result<Vec<u8>, Fault>
+) -> Result<Vec<u8>, AllocError>
     requires can { CanSave world.now kinds.now lights.now elapsed }
     requires there { has_chunk (positions_of world.now) at ≡ true }
     requires place { rest.now.place ≡ at }
     requires height { rest.now.height ≡ height_of world.now }
-    ensures ok { IfOk result (λ bytes. bytes.items ≡ loaded_bytes world.now kinds.now lights.now elapsed at rest.now) }
-    ensures err { IfErr result (λ e. e ≡ OutOfMemory) }
+    ensures { IfOk result (λ bytes. bytes.items ≡ loaded_bytes world.now kinds.now lights.now elapsed at rest.now) }
 {
     let Some(index) = world.index_of(at) else {
         unreachable!()
@@ -100,11 +103,10 @@ fn place_payload<'a>(
     kinds: &Kinds,
     lights: &[ChunkLight],
     elapsed: u32,
-) -> Result<Option<Payload<'a>>, Fault>
+) -> Result<Option<Payload<'a>>, AllocError>
     requires can { CanSave world.now kinds.now lights.now elapsed }
     requires slot { IsSlotOf (height_of world.now) (positions_of world.now) at slot.now }
-    ensures ok { IfOk result (λ p. option_map payload_items p ≡ slot_payload world.now kinds.now lights.now elapsed at (Some slot.now)) }
-    ensures err { IfErr result (λ e. e ≡ OutOfMemory) }
+    ensures { IfOk result (λ p. option_map payload_items p ≡ slot_payload world.now kinds.now lights.now elapsed at (Some slot.now)) }
 {
     match slot {
         Slot::Absent => Ok(None),
@@ -124,11 +126,10 @@ fn payloads<'a>(
     kinds: &Kinds,
     lights: &[ChunkLight],
     elapsed: u32,
-) -> Result<Vec<Option<Payload<'a>>>, Fault>
+) -> Result<Vec<Option<Payload<'a>>>, AllocError>
     requires can { CanSave world.now kinds.now lights.now elapsed }
     requires region { IsRegionOf (height_of world.now) (positions_of world.now) region.now }
-    ensures ok { IfOk result (λ ps. map (option_map payload_items) ps.items ≡ region_payloads world.now kinds.now lights.now elapsed region.now) }
-    ensures err { IfErr result (λ e. e ≡ OutOfMemory) }
+    ensures { IfOk result (λ ps. map (option_map payload_items) ps.items ≡ region_payloads world.now kinds.now lights.now elapsed region.now) }
 {
     let mut payloads = Vec::new(alloc);
     for index in 0..1024 {

@@ -1,7 +1,6 @@
 //! What was read of regions, split into a world and a rest.
-ghost use Rattle.std.specs.Prelude.{◌≡◌, ◌<◌, ◌≤◌, ◌++◌, IfOk, IfErr, OnOk, false, length, map};
+ghost use Rattle.std.specs.Prelude.{◌≡◌, ◌<◌, ◌≤◌, ◌++◌, IfOk, OnOk, false, length, map};
 ghost use Rattle.std.specs.List.{All, flat_map};
-ghost use Rattle.av_types.specs.declared.fault.Fault.TheVariants.{OutOfMemory};
 ghost use Rattle.av_types.specs.Places.{IsInLimits, region_of};
 ghost use Rattle.av_world.specs.Inserted.{IsNewChunk};
 ghost use Rattle.av_world.specs.Views.{is_broken};
@@ -11,9 +10,9 @@ use crate::places::Place;
 use crate::regions::ReadRegion;
 use crate::rest::{RegionRest, Slot};
 use av_chunk::Chunk;
-use av_types::{ChunkPos, Fault, Height, RegionPos};
+use av_types::{ChunkPos, Height, RegionPos};
 use av_world::World;
-use std::alloc::Global;
+use std::alloc::{AllocError, Global};
 
 /// A loaded chunk and its place.
 #[derive(Drop)]
@@ -23,10 +22,9 @@ pub struct Placed {
 }
 
 /// What stays of a place. A chunk goes to those that were found.
-fn split_place(place: Place, at: ChunkPos, found: &mut Vec<Placed>) -> Result<Slot, Fault>
+fn split_place(place: Place, at: ChunkPos, found: &mut Vec<Placed>) -> Result<Slot, AllocError>
     ensures slot { IfOk result (λ slot. slot ≡ slot_of place) }
     ensures found { OnOk result (found.new.items ≡ found.old.items ++ placed_of at place) }
-    ensures err { IfErr result (λ e. e ≡ OutOfMemory) }
 {
     match place {
         Place::Absent => Ok(Slot::Absent),
@@ -44,12 +42,11 @@ fn split_places(
     places: Vec<Place>,
     pos: RegionPos,
     found: &mut Vec<Placed>,
-) -> Result<Vec<Slot>, Fault>
+) -> Result<Vec<Slot>, AllocError>
     requires limits { IsInLimits pos }
     requires count { length places.items ≤ 1024 }
     ensures slots { IfOk result (λ slots. slots.items ≡ map slot_of places.items) }
     ensures found { OnOk result (found.new.items ≡ found.old.items ++ placed_from pos 0 places.items) }
-    ensures err { IfErr result (λ e. e ≡ OutOfMemory) }
 {
     let mut slots = Vec::new(alloc);
     for place in places {
@@ -64,12 +61,11 @@ fn split_region(
     alloc: Global,
     region: ReadRegion,
     found: &mut Vec<Placed>,
-) -> Result<RegionRest, Fault>
+) -> Result<RegionRest, AllocError>
     requires limits { IsInLimits region.pos }
     requires count { length region.places.items ≤ 1024 }
     ensures rest { IfOk result (IsSplit region) }
     ensures found { OnOk result (found.new.items ≡ found.old.items ++ placed_in region) }
-    ensures err { IfErr result (λ e. e ≡ OutOfMemory) }
 {
     let ReadRegion {
         pos,
@@ -85,12 +81,11 @@ pub(crate) fn split_regions(
     alloc: Global,
     regions: Vec<ReadRegion>,
     found: &mut Vec<Placed>,
-) -> Result<Vec<RegionRest>, Fault>
+) -> Result<Vec<RegionRest>, AllocError>
     requires limits { All (λ r. IsInLimits r.pos) regions.items }
     requires count { All (λ r. length r.places.items ≤ 1024) regions.items }
     ensures rest { IfOk result (λ rests. AreSplit regions.items rests.items) }
     ensures found { OnOk result (found.new.items ≡ found.old.items ++ flat_map placed_in regions.items) }
-    ensures err { IfErr result (λ e. e ≡ OutOfMemory) }
 {
     let mut rests = Vec::new(alloc);
     for region in regions {
@@ -100,17 +95,22 @@ pub(crate) fn split_regions(
 }
 
 /// A world of chunks, in the order of their places.
-pub(crate) fn world_of(alloc: Global, height: Height, found: Vec<Placed>) -> Result<World, Fault>
+pub(crate) fn world_of(
+    alloc: Global,
+    height: Height,
+    found: Vec<Placed>,
+) -> Result<World, AllocError>
     requires limits { All (λ x. IsInLimits (region_of x.at)) found.items }
     requires fits { All (λ x. IsNewChunk x.at height x.chunk) found.items }
     requires once { ArePlacedOnce found.items }
     ensures world { IfOk result (IsWorldOf height found.items) }
     ensures sound { IfOk result (λ w. is_broken w ≡ false) }
-    ensures err { IfErr result (λ e. e ≡ OutOfMemory) }
 {
     let mut world = World::new(alloc, height);
     for placed in found {
-        world.insert(placed.at, placed.chunk)?;
+        let Ok(()) = world.insert(placed.at, placed.chunk) else {
+            return Err(AllocError);
+        };
     }
     Ok(world)
 }

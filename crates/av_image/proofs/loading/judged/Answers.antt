@@ -30,22 +30,22 @@ pub returns-then-not-do_rise-clause-err : goal.returns-then-not-do_rise-clause-e
 returns-then-not-do_rise-clause-err c =
     let fs = map file_in c.args.files.items in
     let low = limits_in c.args.files.items c.as_slice.result.now c.are_in_limits.result c.as_slice.ensures.value c.are_in_limits.ensures.0 c.if-not-are_in_limits.false in
-    λ other. repeated low (rises_not fs (rise_is c.in_ok-files.files.items c.as_slice-2.result.now c.do_rise.result false c.as_slice-2.ensures.value (in_order fs) c.in_ok-files.ensures.ok c.do_rise.ensures c.if-not-do_rise.true)) refl
+    λ other. repeated low (rises_not fs (rise_is c.in_ok-files.files.items c.as_slice-2.result.now c.do_rise.result false c.as_slice-2.ensures.value (in_order fs) c.in_ok-files.ensures c.do_rise.ensures c.if-not-do_rise.true)) refl
 
 pub returns-clause-ok : goal.returns-clause-ok
 returns-clause-ok c =
     let fs = map file_in c.args.files.items in
     let low = limits_in c.args.files.items c.as_slice.result.now c.are_in_limits.result c.as_slice.ensures.value c.are_in_limits.ensures.0 c.if-not-are_in_limits.false in
-    let rise : regions_rise (map (λ f. f.pos) (in_order fs)) ≡ true = rise_is c.in_ok-files.files.items c.as_slice-2.result.now c.do_rise.result true c.as_slice-2.ensures.value (in_order fs) c.in_ok-files.ensures.ok c.do_rise.ensures c.if-not-do_rise.false in
+    let rise : regions_rise (map (λ f. f.pos) (in_order fs)) ≡ true = rise_is c.in_ok-files.files.items c.as_slice-2.result.now c.do_rise.result true c.as_slice-2.ensures.value (in_order fs) c.in_ok-files.ensures c.do_rise.ensures c.if-not-do_rise.false in
     record {
       limits = low;
       apart = rises_apart fs rise;
-      order = c.in_ok-files.ensures.ok;
-      rise = subst (λ (gs : List File). regions_rise (map (λ f. f.pos) gs) ≡ true) (sym c.in_ok-files.ensures.ok) rise;
+      order = c.in_ok-files.ensures;
+      rise = subst (λ (gs : List File). regions_rise (map (λ f. f.pos) gs) ≡ true) (sym c.in_ok-files.ensures) rise;
     }
 
 pub returns-clause-limits : goal.returns-clause-limits
 returns-clause-limits c =
     let fs = map file_in c.args.files.items in
     let low = limits_in c.args.files.items c.as_slice.result.now c.are_in_limits.result c.as_slice.ensures.value c.are_in_limits.ensures.0 c.if-not-are_in_limits.false in
-    limits_all c.in_ok-files.files.items (subst AllInLimits (sym c.in_ok-files.ensures.ok) (limits_ordered fs low))
+    limits_all c.in_ok-files.files.items (subst AllInLimits (sym c.in_ok-files.ensures) (limits_ordered fs low))

@@ -34,19 +34,19 @@ split_regions-requires-clause-count c = counts_of c.args.height (states c.read_r
 pub world_of-requires-clause-limits : goal.world_of-requires-clause-limits
 world_of-requires-clause-limits c =
     let rs = c.in_ok-regions.regions.items in
-    let is : c.in_ok-found.found.items ≡ ordered placed_order (flat_map placed_in rs) = c.in_ok-found.ensures.ok ∙ ap (ordered placed_order) (c.in_ok-regions-2.ensures.found ∙ ap (λ (l : List Placed). l ++ flat_map placed_in rs) c.new-found.ensures.items) in
+    let is : c.in_ok-found.found.items ≡ ordered placed_order (flat_map placed_in rs) = c.in_ok-found.ensures ∙ ap (ordered placed_order) (c.in_ok-regions-2.ensures.found ∙ ap (λ (l : List Placed). l ++ flat_map placed_in rs) c.new-found.ensures.items) in
     subst (λ (xs : List Placed). All (λ x. IsInLimits (region_of x.at)) xs) (sym is) (placed_limits c.args.height (states c.read_regions.new.table) (map file_in c.in_ok-files.files.items) rs (some (states c.read_regions.new.table) c.read_regions.new.table.numbered.begins) c.in_ok-regions.ensures.ok.each)
 
 pub world_of-requires-clause-fits : goal.world_of-requires-clause-fits
 world_of-requires-clause-fits c =
     let rs = c.in_ok-regions.regions.items in
-    let is : c.in_ok-found.found.items ≡ ordered placed_order (flat_map placed_in rs) = c.in_ok-found.ensures.ok ∙ ap (ordered placed_order) (c.in_ok-regions-2.ensures.found ∙ ap (λ (l : List Placed). l ++ flat_map placed_in rs) c.new-found.ensures.items) in
+    let is : c.in_ok-found.found.items ≡ ordered placed_order (flat_map placed_in rs) = c.in_ok-found.ensures ∙ ap (ordered placed_order) (c.in_ok-regions-2.ensures.found ∙ ap (λ (l : List Placed). l ++ flat_map placed_in rs) c.new-found.ensures.items) in
     subst (λ (xs : List Placed). All (λ x. IsNewChunk x.at c.args.height x.chunk) xs) (sym is) (placed_fit c.args.height (states c.read_regions.new.table) (map file_in c.in_ok-files.files.items) rs (some (states c.read_regions.new.table) c.read_regions.new.table.numbered.begins) c.in_ok-regions.ensures.ok.each)
 
 pub world_of-requires-clause-once : goal.world_of-requires-clause-once
 world_of-requires-clause-once c =
     let rs = c.in_ok-regions.regions.items in
-    let is : c.in_ok-found.found.items ≡ ordered placed_order (flat_map placed_in rs) = c.in_ok-found.ensures.ok ∙ ap (ordered placed_order) (c.in_ok-regions-2.ensures.found ∙ ap (λ (l : List Placed). l ++ flat_map placed_in rs) c.new-found.ensures.items) in
+    let is : c.in_ok-found.found.items ≡ ordered placed_order (flat_map placed_in rs) = c.in_ok-found.ensures ∙ ap (ordered placed_order) (c.in_ok-regions-2.ensures.found ∙ ap (λ (l : List Placed). l ++ flat_map placed_in rs) c.new-found.ensures.items) in
     subst ArePlacedOnce (sym is) (placed_once c.args.height (states c.read_regions.new.table) (map file_in c.in_ok-files.files.items) rs c.in_ok-regions.ensures.ok.each c.in_ok-files.ensures.ok.rise)
 
 pub returns-clause-ok : goal.returns-clause-ok
@@ -58,7 +58,7 @@ returns-clause-ok c =
     let t = states c.read_regions.new.table in
     let fs = map file_in c.args.files.items in
     let judged = c.in_ok-files.ensures.ok in
-    let is : c.in_ok-found.found.items ≡ ordered placed_order (flat_map placed_in rs) = c.in_ok-found.ensures.ok ∙ ap (ordered placed_order) (c.in_ok-regions-2.ensures.found ∙ ap (λ (l : List Placed). l ++ flat_map placed_in rs) c.new-found.ensures.items) in
+    let is : c.in_ok-found.found.items ≡ ordered placed_order (flat_map placed_in rs) = c.in_ok-found.ensures ∙ ap (ordered placed_order) (c.in_ok-regions-2.ensures.found ∙ ap (λ (l : List Placed). l ++ flat_map placed_in rs) c.new-found.ensures.items) in
     let world : IsWorldOf h (flat_map placed_in rs) w = world_ordered h (flat_map placed_in rs) w (subst (λ (xs : List Placed). IsWorldOf h xs w) is c.in_ok-world.ensures.world) in
     let was : WereRegionsRead h t (in_order fs) rs = subst (λ (gs : List File). WereRegionsRead h t gs rs) judged.order c.in_ok-regions.ensures.ok.each in
     let good : AreFilesGood h (states c.args.table.now) (in_order fs) t = subst (λ (gs : List File). AreFilesGood h (states c.args.table.now) gs t) judged.order c.in_ok-regions.ensures.ok.good in
@@ -78,7 +78,7 @@ returns-clause-whole c =
     let w = c.in_ok-world.world in
     let h = c.args.height in
     let t = states c.read_regions.new.table in
-    let is : c.in_ok-found.found.items ≡ ordered placed_order (flat_map placed_in rs) = c.in_ok-found.ensures.ok ∙ ap (ordered placed_order) (c.in_ok-regions-2.ensures.found ∙ ap (λ (l : List Placed). l ++ flat_map placed_in rs) c.new-found.ensures.items) in
+    let is : c.in_ok-found.found.items ≡ ordered placed_order (flat_map placed_in rs) = c.in_ok-found.ensures ∙ ap (ordered placed_order) (c.in_ok-regions-2.ensures.found ∙ ap (λ (l : List Placed). l ++ flat_map placed_in rs) c.new-found.ensures.items) in
     let world : IsWorldOf h (flat_map placed_in rs) w = world_ordered h (flat_map placed_in rs) w (subst (λ (xs : List Placed). IsWorldOf h xs w) is c.in_ok-world.ensures.world) in
     whole_read h t (map file_in c.in_ok-files.files.items) rs w c.in_ok-regions.ensures.ok.each world (some t c.read_regions.new.table.numbered.begins)
 
@@ -91,7 +91,7 @@ returns-clause-rest c =
     let t = states c.read_regions.new.table in
     let fs = map file_in c.args.files.items in
     let judged = c.in_ok-files.ensures.ok in
-    let is : c.in_ok-found.found.items ≡ ordered placed_order (flat_map placed_in rs) = c.in_ok-found.ensures.ok ∙ ap (ordered placed_order) (c.in_ok-regions-2.ensures.found ∙ ap (λ (l : List Placed). l ++ flat_map placed_in rs) c.new-found.ensures.items) in
+    let is : c.in_ok-found.found.items ≡ ordered placed_order (flat_map placed_in rs) = c.in_ok-found.ensures ∙ ap (ordered placed_order) (c.in_ok-regions-2.ensures.found ∙ ap (λ (l : List Placed). l ++ flat_map placed_in rs) c.new-found.ensures.items) in
     let world : IsWorldOf h (flat_map placed_in rs) w = world_ordered h (flat_map placed_in rs) w (subst (λ (xs : List Placed). IsWorldOf h xs w) is c.in_ok-world.ensures.world) in
     let was : WereRegionsRead h t (in_order fs) rs = subst (λ (gs : List File). WereRegionsRead h t gs rs) judged.order c.in_ok-regions.ensures.ok.each in
     let rise : regions_rise (map (λ f. f.pos) (in_order fs)) ≡ true = subst (λ (gs : List File). regions_rise (map (λ f. f.pos) gs) ≡ true) judged.order judged.rise in

@@ -33,10 +33,10 @@ written_chunk-requires c =
     c.args.rest.now c.index-lights-index.result c.requires.place c.requires.height
     (lit c.args.world.now c.args.kinds.now c.args.lights.now c.args.elapsed c.in-Some.index c.index-lights-index.result c.requires.can less c.index-lights-index.is)
 
-pub returns-clause-ok : goal.returns-clause-ok
-returns-clause-ok c =
+pub returns : goal.returns
+returns c =
     let less = below c.args.world.now c.args.kinds.now c.args.lights.now c.args.elapsed c.in-Some.index c.args.at c.requires.can c.in-Some.ensures.found in
-    if_ok_then c.written_chunk.result c.written_chunk.ensures.ok (λ bytes is. is ∙ ap written_document
+    if_ok_then c.written_chunk.result c.written_chunk.ensures (λ bytes is. is ∙ ap written_document
     (written_is c.args.world.now c.args.kinds.now c.args.lights.now c.args.elapsed c.requires.can c.args.at c.chunk.result.now c.requires.there (c.chunk.ensures.contents c.args.at c.in-Some.ensures.found)
     c.args.rest.now c.index-lights-index.result c.requires.place c.requires.height
     (lit c.args.world.now c.args.kinds.now c.args.lights.now c.args.elapsed c.in-Some.index c.index-lights-index.result c.requires.can less c.index-lights-index.is)

@@ -44,9 +44,9 @@ loop-index-preserved c =
     let less : c.loop-index.index < length r.slots.items = omega (arith, c.loop-index-test.true, c.requires.region.slots) in
     let there = slice_get_read r.slots.items (length r.slots.items) c.loop-index.index c.index.result.now refl less c.index.ensures in
     one_more c.args.world.now c.args.kinds.now c.args.lights.now c.args.elapsed r c.loop-index.payloads.items c.push.new.self.items c.loop-index.index c.in_ok-place_payload.field-0 c.chunk_at-at.result c.index.result.now
-    c.in_ok-push.ensures.items c.loop-index.invariant c.chunk_at-at.ensures there c.in_ok-place_payload.ensures.ok
+    c.in_ok-push.ensures.items c.loop-index.invariant c.chunk_at-at.ensures there c.in_ok-place_payload.ensures
 
-pub returns-clause-ok : goal.returns-clause-ok
-returns-clause-ok c =
+pub returns : goal.returns
+returns c =
     at_end c.args.world.now c.args.kinds.now c.args.lights.now c.args.elapsed c.args.region.now (map (option_map payload_items) c.loop-index.payloads.items) c.loop-index.index 1024
     c.loop-index.auto.index-end c.loop-index-test.false c.loop-index.invariant

@@ -38,14 +38,14 @@ fitting X (Some i) p result x is m = absurd (apart X x (ChunkTooLarge (chunk_at 
 pub write-requires-clause-payloads : goal.write-requires-clause-payloads
 write-requires-clause-payloads c =
     let r = c.args.region.now in
-    let same : map (option_map payload_items) c.as_slice.result.now ≡ region_payloads c.args.world.now c.args.kinds.now c.args.lights.now c.args.elapsed r = ap (map (option_map payload_items)) c.as_slice.ensures.value ∙ c.in_ok-contents.ensures.ok in
+    let same : map (option_map payload_items) c.as_slice.result.now ≡ region_payloads c.args.world.now c.args.kinds.now c.args.lights.now c.args.elapsed r = ap (map (option_map payload_items)) c.as_slice.ensures.value ∙ c.in_ok-contents.ensures in
     sym (length-map c.as_slice.result.now (option_map payload_items))
     ∙ (ap length same ∙ length-map-range_with_len (λ i. slot_payload c.args.world.now c.args.kinds.now c.args.lights.now c.args.elapsed (chunk_at r.pos i) (slice_get r.slots.items i)) 0 1024)
 
 pub returns-clause-ok : goal.returns-clause-ok
 returns-clause-ok c =
     let r = c.args.region.now in
-    let same : map (option_map payload_items) c.as_slice.result.now ≡ region_payloads c.args.world.now c.args.kinds.now c.args.lights.now c.args.elapsed r = ap (map (option_map payload_items)) c.as_slice.ensures.value ∙ c.in_ok-contents.ensures.ok in
+    let same : map (option_map payload_items) c.as_slice.result.now ≡ region_payloads c.args.world.now c.args.kinds.now c.args.lights.now c.args.elapsed r = ap (map (option_map payload_items)) c.as_slice.ensures.value ∙ c.in_ok-contents.ensures in
     let stamps : c.as_slice-2.result.now ≡ r.stamps.items = c.as_slice-2.ensures.value in
     let made : List ℕ → File = λ b. record { pos = r.pos; bytes = b } in
     ap made (c.in_ok-bytes.ensures.ok ∙ (λ i. region_bytes (same i) (stamps i)))
@@ -53,7 +53,7 @@ returns-clause-ok c =
 pub returns-clause-fits : goal.returns-clause-fits
 returns-clause-fits c =
     let r = c.args.region.now in
-    let same : map (option_map payload_items) c.as_slice.result.now ≡ region_payloads c.args.world.now c.args.kinds.now c.args.lights.now c.args.elapsed r = ap (map (option_map payload_items)) c.as_slice.ensures.value ∙ c.in_ok-contents.ensures.ok in
+    let same : map (option_map payload_items) c.as_slice.result.now ≡ region_payloads c.args.world.now c.args.kinds.now c.args.lights.now c.args.elapsed r = ap (map (option_map payload_items)) c.as_slice.ensures.value ∙ c.in_ok-contents.ensures in
     sym (ap (λ ps. option_map (chunk_at r.pos) (first_too_large ps)) same)
     ∙ fitting _ (first_too_large (map (option_map payload_items) c.as_slice.result.now)) r.pos c.write.result c.in_ok-bytes.bytes c.in_ok-bytes.was c.write.ensures.err
 
@@ -61,7 +61,7 @@ pub returns-in_err-bytes-clause-err : goal.returns-in_err-bytes-clause-err
 returns-in_err-bytes-clause-err c =
     let r = c.args.region.now in
     let e = c.in_err-bytes.field-0.0 in
-    let same : map (option_map payload_items) c.as_slice.result.now ≡ region_payloads c.args.world.now c.args.kinds.now c.args.lights.now c.args.elapsed r = ap (map (option_map payload_items)) c.as_slice.ensures.value ∙ c.in_ok-contents.ensures.ok in
+    let same : map (option_map payload_items) c.as_slice.result.now ≡ region_payloads c.args.world.now c.args.kinds.now c.args.lights.now c.args.elapsed r = ap (map (option_map payload_items)) c.as_slice.ensures.value ∙ c.in_ok-contents.ensures in
     err_from c.from_residual-in_err-bytes.result e (λ x. x ≢ OutOfMemory → option_map ChunkTooLarge (region_unsaved c.args.world.now c.args.kinds.now c.args.lights.now c.args.elapsed r) ≡ Some x) c.from_residual-in_err-bytes.ensures.1
     (λ other. ap (option_map ChunkTooLarge) (sym (ap (λ ps. option_map (chunk_at r.pos) (first_too_large ps)) same))
     ∙ refused _ (first_too_large (map (option_map payload_items) c.as_slice.result.now)) r.pos c.write.result e c.in_err-bytes.was c.write.ensures.err other)

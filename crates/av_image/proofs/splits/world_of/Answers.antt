@@ -32,6 +32,6 @@ loop-placed-preserved c =
       split = append_assoc c.loop-placed.yielded (x ∷ []) rest ∙ split;
       limits = All-tail (λ x. IsInLimits (region_of x.at)) x rest limits;
       fits = All-tail (λ x. IsNewChunk x.at c.args.height x.chunk) x rest fits;
-      world = world_more c.args.height c.loop-placed.world c.insert.new.self c.loop-placed.yielded x c.loop-placed.invariant.world new c.in_ok-insert.ensures.height c.in_ok-insert.ensures.positions c.in_ok-insert.ensures.grid c.in_ok-insert.ensures.lists;
+      world = world_more c.args.height c.loop-placed.world c.insert.new.self c.loop-placed.yielded x c.loop-placed.invariant.world new c.in-Ok.ensures.height c.in-Ok.ensures.positions c.in-Ok.ensures.grid c.in-Ok.ensures.lists;
       sound = c.insert.ensures.broken ∙ c.loop-placed.invariant.sound;
     }
