@@ -67,6 +67,7 @@ pub fn can_enter<C: Cells>(cells: &C, kinds: &Kinds, pos: Pos) -> bool
 
 /// Whether a block has a hole: the block below is wet or can be entered.
 #[tactic(auto, using(crate::proofs::Loaded::wet_or_dry_and_open), unfolding(crate::specs::Rule::has_hole, crate::specs::Rule::can_enter))]
+#[inline(always)]
 pub fn has_hole<C: Cells>(cells: &C, kinds: &Kinds, pos: Pos) -> bool
     requires inner { IsInner pos }
     requires kinds { HasKinds (kind_count kinds.now) (C.world cells.now) }

@@ -57,7 +57,7 @@ fn corner_of(at: Pos, east: bool, high: bool, south: bool) -> Pos
 fn is_new(end: bool, low: i32, high: i32) -> bool
     ensures { result ≡ is_new end low high }
 {
-    !(end && low.div_euclid(16) == high.div_euclid(16))
+    !(end && low >> 4 == high >> 4)
 }
 
 /// Whether an end to the east is in another section, where it is meant.

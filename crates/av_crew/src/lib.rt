@@ -4,6 +4,7 @@
 pub mod counts;
 pub mod gates;
 pub mod jobs;
+mod pages;
 pub mod parts;
 pub mod runs;
 pub mod ticking;

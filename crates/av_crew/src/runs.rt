@@ -12,6 +12,7 @@ ghost use Rattle.av_crew.specs.Counts.{is_count_of_workers};
 
 use crate::counts::Workers;
 use crate::gates::Gate;
+use crate::pages::keep_pages;
 use crate::ticks::tick_or_give_up;
 use av_edits::Edit;
 use av_rules::Kinds;
@@ -52,6 +53,7 @@ pub fn run_ticks<R: Threads + Wait + Sync, G: Gate + Sync>(
     ensures fault { IfErr result (λ e. e ≡ (if is_count_of_workers workers then (if is_broken world.old then Broken else OutOfMemory) else BadCount)) }
 {
     let workers = Workers::new(workers)?;
+    keep_pages(alloc);
     run_ticks_with(
         alloc,
         world,

@@ -99,9 +99,9 @@ impl Pos {
         ensures { result ≡ section_of self }
     {
         SectionPos {
-            x: self.x.div_euclid(16),
-            y: self.y.div_euclid(16),
-            z: self.z.div_euclid(16),
+            x: self.x >> 4,
+            y: self.y >> 4,
+            z: self.z >> 4,
         }
     }
 
