@@ -36,9 +36,9 @@ use Rattle.av_chunk.specs.declared.water.Ticks.{Ticks}
 use Rattle.av_chunk.specs.Rest.{rest_with, offset_of, found_outside}
 use Rattle.av_chunk.specs.Views.{section_in, state_in, cells_of, rest_of}
 use Rattle.av_chunk.specs.Reading.{IsLoaded}
-use Rattle.av_chunk.specs.Pending.{SlotAdds, is_entry_at, MarksPending}
+use Rattle.av_chunk.specs.Pending.{SlotAddsAll, is_entry_at, MarksPending}
 use Rattle.av_chunk.specs.TicksRead.{AreTicks}
-use Rattle.av_chunk.specs.SectionsRead.{are_too_many, SlotHas, AreRead}
+use Rattle.av_chunk.specs.SectionsRead.{are_too_many, SlotHas, AreSectionsRead}
 use Rattle.av_chunk.specs.Reading.{IsAdmitted}
 use Rattle.av_chunk.proofs.Admitted.{first_loaded}
 use Rattle.av_chunk.proofs.WaterIn.{AreIn, and_left, and_right, water_in, pending_at}
@@ -55,7 +55,7 @@ pub record Filled (table : List BlockState) (cell : ℕ → BlockState) (test : 
   pub numbers : (i : ℕ) → i < 4096 → slice_get table (number_at value i) ≡ Some (cell i)
   pub pending : (i : ℕ) → section.is_pending value i ≡ test i
 
-filled : (table : List BlockState) (cell : ℕ → BlockState) (test : ℕ → Bool) (old now : Option Section) → SlotHas table cell old → SlotAdds old now test → Filled table cell test now
+filled : (table : List BlockState) (cell : ℕ → BlockState) (test : ℕ → Bool) (old now : Option Section) → SlotHas table cell old → SlotAddsAll old now test → Filled table cell test now
 filled table cell test None now s a = absurd s
 filled table cell test (Some x) None s a = absurd a
 filled table cell test (Some x) (Some v) s a = record {
@@ -72,7 +72,7 @@ few_states table more new e p = let q : length (with_states table more) ≤ most
 
 pub record Parts (c : ChunkPos) (h : Height) (root : List NamedTag) (old new : List BlockState) (read : Sections) (t : Ticks) (chunk : Chunk) (tags : List Named) : Type 0 where
   pub admitted : IsAdmitted h c root
-  pub read_are : AreRead h (sections root) old new read
+  pub read_are : AreSectionsRead h (sections root) old new read
   pub ticks_are : AreTicks c h (ticks root) t
   pub few : length new ≤ most_states
   pub water : entries chunk.ticks ≡ entries t.water

@@ -13,7 +13,7 @@ use Rattle.av_document.specs.Chunk.{section_number, is_in_height, section_faults
 use Rattle.av_state.specs.BlockState.{BlockState}
 use Rattle.av_state.specs.StateList.{with_state, with_states, most_states, same_state}
 use Rattle.av_section.specs.BlockStates.{when, states_faults, read_states}
-use Rattle.av_section.specs.Reading.{IsRefused}
+use Rattle.av_section.specs.Reading.{IsStatesRefusal}
 use Rattle.av_chunk.specs.SectionsRead.{are_too_many, judged}
 
 -- the least of some of these stays the least beside a greater one
@@ -39,7 +39,7 @@ too_many_is : (table more : List BlockState) → most_states < length (with_stat
 too_many_is table more h = grind (arith, nat_tests)
 
 -- what a section's reader answers is the least of the faults that hold, too many states among them
-pub judged_of : (palette longs : Option Nbt) (old : List BlockState) (e : Fault) → IsRefused palette longs old e → e ≢ OutOfMemory
+pub judged_of : (palette longs : Option Nbt) (old : List BlockState) (e : Fault) → IsStatesRefusal palette longs old e → e ≢ OutOfMemory
     → judged (states_faults palette longs) old (read_states palette) ≡ Some (fault_number e)
 judged_of palette longs old OutOfMemory r ne = absurd (ne refl)
 judged_of palette longs old TooManyStates r ne = rw (r.0, too_many_is old (read_states palette) r.1) refl

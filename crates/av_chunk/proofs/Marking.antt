@@ -10,7 +10,7 @@ use Rattle.av_types.specs.declared.tick.Entry.{Entry}
 use Rattle.av_section.specs.Section.{is_pending}
 use Rattle.av_section.specs.declared.section.Section.{Section}
 use Rattle.av_chunk.specs.Rest.{offset_of}
-use Rattle.av_chunk.specs.Pending.{SlotPending, SlotAdds, is_entry_at, MarksPending}
+use Rattle.av_chunk.specs.Pending.{SlotPending, SlotAddsAll, is_entry_at, MarksPending}
 
 same_number : (n : ℕ) → nat_eq n n ≡ true
 same_number n = (Decides-eqb n n).1 refl
@@ -38,7 +38,7 @@ other_entry h done e k o i is ne =
     sym (list_any-append (is_entry_at h o i) done (e ∷ []) ∙ (ap (λ b. list_any (is_entry_at h o i) done || ((b && nat_eq i (place_of e.pos)) || false)) (ap (nat_eq o) is ∙ ne) ∙ no_more (list_any (is_entry_at h o i) done)))
 
 slot_marked : (h : Height) (done : List Entry) (e : Entry) (old now new : Option Section) (k : ℕ) → offset_of h (divided e.pos.y 16) ≡ k
-    → SlotAdds old now (λ i. list_any (is_entry_at h k i) done) → SlotPending now new (place_of e.pos) → SlotAdds old new (λ i. list_any (is_entry_at h k i) (done ++ e ∷ []))
+    → SlotAddsAll old now (λ i. list_any (is_entry_at h k i) done) → SlotPending now new (place_of e.pos) → SlotAddsAll old new (λ i. list_any (is_entry_at h k i) (done ++ e ∷ []))
 slot_marked h done e None None None k o a p = tt
 slot_marked h done e None None (Some d) k o a p = absurd p
 slot_marked h done e None (Some b) new k o a p = absurd a
@@ -49,7 +49,7 @@ slot_marked h done e (Some x) (Some b) (Some d) k o a p = record {
   pending = λ i. p.pending i ∙ (ap (λ v. if nat_eq i (place_of e.pos) then true else v) (a.pending i) ∙ (bits (is_pending x i) (list_any (is_entry_at h k i) done) (nat_eq i (place_of e.pos)) ∙ ap (λ v. is_pending x i || v) (sym (this_entry h done e k i o))));
 }
 
-slot_same : (old now : Option Section) (t u : ℕ → Bool) → ((i : ℕ) → t i ≡ u i) → SlotAdds old now t → SlotAdds old now u
+slot_same : (old now : Option Section) (t u : ℕ → Bool) → ((i : ℕ) → t i ≡ u i) → SlotAddsAll old now t → SlotAddsAll old now u
 slot_same None None t u e a = tt
 slot_same None (Some b) t u e a = absurd a
 slot_same (Some x) None t u e a = absurd a
@@ -57,7 +57,7 @@ slot_same (Some x) (Some b) t u e a = record { numbers = a.numbers; pending = λ
 
 slot_at : (h : Height) (done : List Entry) (e : Entry) (old now : List (Option Section)) (new : Option Section) (k o : ℕ) → offset_of h (divided e.pos.y 16) ≡ k → k < length now
     → SlotPending (get_or now k None) new (place_of e.pos) → MarksPending h done old now → (b : Bool) → Decides b (o ≡ k) → nat_eq o k ≡ b
-    → SlotAdds (get_or old o None) (get_or (slice_set now k new) o None) (λ i. list_any (is_entry_at h o i) (done ++ e ∷ []))
+    → SlotAddsAll (get_or old o None) (get_or (slice_set now k new) o None) (λ i. list_any (is_entry_at h o i) (done ++ e ∷ []))
 slot_at h done e old now new k o is l p m true d n =
     let same : o ≡ k = d.0 refl in
     rw (same, get_or-set_same now k new None l) (slot_marked h done e (get_or old k None) (get_or now k None) new k is (m.slots k) p)

@@ -14,7 +14,7 @@ use Rattle.av_chunk.specs.declared.rest.SectionTags.{SectionTags}
 use Rattle.av_chunk.specs.declared.rest.OutsideSection.{OutsideSection}
 use Rattle.av_chunk.specs.declared.sections.Part.TheVariants.{Inside, Outside}
 use Rattle.av_chunk.specs.Working.{checked_number}
-use Rattle.av_chunk.specs.SectionsRead.{AreStates, AreRefused, IsSectionRead, IsSectionRefused}
+use Rattle.av_chunk.specs.SectionsRead.{AreStates, AreStatesRefused, IsSectionRead, IsSectionRefused}
 
 good_at : (y : ℤ) (within other : Bool) → IsSome (if within && other then None else Some y) → within ≡ true → other ≡ false
 good_at y true true h e = absurd (true≢false (sym h))
@@ -44,5 +44,5 @@ inside_read h ms old new y s kept e w r t = record {
 }
 
 pub inside_refused : (h : Height) (ms : List NamedTag) (old : List BlockState) (y : ℤ) (f : Fault) → section_number ms ≡ Some y → is_section_of h y ≡ true
-    → AreRefused (block_states_of ms) old f → IsSectionRefused h ms old f
+    → AreStatesRefused (block_states_of ms) old f → IsSectionRefused h ms old f
 inside_refused h ms old y f e w r = record { first = λ ne. rw (e, w) (r.first ne) }

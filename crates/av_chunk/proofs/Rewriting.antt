@@ -26,7 +26,7 @@ use Rattle.av_document.proofs.Stored.{was_read-well_formed, was_read-denotes}
 use Rattle.av_chunk.specs.Rest.{offset_of}
 use Rattle.av_chunk.specs.Views.{number_in, cells_of, rest_of}
 use Rattle.av_chunk.specs.Light.{section_count}
-use Rattle.av_chunk.specs.Reading.{IsLoaded, IsWhole}
+use Rattle.av_chunk.specs.Reading.{IsLoaded, HasAllSections}
 use Rattle.av_chunk.specs.Writing.{CanWrite, DenotesSooner, states_of_kinds, sources_of, light_of, written}
 use Rattle.av_chunk.specs.declared.chunk.Chunk.{Chunk}
 use Rattle.av_chunk.specs.declared.rest.ChunkRest.{ChunkRest}
@@ -48,7 +48,7 @@ found_longer (Some n) old more h = get_longer old more n h
 pub loaded-can_write : (c : ChunkPos) (h : Height) (d : Document) (old new : List BlockState) (chunk : Chunk) (rest : ChunkRest) (kinds : Kinds) (light : ChunkLight)
     → IsLoaded c h d old new chunk rest → OnlyGrows new (states_of_kinds kinds) → section_count light ≡ h.sections → CanWrite chunk rest kinds light 0
 loaded-can_write c h d old new chunk rest kinds light l grows lit = record {
-  whole = subst (λ k. IsWhole k chunk) (sym l.height_is) l.whole;
+  whole = subst (λ k. HasAllSections k chunk) (sym l.height_is) l.whole;
   numbered = λ p inside.
       let here : lies_in c h p ≡ true = rw (← l.place_is, ← l.height_is) inside in
       rw (l.height_is, grows.grown) (found_longer (number_in h chunk p) new grows.more (l.numbered p here));

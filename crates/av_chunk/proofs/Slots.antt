@@ -25,7 +25,7 @@ use Rattle.av_chunk.specs.declared.sections.Part.{Part}
 use Rattle.av_chunk.specs.declared.sections.Part.TheVariants.{Inside, Outside}
 use Rattle.av_chunk.specs.declared.sections.Sections.{Sections}
 use Rattle.av_chunk.specs.Rest.{offset_of, section_or_missing, found_outside}
-use Rattle.av_chunk.specs.SectionsRead.{HasCells, IsInside, IsOutside, IsPart, IsSectionRead, IsSectionRefused, or_missing, SlotHas, SlotFinds, SlotFilled, AreFilled, FilledBelow, HoldSections, AreMissing, IsPlaced, AreFound, AreRead, AreJudged, FitsHeight}
+use Rattle.av_chunk.specs.SectionsRead.{HasCells, IsInside, IsOutside, IsPart, IsSectionRead, IsSectionRefused, or_missing, SlotHas, SlotFinds, SlotFilled, AreFilled, FilledBelow, HoldSections, AreMissing, IsPartPlaced, AreFound, AreSectionsRead, AreJudged, FitsHeight}
 use Rattle.av_chunk.proofs.Heights.{offset_below, offset_apart}
 use Rattle.av_chunk.proofs.Numbers.{HasNewNumber}
 use Rattle.av_chunk.proofs.Judging.{with_states-append, first_kept, first_of, first_lesser, memory_first, memory_before}
@@ -128,7 +128,7 @@ symmetric y z e = sym_of (int_eq y z) (Decides-int_eq y z) (int_eq z y) (Decides
     sym_of false d b q e = refl
 
 pub HoldSections-inside : (h : Height) (old new : List BlockState) (rows : List (List NamedTag)) (ms : List NamedTag) (z : ℤ) (s : Section) (kept : SectionTags) (r u : Sections)
-    → OnlyGrows old new → IsInside h new ms z s kept → numbered z rows ≡ None → IsPlaced h (Inside z s kept) r u → HoldSections h old rows r → HoldSections h new (rows ++ ms ∷ []) u
+    → OnlyGrows old new → IsInside h new ms z s kept → numbered z rows ≡ None → IsPartPlaced h (Inside z s kept) r u → HoldSections h old rows r → HoldSections h new (rows ++ ms ∷ []) u
 HoldSections-inside h old new rows ms z s kept r u g p none placed held = record {
   count = ap length placed.0 ∙ (length-set r.sections.items (offset_of h z) (Some s) ∙ held.count);
   count_kept = ap length placed.1 ∙ (length-set r.kept.items (offset_of h z) (Some kept) ∙ held.count_kept);
@@ -142,7 +142,7 @@ outside_found : (y : ℤ) (rows : List (List NamedTag)) (ms : List NamedTag) (os
 outside_found y rows ms os o e t f = rw (found_outside-push y os o, numbered-push y rows ms, e, t, f) refl
 
 pub HoldSections-outside : (h : Height) (old new : List BlockState) (rows : List (List NamedTag)) (ms : List NamedTag) (o : OutsideSection) (r u : Sections)
-    → OnlyGrows old new → IsOutside h ms o → IsPlaced h (Outside o) r u → HoldSections h old rows r → HoldSections h new (rows ++ ms ∷ []) u
+    → OnlyGrows old new → IsOutside h ms o → IsPartPlaced h (Outside o) r u → HoldSections h old rows r → HoldSections h new (rows ++ ms ∷ []) u
 HoldSections-outside h old new rows ms o r u g p placed held = record {
   count = ap length placed.0 ∙ held.count;
   count_kept = ap length placed.1 ∙ held.count_kept;
@@ -152,12 +152,12 @@ HoldSections-outside h old new rows ms o r u g p placed held = record {
 }
 
 HoldSections-part : (h : Height) (old new : List BlockState) (rows : List (List NamedTag)) (ms : List NamedTag) (part : Part) (r u : Sections)
-    → OnlyGrows old new → IsPart h new ms part → HasNewNumber rows ms → IsPlaced h part r u → HoldSections h old rows r → HoldSections h new (rows ++ ms ∷ []) u
+    → OnlyGrows old new → IsPart h new ms part → HasNewNumber rows ms → IsPartPlaced h part r u → HoldSections h old rows r → HoldSections h new (rows ++ ms ∷ []) u
 HoldSections-part h old new rows ms (Inside y s kept) r u g p new_number placed held = HoldSections-inside h old new rows ms y s kept r u g p (new_number y p.number) placed held
 HoldSections-part h old new rows ms (Outside o) r u g p new_number placed held = HoldSections-outside h old new rows ms o r u g p placed held
 
 AreFound-part : (h : Height) (rows : List (List NamedTag)) (ms : List NamedTag) (start old new : List BlockState) (part : Part) (r u : Sections)
-    → OnlyGrows old new → IsSectionRead h ms old new part → HasNewNumber rows ms → IsPlaced h part r u → AreFound h rows start old r → AreFound h (rows ++ ms ∷ []) start new u
+    → OnlyGrows old new → IsSectionRead h ms old new part → HasNewNumber rows ms → IsPartPlaced h part r u → AreFound h rows start old r → AreFound h (rows ++ ms ∷ []) start new u
 AreFound-part h rows ms start old new part r u g read new_number placed before = record {
   no_fault = flat_map-append (section_faults h) rows (ms ∷ []) ∙ rw (before.no_fault, read.no_fault) refl;
   states = rw (flat_map-append (section_states h) rows (ms ∷ []), append-nil (section_states h ms), with_states-append start (flat_map (section_states h) rows) (section_states h ms), ← before.states) read.states;
@@ -165,7 +165,7 @@ AreFound-part h rows ms start old new part r u g read new_number placed before =
 }
 
 pub AreJudged-part : (h : Height) (rows : List (List NamedTag)) (ms : List NamedTag) (start old new : List BlockState) (part : Part) (r u : Sections) (refused : Option Fault)
-    → OnlyGrows old new → IsSectionRead h ms old new part → HasNewNumber rows ms → IsPlaced h part r u → AreJudged h rows start old r refused → AreJudged h (rows ++ ms ∷ []) start new u refused
+    → OnlyGrows old new → IsSectionRead h ms old new part → HasNewNumber rows ms → IsPartPlaced h part r u → AreJudged h rows start old r refused → AreJudged h (rows ++ ms ∷ []) start new u refused
 AreJudged-part h rows ms start old new part r u None g read new_number placed before = AreFound-part h rows ms start old new part r u g read new_number placed before
 AreJudged-part h rows ms start old new part r u (Some e) g read new_number placed before = λ ne. record { first = first_kept h rows ms start (fault_number e) (before ne).first read.no_fault }
 
@@ -206,9 +206,9 @@ slot_filled table y found None (Some v) a f s = rw f (record { numbers = λ i p.
 slot_filled table y found (Some x) None a f s = cc
 slot_filled table y found (Some x) (Some v) a f s = let e : v ≡ x = same_Some v x s in rw e f
 
-pub AreRead-filled : (h : Height) (rows : List (List NamedTag)) (start table : List BlockState) (r u : Sections) → take 10 table ≡ first_states → AreFound h rows start table r
-    → AreFilled r.sections.items u.sections.items → u.kept.items ≡ r.kept.items → u.outside.items ≡ r.outside.items → AreRead h rows start table u
-AreRead-filled h rows start table r u b all filled kept outside = record {
+pub AreSectionsRead-filled : (h : Height) (rows : List (List NamedTag)) (start table : List BlockState) (r u : Sections) → take 10 table ≡ first_states → AreFound h rows start table r
+    → AreFilled r.sections.items u.sections.items → u.kept.items ≡ r.kept.items → u.outside.items ≡ r.outside.items → AreSectionsRead h rows start table u
+AreSectionsRead-filled h rows start table r u b all filled kept outside = record {
   no_fault = all.no_fault;
   states = all.states;
   count = filled.count ∙ all.held.count;
@@ -244,11 +244,11 @@ FilledBelow-more old now n new l low f before = record {
 pub FilledBelow-all : (old now : List (Option Section)) (n : ℕ) → length now ≡ length old → length old ≤ n → FilledBelow n old now → AreFilled old now
 FilledBelow-all old now n l past all = record { count = l; slots = λ i p. all.filled i (omega arith) }
 
-pub section_counts : (h : Height) (part : Part) (r u : Sections) → IsPlaced h part r u → length r.sections.items ≡ h.sections → length u.sections.items ≡ h.sections
+pub section_counts : (h : Height) (part : Part) (r u : Sections) → IsPartPlaced h part r u → length r.sections.items ≡ h.sections → length u.sections.items ≡ h.sections
 section_counts h (Inside y s kept) r u p l = ap length p.0 ∙ (length-set r.sections.items (offset_of h y) (Some s) ∙ l)
 section_counts h (Outside o) r u p l = ap length p.0 ∙ l
 
-pub kept_counts : (h : Height) (part : Part) (r u : Sections) → IsPlaced h part r u → length r.kept.items ≡ h.sections → length u.kept.items ≡ h.sections
+pub kept_counts : (h : Height) (part : Part) (r u : Sections) → IsPartPlaced h part r u → length r.kept.items ≡ h.sections → length u.kept.items ≡ h.sections
 kept_counts h (Inside y s kept) r u p l = ap length p.1 ∙ (length-set r.kept.items (offset_of h y) (Some kept) ∙ l)
 kept_counts h (Outside o) r u p l = ap length p.1 ∙ l
 

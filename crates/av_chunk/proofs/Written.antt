@@ -12,7 +12,7 @@ use Rattle.av_types.specs.declared.place.Pos.{Pos}
 use Rattle.av_types.specs.declared.place.ChunkPos.{ChunkPos}
 use Rattle.av_types.specs.declared.place.Height.{Height}
 use Rattle.av_types.specs.declared.tick.Entry.{Entry}
-use Rattle.av_nbt.specs.declared.tag.Kind.TheVariants as kind
+use Rattle.av_nbt.specs.declared.tag.TagType.TheVariants as tag_type
 use Rattle.av_nbt.specs.Nbt.{Nbt, NamedTag, list, items_of}
 use Rattle.av_nbt.specs.View.{view, views}
 use Rattle.av_nbt.specs.declared.tag.Tag.{Tag}
@@ -166,16 +166,16 @@ map_map f g (x ∷ xs) = ap (λ ys. f (g x) ∷ ys) (map_map f g xs)
 
 pub ticks-written : (chunk : Chunk) (rest : ChunkRest) (kinds : Kinds) (elapsed : ℕ) (ticks : List Nbt)
     → ticks ≡ map compound_with (opened (views rest.foreign.items)) ++ map (written_entry chunk rest kinds elapsed) (entries chunk.ticks)
-    → list kind.Compound (items_of ticks) ≡ ticks_layout (sources_of kinds rest.height chunk) (rest_of rest).foreign (entries chunk.ticks) elapsed
+    → list tag_type.Compound (items_of ticks) ≡ ticks_layout (sources_of kinds rest.height chunk) (rest_of rest).foreign (entries chunk.ticks) elapsed
 ticks-written chunk rest kinds elapsed ticks e =
-    ap (λ ts. list kind.Compound (items_of ts)) (e
+    ap (λ ts. list tag_type.Compound (items_of ts)) (e
     ∙ ap (λ ts. map compound_with (opened (views rest.foreign.items)) ++ ts) (sym (map_map compound_with (λ e. entry_layout (sources_of kinds rest.height chunk e.pos) elapsed e) (entries chunk.ticks)))
     ∙ sym (map-append compound_with (opened (views rest.foreign.items)) (map (λ e. entry_layout (sources_of kinds rest.height chunk e.pos) elapsed e) (entries chunk.ticks))))
 
 pub sections-written : (chunk : Chunk) (rest : ChunkRest) (kinds : Kinds) (light : ChunkLight) (sections : List Nbt)
     → sections ≡ first_sections chunk rest kinds light 256
-    → list kind.Compound (items_of sections)
+    → list tag_type.Compound (items_of sections)
     ≡ compounds (all_of (section_at rest.place rest.height (cells_of (states_of_kinds kinds) rest.height chunk) (rest_of rest) (light_of light rest.height)) section_numbers)
 unfolding written_section
 sections-written chunk rest kinds light sections e =
-    ap (λ ts. list kind.Compound (items_of ts)) (e ∙ ap (λ ys. map compound_with (all_of (written_section chunk rest kinds light) ys)) first_numbers-all)
+    ap (λ ts. list tag_type.Compound (items_of ts)) (e ∙ ap (λ ys. map compound_with (all_of (written_section chunk rest kinds light) ys)) first_numbers-all)

@@ -22,10 +22,10 @@ pub record AddsPending (old new : Section) (test : ℕ → Bool) : Type 0 where
   pub numbers : (i : ℕ) → number_at new i ≡ number_at old i
   pub pending : (i : ℕ) → is_pending new i ≡ is_pending old i || test i
 
-abbrev pub SlotAdds : Option Section → Option Section → (ℕ → Bool) → Type 0
-SlotAdds None None test = Unit {0}
-SlotAdds (Some old) (Some new) test = AddsPending old new test
-SlotAdds _ _ test = ⊥
+abbrev pub SlotAddsAll : Option Section → Option Section → (ℕ → Bool) → Type 0
+SlotAddsAll None None test = Unit {0}
+SlotAddsAll (Some old) (Some new) test = AddsPending old new test
+SlotAddsAll _ _ test = ⊥
 
 -- an entry lies in the section at an offset, at a place of it
 abbrev pub is_entry_at : Height → ℕ → ℕ → Entry → Bool
@@ -33,4 +33,4 @@ is_entry_at h offset place e = (offset == offset_of h (divided e.pos.y 16)) && (
 
 pub record MarksPending (h : Height) (entries : List Entry) (old new : List (Option Section)) : Type 0 where
   pub count : length new ≡ length old
-  pub slots : (offset : ℕ) → SlotAdds (slice_index_or old offset None) (slice_index_or new offset None) (λ i. list_any (is_entry_at h offset i) entries)
+  pub slots : (offset : ℕ) → SlotAddsAll (slice_index_or old offset None) (slice_index_or new offset None) (λ i. list_any (is_entry_at h offset i) entries)

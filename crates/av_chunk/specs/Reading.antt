@@ -24,7 +24,7 @@ use Rattle.av_chunk.specs.declared.rest.ChunkRest.{ChunkRest}
 use Rattle.av_chunk.specs.Views.{section_in, state_in, cells_of, pending_in, rest_of}
 
 -- all sections of the height are there
-pub record IsWhole (h : Height) (chunk : Chunk) : Type 0 where
+pub record HasAllSections (h : Height) (chunk : Chunk) : Type 0 where
   pub count : length chunk.sections.items ≡ h.sections
   pub each_there : (y : ℤ) → is_section_of h y ≡ true → IsSome (section_in h chunk y)
 
@@ -34,7 +34,7 @@ pub record IsLoaded (c : ChunkPos) (h : Height) (d : Document) (old new : List B
   pub no_fault : first_fault h c old (root_tags d) ≡ None
   pub denotes : DenotesChunk c h d (cells_of new h chunk) (entries chunk.ticks) (rest_of rest)
   pub numbered : (p : Pos) → lies_in c h p ≡ true → IsSome (state_in new h chunk p)
-  pub whole : IsWhole h chunk
+  pub whole : HasAllSections h chunk
   pub within : All (λ e. lies_in c h e.pos ≡ true) (entries chunk.ticks)
   pub ints : All (HasInts 0) (entries chunk.ticks)
   pub pending : (p : Pos) → lies_in c h p ≡ true → pending_in h chunk p ≡ is_pending p (entries chunk.ticks)
@@ -61,5 +61,5 @@ pub record IsAdmitted (h : Height) (c : ChunkPos) (root : List NamedTag) : Type 
   pub place : is_elsewhere c root ≡ false
 
 -- every fault but memory is the first that holds
-pub record IsRefusal (c : ChunkPos) (h : Height) (d : Document) (old : List BlockState) (e : Fault) : Type 0 where
+pub record IsChunkRefusal (c : ChunkPos) (h : Height) (d : Document) (old : List BlockState) (e : Fault) : Type 0 where
   pub first : e ≢ OutOfMemory → first_fault h c old (root_tags d) ≡ Some (fault_number e)

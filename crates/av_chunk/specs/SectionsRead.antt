@@ -42,7 +42,7 @@ pub record AreStates (b : Option (List NamedTag)) (old new : List BlockState) (s
   pub cells : HasCells new (block_cell b) s
   pub others_are : others ≡ without (codes "data") (without (codes "palette") (or_else [] b))
 
-pub record AreRefused (b : Option (List NamedTag)) (old : List BlockState) (e : Fault) : Type 0 where
+pub record AreStatesRefused (b : Option (List NamedTag)) (old : List BlockState) (e : Fault) : Type 0 where
   pub first : e ≢ OutOfMemory → judged (block_faults b) old (block_palette b) ≡ Some (fault_number e)
 
 -- a section in the height, and one out of it
@@ -101,10 +101,10 @@ pub record AreMissing (h : Height) (r : Sections) : Type 0 where
   pub none : r.outside.items ≡ []
 
 -- one more part
-abbrev pub IsPlaced : Height → Part → Sections → Sections → Type 0
-IsPlaced h (Inside y s kept) old new =
+abbrev pub IsPartPlaced : Height → Part → Sections → Sections → Type 0
+IsPartPlaced h (Inside y s kept) old new =
     (new.sections.items ≡ slice_set old.sections.items (offset_of h y) (Some s)) × (new.kept.items ≡ slice_set old.kept.items (offset_of h y) (Some kept)) × (new.outside.items ≡ old.outside.items)
-IsPlaced h (Outside o) old new =
+IsPartPlaced h (Outside o) old new =
     (new.sections.items ≡ old.sections.items) × (new.kept.items ≡ old.kept.items) × (new.outside.items ≡ old.outside.items ++ o ∷ [])
 
 abbrev pub FitsHeight : Height → Part → Type 0
@@ -133,7 +133,7 @@ pub record FilledBelow (n : ℕ) (old now : List (Option Section)) : Type 0 wher
   pub same : (i : ℕ) → n ≤ i → slice_index_or now i None ≡ slice_index_or old i None
 
 -- what all sections are read as
-pub record AreRead (h : Height) (rows : List (List NamedTag)) (old new : List BlockState) (r : Sections) : Type 0 where
+pub record AreSectionsRead (h : Height) (rows : List (List NamedTag)) (old new : List BlockState) (r : Sections) : Type 0 where
   pub no_fault : flat_map (section_faults h) rows ≡ []
   pub states : new ≡ with_states old (flat_map (section_states h) rows)
   pub count : length r.sections.items ≡ h.sections

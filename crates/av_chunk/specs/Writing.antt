@@ -18,7 +18,7 @@ use Rattle.av_document.specs.Layout.{chunk_layout}
 use Rattle.av_document.specs.Law.{sooner}
 use Rattle.av_chunk.specs.Rest.{offset_of}
 use Rattle.av_chunk.specs.Views.{number_in, state_in, cells_of, rest_of}
-use Rattle.av_chunk.specs.Reading.{IsWhole}
+use Rattle.av_chunk.specs.Reading.{HasAllSections}
 use Rattle.av_chunk.specs.Light.{section_count, light_section}
 use Rattle.av_chunk.specs.declared.chunk.Chunk.{Chunk}
 use Rattle.av_chunk.specs.declared.rest.ChunkRest.{ChunkRest}
@@ -55,7 +55,7 @@ DenotesSooner chunk rest kinds elapsed d =
 -- A chunk that can be written: no section is out, each number is of the table, each entry lies in the chunk and its time
 -- fits an Int, and the light is that of the height's sections.
 pub record CanWrite (chunk : Chunk) (rest : ChunkRest) (kinds : Kinds) (light : ChunkLight) (elapsed : ℕ) : Type 0 where
-  pub whole : IsWhole rest.height chunk
+  pub whole : HasAllSections rest.height chunk
   pub numbered : (p : Pos) → lies_in rest.place rest.height p ≡ true → IsSome (state_in (states_of_kinds kinds) rest.height chunk p)
   pub within : All (λ e. lies_in rest.place rest.height e.pos ≡ true) (entries chunk.ticks)
   pub due : All (λ e. FitsSigned w32 (e.due -ℤ pos elapsed)) (entries chunk.ticks)

@@ -9,10 +9,10 @@ use Rattle.av_rules.specs.Kinds.{kind_count}
 use Rattle.av_types.specs.declared.tick.Entry.{Entry}
 use Rattle.av_types.specs.declared.place.Pos.{Pos}
 use Rattle.av_document.specs.Ticks.{lies_in}
-use Rattle.av_chunk.specs.Reading.{IsWhole}
+use Rattle.av_chunk.specs.Reading.{HasAllSections}
 use Rattle.av_chunk.specs.Light.{section_count}
 use Rattle.av_nbt.specs.Nbt.{Nbt, NamedTag, byte_array}
-use Rattle.av_nbt.specs.Place.{place}
+use Rattle.av_nbt.specs.Place.{with_tag}
 use Rattle.av_state.specs.BlockState.{BlockState}
 use Rattle.av_rules.specs.declared.kinds.Kinds.{Kinds}
 use Rattle.av_document.specs.Chunk.{SectionRest}
@@ -25,7 +25,7 @@ use Rattle.av_chunk.specs.declared.light.ChunkLight.{ChunkLight}
 
 -- the tags of a section, from the states of its places
 abbrev pub section_with : SectionRest → List BlockState → List ℕ → List NamedTag
-section_with rest states light = place (codes "BlockLight") (byte_array light) (place (codes "block_states") (states_layout rest.states states) rest.tags)
+section_with rest states light = with_tag (codes "BlockLight") (byte_array light) (with_tag (codes "block_states") (states_layout rest.states states) rest.tags)
 
 -- the tags of a section in the height
 unfoldable pub inside_layout : Chunk → ChunkRest → Kinds → ChunkLight → ℤ → List NamedTag
@@ -53,7 +53,7 @@ written_entry chunk rest kinds elapsed e = compound_with (entry_layout (sources_
 
 -- a chunk whose sections can be written
 pub record CanWriteSections (chunk : Chunk) (rest : ChunkRest) (kinds : Kinds) (light : ChunkLight) : Type 0 where
-  pub whole : IsWhole rest.height chunk
+  pub whole : HasAllSections rest.height chunk
   pub numbered : (p : Pos) → lies_in rest.place rest.height p ≡ true → IsSome (state_in (states_of_kinds kinds) rest.height chunk p)
   pub lit : section_count light ≡ rest.height.sections
 

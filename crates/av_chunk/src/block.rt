@@ -4,7 +4,7 @@ ghost use Rattle.av_types.specs.Places.{is_block_of};
 ghost use Rattle.av_state.specs.States.{state_of};
 ghost use Rattle.av_state.specs.Table.{states};
 ghost use Rattle.av_chunk.specs.Views.{number_in};
-ghost use Rattle.av_chunk.specs.Reading.{IsWhole};
+ghost use Rattle.av_chunk.specs.Reading.{HasAllSections};
 ghost use Rattle.av_chunk.specs.Block.{is_of_region, IsFound, IsBlockRefused, IsDenoted, IsPayloadRefused, IsNumbered, found_in};
 
 use crate::chunk::{Chunk, Reading};
@@ -56,7 +56,7 @@ fn state_in(
     pos: Pos,
     height: Height,
 ) -> Result<Option<State>, AllocError>
-    requires whole { IsWhole height chunk.now }
+    requires whole { HasAllSections height chunk.now }
     requires numbered { IsNumbered (states table.now) height chunk.now pos }
     ensures { IfOk result (λ found. option_map state_of found ≡ found_in (states table.now) height chunk.now pos) }
 {

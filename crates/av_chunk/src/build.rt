@@ -1,13 +1,13 @@
 //! Tags, put together.
 ghost use Rattle.std.specs.Prelude.{◌≡◌, [], ◌∷◌, ◌++◌, IfOk};
 ghost use Rattle.av_nbt.specs.Nbt.{list, items_of};
-ghost use Rattle.av_nbt.specs.declared.tag.Kind.TheVariants.{Compound};
-ghost use Rattle.av_nbt.specs.Place.{place};
+ghost use Rattle.av_nbt.specs.declared.tag.TagType.TheVariants.{Compound};
+ghost use Rattle.av_nbt.specs.Place.{with_tag};
 ghost use Rattle.av_nbt.specs.Shape.{compound_of, or_else};
 ghost use Rattle.av_nbt.specs.View.{view, views, named_view, named_views};
 ghost use Rattle.av_document.specs.Layout.{compound_with};
 
-use av_nbt::{Kind, Named, Tag, copy_tags, place};
+use av_nbt::{Named, Tag, TagType, copy_tags, put};
 use std::alloc::{AllocError, Global};
 
 /// A tag under a name.
@@ -24,9 +24,9 @@ pub(crate) fn placed(
     name: &[u8],
     tag: Tag,
 ) -> Result<Vec<Named>, AllocError>
-    ensures { IfOk result (λ new. named_views new.items ≡ place name.now (view tag) (named_views tags.items)) }
+    ensures { IfOk result (λ new. named_views new.items ≡ with_tag name.now (view tag) (named_views tags.items)) }
 {
-    place(&mut tags, named(alloc, name, tag)?).map_err(|_| AllocError)?;
+    put(&mut tags, named(alloc, name, tag)?).map_err(|_| AllocError)?;
     Ok(tags)
 }
 
@@ -76,5 +76,5 @@ pub(crate) fn copied_compound(alloc: Global, tag: &Tag) -> Result<Tag, AllocErro
 pub(crate) fn compounds(rows: Vec<Tag>) -> Tag
     ensures { view result ≡ list Compound (items_of (views rows.items)) }
 {
-    Tag::list(Kind::Compound, rows)
+    Tag::list(TagType::Compound, rows)
 }

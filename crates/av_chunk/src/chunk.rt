@@ -6,7 +6,7 @@ ghost use Rattle.av_nbt.specs.View.{document, view, views};
 ghost use Rattle.av_state.specs.Table.{states};
 ghost use Rattle.av_section.specs.Reading.{OnlyGrows};
 ghost use Rattle.av_document.specs.Chunk.{is_other, root_tags, share_a_number};
-ghost use Rattle.av_chunk.specs.SectionsRead.{AreRead};
+ghost use Rattle.av_chunk.specs.SectionsRead.{AreSectionsRead};
 ghost use Rattle.av_chunk.specs.TicksRead.{AreTicks, ArePartsRefused};
 ghost use Rattle.av_chunk.specs.Rest.{opened};
 ghost use Rattle.av_chunk.specs.Working.{has_other, has_bad_number, list_items, list_rows};
@@ -67,7 +67,7 @@ fn read_parts(
     requires numbers { has_bad_number height (views sections.items) ≡ false }
     requires apart { share_a_number (opened (views sections.items)) ≡ false }
     requires compounds { has_other (views ticks.items) ≡ false }
-    ensures sections { IfOk result (λ parts. AreRead height (opened (views sections.items)) (states table.old) (states table.new) parts.0) }
+    ensures sections { IfOk result (λ parts. AreSectionsRead height (opened (views sections.items)) (states table.old) (states table.new) parts.0) }
     ensures ticks { IfOk result (λ parts. AreTicks place height (opened (views ticks.items)) parts.1) }
     ensures err { IfErr result (ArePartsRefused place height (opened (views sections.items)) (opened (views ticks.items)) (states table.old)) }
     ensures table { OnlyGrows (states table.old) (states table.new) }
@@ -86,7 +86,7 @@ fn read_parts(
 
 impl Chunk {
     ghost use Rattle.av_document.specs.Stored.{IsStored};
-    ghost use Rattle.av_chunk.specs.Reading.{IsReading, IsRefusal, IsAdmitted};
+    ghost use Rattle.av_chunk.specs.Reading.{IsReading, IsChunkRefusal, IsAdmitted};
 
     /// The chunk of a document at its place. New states are numbered after those of the table, in the order of the file.
     /// The root has a spelling of at most 1,044,475 bytes, as one that was decoded from a region's payload has.
@@ -105,7 +105,7 @@ impl Chunk {
     ) -> Result<Reading, Fault>
         requires { IsStored (document root) }
         ensures ok { IfOk result (IsReading place height (document root) (states table.old) (states table.new)) }
-        ensures err { IfErr result (IsRefusal place height (document root) (states table.old)) }
+        ensures err { IfErr result (IsChunkRefusal place height (document root) (states table.old)) }
         ensures memory { IfErr result (λ e. e ≡ OutOfMemory → IsAdmitted height place (root_tags (document root))) }
         ensures table { OnlyGrows (states table.old) (states table.new) }
     {

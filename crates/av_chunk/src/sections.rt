@@ -8,7 +8,7 @@ ghost use Rattle.av_nbt.specs.View.{view, views, named_view, named_views};
 ghost use Rattle.av_state.specs.Table.{states};
 ghost use Rattle.av_section.specs.Reading.{OnlyGrows};
 ghost use Rattle.av_document.specs.Chunk.{is_other, share_a_number};
-ghost use Rattle.av_chunk.specs.SectionsRead.{AreStates, AreRefused, IsSectionRead, IsSectionRefused, AreMissing, IsPlaced, FitsHeight, SlotFilled, AreFilled, AreFound, AreRead, AreRefusedBy};
+ghost use Rattle.av_chunk.specs.SectionsRead.{AreStates, AreStatesRefused, IsSectionRead, IsSectionRefused, AreMissing, IsPartPlaced, FitsHeight, SlotFilled, AreFilled, AreFound, AreSectionsRead, AreRefusedBy};
 ghost use Rattle.av_chunk.specs.Rest.{offset_of, opened};
 ghost use Rattle.av_chunk.specs.Working.{checked_number, compound_in, tags_in, has_bad_number};
 
@@ -61,7 +61,7 @@ fn read_states(
 ) -> Result<(Section, Vec<Named>), Fault>
     requires { is_other compound_of (option_map view block_states) ≡ false }
     ensures ok { IfOk result (λ read. AreStates (compound_in (option_map view block_states)) (states table.old) (states table.new) read.0 (named_views read.1.items)) }
-    ensures err { IfErr result (AreRefused (compound_in (option_map view block_states)) (states table.old)) }
+    ensures err { IfErr result (AreStatesRefused (compound_in (option_map view block_states)) (states table.old)) }
     ensures table { OnlyGrows (states table.old) (states table.new) }
 {
     let Some(block_states) = block_states else {
@@ -149,7 +149,7 @@ impl Sections {
         requires fits { FitsHeight height part }
         requires count { length self.old.sections.items ≡ height.sections }
         requires count_kept { length self.old.kept.items ≡ height.sections }
-        ensures { OnOk result (IsPlaced height part self.old self.new) }
+        ensures { OnOk result (IsPartPlaced height part self.old self.new) }
     {
         match part {
             Part::Inside { y, section, kept } => {
@@ -220,7 +220,7 @@ pub(crate) fn read_sections(
 ) -> Result<Sections, Fault>
     requires numbers { has_bad_number height (views sections.items) ≡ false }
     requires apart { share_a_number (opened (views sections.items)) ≡ false }
-    ensures ok { IfOk result (AreRead height (opened (views sections.items)) (states table.old) (states table.new)) }
+    ensures ok { IfOk result (AreSectionsRead height (opened (views sections.items)) (states table.old) (states table.new)) }
     ensures err { IfErr result (λ e. e ≢ OutOfMemory → AreRefusedBy height (opened (views sections.items)) (states table.old) e) }
     ensures table { OnlyGrows (states table.old) (states table.new) }
 {

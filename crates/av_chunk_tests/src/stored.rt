@@ -3,7 +3,7 @@ ghost use Rattle.std.specs.Prelude.{length};
 ghost use Rattle.av_state.specs.Table.{states};
 ghost use Rattle.av_section.specs.Section.{HasNumbersBelow};
 
-use av_nbt::{Kind, Named, Tag};
+use av_nbt::{Named, Tag, TagType};
 use av_section::Section;
 use av_state::StateTable;
 use av_types::{Fault, Place};
@@ -35,7 +35,7 @@ fn entries(alloc: Global, count: u16) -> Result<Vec<Tag>, Fault> {
 
 /// A palette of so many different states.
 fn palette(alloc: Global, count: u16) -> Result<Tag, Fault> {
-    Ok(Tag::list(Kind::Compound, entries(alloc, count)?))
+    Ok(Tag::list(TagType::Compound, entries(alloc, count)?))
 }
 
 /// The fault of a palette of so many states with so many longs, of which the first is given.
@@ -92,7 +92,7 @@ fn entry_fault(
     members.push(Named::new(key, Tag::compound(properties)))?;
     let mut entries = Vec::new(alloc);
     entries.push(Tag::compound(members))?;
-    let palette = Tag::list(Kind::Compound, entries);
+    let palette = Tag::list(TagType::Compound, entries);
     let mut table = StateTable::new(alloc)?;
     Ok(Section::read(alloc, Some(&palette), None, &mut table).err())
 }
@@ -296,7 +296,7 @@ fn unused_numbers_are_not_written(rt: HostRuntime) -> Result<(), Fail> {
 fn air_is_written_without_longs(rt: HostRuntime) -> Result<(), Fail> {
     let mut entries = Vec::new(rt.alloc());
     entries.push(entry(rt.alloc(), b"minecraft:air")?)?;
-    let palette = Tag::list(Kind::Compound, entries);
+    let palette = Tag::list(TagType::Compound, entries);
     let table = StateTable::new(rt.alloc())?;
     let section = Section::filled(rt.alloc(), 0)?;
     expect_written(&rt, rt.alloc(), &section, &table, &palette, None)

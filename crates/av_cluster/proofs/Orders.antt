@@ -14,7 +14,7 @@ use Rattle.av_types.specs.Places.{section_of}
 use Rattle.av_cells.specs.Grid.{Grid, is_here, IsInSixteen}
 use Rattle.av_cells.proofs.Sections.{lies_in}
 use Rattle.av_play.specs.Corners.{corner}
-use Rattle.av_cluster.specs.Territory.{before, IsRising, is_new, is_first_there, one_if, at_corner, at_column, at_side, territory_list}
+use Rattle.av_cluster.specs.Territory.{before, AreRising, is_new, is_first_there, one_if, at_corner, at_column, at_side, territory_list}
 
 pairs_append : {X : Type 0} (R : X → X → Type 0) (xs ys : List X) → AllPairs R xs → AllPairs R ys → All (λ x. All (R x) ys) xs → AllPairs R (xs ++ ys)
 pairs_append R [] ys h k c = k
@@ -100,14 +100,14 @@ module _ (g : Grid) (p : Pos) where
   side_in : (d : Bool) → All (InSide d) (at_side g p d)
   side_in d = All-append (InSide d) (at_column g p false d) (at_column g p true d) (column_of_side false d) (column_of_side true d)
 
-  column_rises : (e d : Bool) → IsRising (at_column g p e d)
+  column_rises : (e d : Bool) → AreRising (at_column g p e d)
   column_rises e d =
       pairs_append (λ s t. IsTrue (before s t)) (at_corner g p e d false) (at_corner g p e d true) (pairs_one (λ s t. IsTrue (before s t)) _ _) (pairs_one (λ s t. IsTrue (before s t)) _ _)
       (each_one (λ s. All (λ t. IsTrue (before s t)) (at_corner g p e d true)) _ (section_of (corner p e false d)) (λ b.
       each_one (λ t. IsTrue (before (section_of (corner p e false d)) t)) _ (section_of (corner p e true d)) (λ c.
       by_y (section_of (corner p e false d)) (section_of (corner p e true d)) refl refl (later (p.y -ℤ pos 2) (p.y +ℤ pos 1) (omega (arith, ints)) (new_of e d true c).1))))
 
-  side_rises : (d : Bool) → IsRising (at_side g p d)
+  side_rises : (d : Bool) → AreRising (at_side g p d)
   side_rises d =
       pairs_append (λ s t. IsTrue (before s t)) (at_column g p false d) (at_column g p true d) (column_rises false d) (column_rises true d)
       (each_then (InColumn false d) (λ s. All (λ t. IsTrue (before s t)) (at_column g p true d)) (at_column g p false d)
@@ -115,7 +115,7 @@ module _ (g : Grid) (p : Pos) where
       (λ t k. by_x s t (h.at_z ∙ sym k.at_z) ((λ i. int_lt (h.at_x i) (k.at_x i)) ∙ later (p.x -ℤ pos 5) (p.x +ℤ pos 5) (omega (arith, ints)) k.new_x)) (column_in true d))
       (column_in false d))
 
-  pub territory_rises : IsRising (territory_list g p)
+  pub territory_rises : AreRising (territory_list g p)
   territory_rises =
       pairs_append (λ s t. IsTrue (before s t)) (at_side g p false) (at_side g p true) (side_rises false) (side_rises true)
       (each_then (InSide false) (λ s. All (λ t. IsTrue (before s t)) (at_side g p true)) (at_side g p false)

@@ -14,8 +14,8 @@ abbrev pub before : SectionPos → SectionPos → Bool
 before s t = int_lt s.z t.z || int_eq s.z t.z && (int_lt s.x t.x || int_eq s.x t.x && int_lt s.y t.y)
 
 -- in this order, and none there twice
-abbrev pub IsRising : List SectionPos → Type 0
-IsRising ss = AllPairs (λ s t. IsTrue (before s t)) ss
+abbrev pub AreRising : List SectionPos → Type 0
+AreRising ss = AllPairs (λ s t. IsTrue (before s t)) ss
 
 -- ---- The territory as a list. No public clause cites what follows.
 

@@ -10,7 +10,7 @@ ghost use Rattle.av_play.specs.Parts.{InTerritory};
 ghost use Rattle.av_play.specs.Corners.{corner};
 ghost use Rattle.av_types.specs.Places.{section_of};
 ghost use Rattle.av_cells.specs.Grid.{is_here};
-ghost use Rattle.av_cluster.specs.Territory.{is_new, one_if, corner_if, column_if, side_if, corner_list, IsRising, MeetSameSections};
+ghost use Rattle.av_cluster.specs.Territory.{is_new, one_if, corner_if, column_if, side_if, corner_list, AreRising, MeetSameSections};
 
 use arrayvec::ArrayVec;
 use av_cells::Cells;
@@ -173,7 +173,7 @@ fn add_loaded(world: &World, block: Pos, found: &mut ArrayVec<SectionPos, 8>)
 pub fn territory(world: &World, at: Pos) -> ArrayVec<SectionPos, 8>
     requires { IsTrue ((blocks world.now).loaded at) }
     ensures exact { (s : SectionPos) → Contains result.items s ↔ InTerritory (blocks world.now) at s }
-    ensures order { IsRising result.items }
+    ensures order { AreRising result.items }
 {
     let corners = corners(at);
     let mut found = ArrayVec::new();

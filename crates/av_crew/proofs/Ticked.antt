@@ -11,7 +11,7 @@ use Rattle.av_land.specs.Tick.{turned_all}
 use Rattle.av_play.specs.Play.{Outcome, in_order}
 use Rattle.av_world.specs.Appended.{entries_made, with_entries}
 use Rattle.av_world.specs.Views.{blocks, lists, site, IsSamePlaces}
-use Rattle.av_world.specs.Lands.{land_of, IsWhole}
+use Rattle.av_world.specs.Lands.{land_of, IsUncarved}
 use Rattle.av_world.specs.declared.worlds.World.{World}
 use Rattle.av_world.proofs.Whole.{cells_of_land, land_after}
 use Rattle.av_crew.specs.Gathered.{AreBroughtTogether}
@@ -40,7 +40,7 @@ module _ (k : ℕ → Kind) (now : ℕ) (es : List Entry) (mid h new : World) (m
   pub ticked_known : (n : ℕ) → 10 ≤ n → HasKinds n (blocks mid) → HasKinds n (blocks new)
   ticked_known n ten known = HasKinds-same n o.world (blocks new) (record { loaded = outcome_loaded; number = number }) (order_known k now n es (blocks mid) (lists mid) ten known)
 
-  pub ticked_land : IsWhole mid → land_of new ≡ turned_all k now es (land_of mid)
+  pub ticked_land : IsUncarved mid → land_of new ≡ turned_all k now es (land_of mid)
   ticked_land whole =
       land_after mid new o.world.number o.lists (s ∙ same_site mid h same) number listed
       ∙ sym (order_is k now es (land_of mid) ∙ ap (λ v. land_with (land_of mid) (in_order k now es v (lists mid))) (cells_of_land mid whole))

@@ -4,7 +4,7 @@ ghost use Rattle.std.specs.List.{AllZip, flat_map};
 ghost use Rattle.std.specs.List.Sorted.{IsPermutation};
 ghost use Rattle.av_types.specs.declared.fault.Fault.TheVariants.{OutOfMemory};
 ghost use Rattle.av_cells.specs.Kinds.{kinds_of};
-ghost use Rattle.av_ring.specs.Numbers.{AreDistinct};
+ghost use Rattle.av_ring.specs.Numbers.{HaveDistinctNumbers};
 ghost use Rattle.av_crew.specs.Work.{CanWork, IsDoneOf};
 ghost use Rattle.av_crew.specs.Answer.{AnswersAll};
 ghost use Rattle.av_crew.specs.Workers.{Worked, IsNewSeat, WorkedPart, IsWorkerOf, GivesBack};
@@ -231,7 +231,7 @@ pub fn work_all<R: Threads + Wait + Sync, G: Gate + Sync>(
     gate: &G,
 ) -> Result<Vec<Done>, Fault>
     requires workers { (0 < workers) × (workers ≤ 8) }
-    requires numbers { AreDistinct (λ job. job.number) jobs.items }
+    requires numbers { HaveDistinctNumbers (λ job. job.number) jobs.items }
     requires able { All (CanWork kinds.now) jobs.items }
     ensures ok { IfOk result (λ dones. AnswersAll (kinds_of kinds.now) now jobs.items dones.items) }
     ensures fault { IfErr result (λ e. e ≡ OutOfMemory) }

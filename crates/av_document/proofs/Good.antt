@@ -4,9 +4,9 @@ use Rattle.std.specs.Prelude.{FitsSigned}
 use Rattle.std.specs.Int.{w8, w16, w32, w64, to_be_bytes, cast_unsigned}
 use Rattle.std.specs.List.{AllByRecursion}
 use Rattle.std.proofs.lemmas.Option.{none-some, same_Some}
-use Rattle.av_nbt.specs.declared.tag.Kind.TheVariants as kind
-use Rattle.av_nbt.specs.Kinds.{kind_number}
-use Rattle.av_nbt.specs.Nbt.{Nbt, byte, int, byte_array, text, list, compound, long_array, Items, no_items, item, Members, no_members, member, NamedTag, kind_of, items_of, members_of, item_count, AreDistinct, AreOf, depth, items_depth, members_depth}
+use Rattle.av_nbt.specs.declared.tag.TagType.TheVariants as tag_type
+use Rattle.av_nbt.specs.TagTypes.{type_number}
+use Rattle.av_nbt.specs.Nbt.{Nbt, byte, int, byte_array, text, list, compound, long_array, Items, no_items, item, Members, no_members, member, NamedTag, tag_type_of, items_of, members_of, item_count, HaveDistinctNames, AreOf, depth, items_depth, members_depth}
 use Rattle.av_nbt.specs.Shape.{members_in, items_in, ◌>>=◌, compound_of, compounds_of, each}
 use Rattle.av_nbt.specs.Spelling.{Spells, SpellsItems, SpellsMembers, SpellsNumber, SpellsNumbers}
 use Rattle.av_document.specs.Layout.{compound_with, compounds}
@@ -24,7 +24,7 @@ pub record IsGoodNamed (k : ℕ) (m : NamedTag) : Type 0 where
 -- the tags of a Compound
 pub record AreGood (k : ℕ) (ms : List NamedTag) : Type 0 where
   pub each_good : AllByRecursion (IsGoodNamed k) ms
-  pub distinct : AreDistinct (members_of ms)
+  pub distinct : HaveDistinctNames (members_of ms)
 
 -- ---- leaves
 
@@ -73,7 +73,7 @@ members_spelled k (m ∷ ms) h =
     let more = members_spelled k ms h.1 in
     let name : List ℕ = to_be_bytes w16 (length m.name) ++ m.name in
     record {
-      bytes = kind_number (kind_of m.tag) ∷ (name ++ (h.0.good.bytes ++ more.bytes));
+      bytes = type_number (tag_type_of m.tag) ∷ (name ++ (h.0.good.bytes ++ more.bytes));
       spelled = (name, h.0.good.bytes, more.bytes, refl, record { short = h.0.short; is = refl }, h.0.good.spelled, more.spelled);
     }
 
@@ -103,7 +103,7 @@ rows_shallow : (k : ℕ) (rows : List (List NamedTag)) → AllByRecursion (AreGo
 rows_shallow k [] h = omega arith
 rows_shallow k (ms ∷ rows) h = omega (arith, (compound_good k ms h.0).shallow, rows_shallow k rows h.1)
 
-are_compounds : (rows : List (List NamedTag)) → AreOf kind.Compound (items_of (map compound_with rows))
+are_compounds : (rows : List (List NamedTag)) → AreOf tag_type.Compound (items_of (map compound_with rows))
 are_compounds [] = tt
 are_compounds (ms ∷ rows) = (refl, are_compounds rows)
 
@@ -115,7 +115,7 @@ pub compounds_good : (k : ℕ) (rows : List (List NamedTag)) → length rows < 2
 compounds_good k rows few h =
     let all = rows_spelled k rows h in
     record {
-      bytes = kind_number kind.Compound ∷ (to_be_bytes w32 (length rows) ++ all.bytes);
+      bytes = type_number tag_type.Compound ∷ (to_be_bytes w32 (length rows) ++ all.bytes);
       spelled = (pos (length rows), to_be_bytes w32 (length rows), all.bytes, refl, count_spelled (length rows) few, sym (row_count rows), are_compounds rows, all.spelled);
       shallow = omega (arith, rows_shallow k rows h);
     }
@@ -136,7 +136,7 @@ compound_parts k (compound mem) ms h e =
     let same : members_in mem ≡ ms = same_Some (members_in mem) ms e in
     let parts : AreGood k (members_in mem) = record {
       each_good = members_are_good k mem h.bytes h.spelled.1 (omega (arith, h.shallow));
-      distinct = subst AreDistinct (sym (members_back mem)) h.spelled.0;
+      distinct = subst HaveDistinctNames (sym (members_back mem)) h.spelled.0;
     } in
     subst (AreGood k) same parts
 compound_parts k _ ms h e = absurd (none-some ms e)

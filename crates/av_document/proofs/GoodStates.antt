@@ -9,7 +9,7 @@ use Rattle.std.proofs.lemmas.Bool.{and_parts}
 use Rattle.std.proofs.lemmas.List.{length-take, length-map}
 use Rattle.std.proofs.lemmas.List.Elements.{All-take, All-drop}
 use Rattle.av_types.specs.declared.tick.Entry.{Entry}
-use Rattle.av_nbt.specs.Nbt.{text, members_of, IsAbsent, AreDistinct}
+use Rattle.av_nbt.specs.Nbt.{text, members_of, LacksMember, HaveDistinctNames}
 use Rattle.av_state.specs.BlockState.{BlockState, Property, is_short, is_short_property, is_storable}
 use Rattle.av_state.proofs.Storable.{storable-name, storable-properties, storable-distinct}
 use Rattle.av_section.specs.Palette.{name_key, properties_key, property_tag, properties_tags, state_tag}
@@ -34,11 +34,11 @@ property_tags_good k (p ∷ ps) h =
     let (key, value) = and_parts (is_short p.key) (is_short p.value) first in
     (record { short = short_text p.key key; good = text_good k p.value (short_text p.value value) }, property_tags_good k ps more)
 
-key_absent : (key : List ℕ) (ps : List Property) → AllByRecursion (λ other. bytes_eq key other ≡ false) (map (λ p. p.key) ps) → IsAbsent key (members_of (map property_tag ps))
+key_absent : (key : List ℕ) (ps : List Property) → AllByRecursion (λ other. bytes_eq key other ≡ false) (map (λ p. p.key) ps) → LacksMember key (members_of (map property_tag ps))
 key_absent key [] h = tt
 key_absent key (p ∷ ps) h = (differs key p.key h.0, key_absent key ps h.1)
 
-property_tags_distinct : (ps : List Property) → IsDistinct bytes_eq (map (λ p. p.key) ps) → AreDistinct (members_of (map property_tag ps))
+property_tags_distinct : (ps : List Property) → IsDistinct bytes_eq (map (λ p. p.key) ps) → HaveDistinctNames (members_of (map property_tag ps))
 unfolding IsDistinct
 property_tags_distinct [] h = tt
 property_tags_distinct (p ∷ ps) h = (key_absent p.key ps h.0, property_tags_distinct ps h.1)

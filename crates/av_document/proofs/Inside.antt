@@ -8,7 +8,7 @@ use Rattle.av_types.specs.declared.place.ChunkPos.{ChunkPos}
 use Rattle.av_types.specs.declared.place.Height.{Height}
 use Rattle.av_types.specs.declared.tick.Entry.{Entry}
 use Rattle.av_nbt.specs.Nbt.{byte_array, members_of}
-use Rattle.av_nbt.specs.Place.{place}
+use Rattle.av_nbt.specs.Place.{with_tag}
 use Rattle.av_state.specs.BlockState.{BlockState}
 use Rattle.av_document.specs.Ticks.{lies_in}
 use Rattle.av_document.specs.Chunk.{RestOfChunk}
@@ -44,7 +44,7 @@ section_same c h f g r l m y same lit = by (is_section_of h y) refl where
   by true e =
       let states = states_same (λ i. f (block_at c y i)) (λ i. g (block_at c y i)) (λ i less. same (block_at c y i) (lies_in-block_at c h y i e less)) in
       let bytes = lit e in
-      λ i. Some (place (codes "BlockLight") (byte_array (bytes i)) (place (codes "block_states") (states_layout (r.section y).states (states i)) (r.section y).tags))
+      λ i. Some (with_tag (codes "BlockLight") (byte_array (bytes i)) (with_tag (codes "block_states") (states_layout (r.section y).states (states i)) (r.section y).tags))
   by false e = refl
 
 pub layout_same : LooksInside
@@ -53,6 +53,6 @@ layout_same c h f g es a b r l m n same sources lit =
     let entries = entries_same a b n es sources in
     λ i. record {
       name = r.name;
-      members = members_of (place (codes "fluid_ticks") (compounds (r.foreign ++ entries i))
-          (place (codes "sections") (compounds (all_of (λ y. sections y i) section_numbers)) r.tags));
+      members = members_of (with_tag (codes "fluid_ticks") (compounds (r.foreign ++ entries i))
+          (with_tag (codes "sections") (compounds (all_of (λ y. sections y i) section_numbers)) r.tags));
     }

@@ -6,8 +6,8 @@ use mir.Val.{bits}
 use Rattle.std.specs.List.{AllByRecursion, flat_map}
 use Rattle.std.proofs.Math.Logic.{∥∥₁_elim, ∥∥₁_map}
 use Rattle.std.proofs.Props.{props}
-use Rattle.av_nbt.specs.declared.tag.Kind.{Kind}
-use Rattle.av_nbt.specs.Nbt.{Nbt, byte, int16, int, int64, bits32, bits64, byte_array, text, list, compound, int_array, long_array, Items, no_items, item, Members, no_members, member, Document, item_count, IsAbsent, AreDistinct, AreOf, depth}
+use Rattle.av_nbt.specs.declared.tag.TagType.{TagType}
+use Rattle.av_nbt.specs.Nbt.{Nbt, byte, int16, int, int64, bits32, bits64, byte_array, text, list, compound, int_array, long_array, Items, no_items, item, Members, no_members, member, Document, item_count, LacksMember, HaveDistinctNames, AreOf, depth}
 use Rattle.av_nbt.specs.Spelling.{Spells, SpellsItems, SpellsMembers, SpellsNumbers, count_of}
 use Rattle.av_nbt.specs.Writing.{signed_bytes, text_bytes, written, written_items, written_members, written_document, IsWellFormed}
 use Rattle.av_document.proofs.Spelled.{IsSpelled}
@@ -28,15 +28,15 @@ all_fit-prop : (w : Width) (zs : List ℤ) → IsProp (AllByRecursion (FitsSigne
 all_fit-prop w [] = Prim.hlevel props
 all_fit-prop w (z ∷ zs) = Prim.hlevel (props, all_fit-prop w zs)
 
-are_of-prop : (k : Kind) (ts : Items) → IsProp (AreOf k ts)
+are_of-prop : (k : TagType) (ts : Items) → IsProp (AreOf k ts)
 are_of-prop k no_items = Prim.hlevel props
 are_of-prop k (item t ts) = Prim.hlevel (props, are_of-prop k ts)
 
-absent-prop : (n : List ℕ) (ms : Members) → IsProp (IsAbsent n ms)
+absent-prop : (n : List ℕ) (ms : Members) → IsProp (LacksMember n ms)
 absent-prop n no_members = Prim.hlevel props
 absent-prop n (member m t ms) = Prim.hlevel (props, absent-prop n ms)
 
-distinct-prop : (ms : Members) → IsProp (AreDistinct ms)
+distinct-prop : (ms : Members) → IsProp (HaveDistinctNames ms)
 distinct-prop no_members = Prim.hlevel props
 distinct-prop (member n t ms) = Prim.hlevel (props, absent-prop n ms, distinct-prop ms)
 
@@ -64,14 +64,14 @@ count_fits (pos n) h = h
 count_fits (negsuc n) h = record { sfits = omega arith }
 
 -- what is known of a List
-record ListParts (k : Kind) (ts : Items) : Type 0 where
+record ListParts (k : TagType) (ts : Items) : Type 0 where
   pub count : FitsSigned w32 (pos (item_count ts))
-  pub kinds : AreOf k ts
+  pub tag_types : AreOf k ts
   pub inside : HaveItemBytes ts
 
-list_parts : (k : Kind) (ts : Items) (bytes : List ℕ) → Spells (list k ts) bytes → ListParts k ts
-list_parts k ts bytes (size, len, rest, parts, h, count, kinds, inside) =
-    record { count = subst (λ n. FitsSigned w32 (pos n)) count (count_fits size h.fits); kinds = kinds; inside = record { bytes = rest; spelled = inside } }
+list_parts : (k : TagType) (ts : Items) (bytes : List ℕ) → Spells (list k ts) bytes → ListParts k ts
+list_parts k ts bytes (size, len, rest, parts, h, count, tag_types, inside) =
+    record { count = subst (λ n. FitsSigned w32 (pos n)) count (count_fits size h.fits); tag_types = tag_types; inside = record { bytes = rest; spelled = inside } }
 
 first_item : (t : Nbt) (ts : Items) (bytes : List ℕ) → SpellsItems (item t ts) bytes → IsSpelled t
 first_item t ts bytes (front, rest, parts, here, more) = record { bytes = front; spelled = here }
@@ -109,7 +109,7 @@ mutual
         refl,
         record { fits = ∥∥₁_elim parts (fits-prop w32 (pos (item_count ts))) (λ x. x.count); is = refl },
         refl,
-        ∥∥₁_elim parts (are_of-prop k ts) (λ x. x.kinds),
+        ∥∥₁_elim parts (are_of-prop k ts) (λ x. x.tag_types),
         merely_spells_items ts (∥∥₁_map parts (λ x. x.inside)),
       )
   merely_spells (compound ms) h =

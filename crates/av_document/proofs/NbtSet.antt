@@ -6,9 +6,9 @@ use Rattle.std.proofs.Math.Nat.{ℕ_set}
 use Rattle.std.proofs.Math.IntN.{ℤ_set}
 use mathlib.Core.HLevel.{collapsible→set}
 use mathlib.Core.List.{is_set}
-use Rattle.av_nbt.specs.declared.tag.Kind.{Kind}
-use Rattle.av_nbt.specs.declared.tag.Kind.TheVariants as kind
-use Rattle.av_nbt.specs.Kinds.{kind_number, kinds}
+use Rattle.av_nbt.specs.declared.tag.TagType.{TagType}
+use Rattle.av_nbt.specs.declared.tag.TagType.TheVariants as tag_type
+use Rattle.av_nbt.specs.TagTypes.{type_number, tag_types}
 use Rattle.av_nbt.specs.Nbt.{Nbt, byte, int16, int, int64, bits32, bits64, byte_array, text, list, compound, int_array, long_array, Items, no_items, item, Members, no_members, member, NamedTag}
 
 retract_set : {A B : Type 0} (to : A → B) (from : B → A) → ((x : A) → from (to x) ≡ x) → IsSet B → IsSet A
@@ -28,23 +28,23 @@ data Copy : Type 0 where
   named : List ℕ → Copy → Copy → Copy
   deriving IsSet as Copy-set
 
-abbrev kind_of_number : ℕ → Kind
-kind_of_number n = slice_index_or kinds n kind.End
+abbrev type_of_number : ℕ → TagType
+type_of_number n = slice_index_or tag_types n tag_type.End
 
-kind_back : (k : Kind) → kind_of_number (kind_number k) ≡ k
-kind_back kind.End = refl
-kind_back kind.Byte = refl
-kind_back kind.Short = refl
-kind_back kind.Int = refl
-kind_back kind.Long = refl
-kind_back kind.Float = refl
-kind_back kind.Double = refl
-kind_back kind.ByteArray = refl
-kind_back kind.Text = refl
-kind_back kind.List = refl
-kind_back kind.Compound = refl
-kind_back kind.IntArray = refl
-kind_back kind.LongArray = refl
+type_back : (k : TagType) → type_of_number (type_number k) ≡ k
+type_back tag_type.End = refl
+type_back tag_type.Byte = refl
+type_back tag_type.Short = refl
+type_back tag_type.Int = refl
+type_back tag_type.Long = refl
+type_back tag_type.Float = refl
+type_back tag_type.Double = refl
+type_back tag_type.ByteArray = refl
+type_back tag_type.Text = refl
+type_back tag_type.List = refl
+type_back tag_type.Compound = refl
+type_back tag_type.IntArray = refl
+type_back tag_type.LongArray = refl
 
 abbrev mutual
   tag_copy : Nbt → Copy
@@ -56,7 +56,7 @@ abbrev mutual
   tag_copy (bits64 n) = word 1 n
   tag_copy (byte_array s) = octets 0 s
   tag_copy (text s) = octets 1 s
-  tag_copy (list e ts) = items (kind_number e) (items_copy ts)
+  tag_copy (list e ts) = items (type_number e) (items_copy ts)
   tag_copy (compound ms) = members (members_copy ms)
   tag_copy (int_array zs) = series 0 zs
   tag_copy (long_array zs) = series 1 zs
@@ -87,7 +87,7 @@ originals (numeral k z) = (of_numeral k z, no_items, no_members)
 originals (word k n) = (of_word k n, no_items, no_members)
 originals (octets k s) = (of_octets k s, no_items, no_members)
 originals (series k zs) = (of_series k zs, no_items, no_members)
-originals (items e c) = (list (kind_of_number e) (originals c).1, no_items, no_members)
+originals (items e c) = (list (type_of_number e) (originals c).1, no_items, no_members)
 originals (members c) = (compound (originals c).2, no_items, no_members)
 originals end = (compound no_members, no_items, no_members)
 originals (next c d) = (compound no_members, item (originals c).0 (originals d).1, no_members)
@@ -103,7 +103,7 @@ abbrev mutual
   tag_back (bits64 n) = refl
   tag_back (byte_array s) = refl
   tag_back (text s) = refl
-  tag_back (list e ts) = λ i. list (kind_back e i) (items_back ts i)
+  tag_back (list e ts) = λ i. list (type_back e i) (items_back ts i)
   tag_back (compound ms) = λ i. compound (members_back ms i)
   tag_back (int_array zs) = refl
   tag_back (long_array zs) = refl

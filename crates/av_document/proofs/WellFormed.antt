@@ -11,10 +11,10 @@ use Rattle.av_types.specs.declared.place.Pos.{Pos}
 use Rattle.av_types.specs.declared.place.ChunkPos.{ChunkPos}
 use Rattle.av_types.specs.declared.place.Height.{Height}
 use Rattle.av_types.specs.declared.tick.Entry.{Entry}
-use Rattle.av_nbt.specs.Nbt.{Nbt, byte, byte_array, list, compound, long_array, NamedTag, Document, members_of, items_of, IsAbsent}
-use Rattle.av_nbt.specs.declared.tag.Kind.TheVariants as kind
-use Rattle.av_nbt.specs.Kinds.{kind_number}
-use Rattle.av_nbt.specs.Place.{tag_of, place, without, blank, emptied}
+use Rattle.av_nbt.specs.Nbt.{Nbt, byte, byte_array, list, compound, long_array, NamedTag, Document, members_of, items_of, LacksMember}
+use Rattle.av_nbt.specs.declared.tag.TagType.TheVariants as tag_type
+use Rattle.av_nbt.specs.TagTypes.{type_number}
+use Rattle.av_nbt.specs.Place.{tag_of, with_tag, without, blank, emptied}
 use Rattle.av_nbt.specs.Shape.{◌>>=◌, compound_of, compounds_of, lacks, or_else}
 use Rattle.av_nbt.specs.Spelling.{SpellsDocument}
 use Rattle.av_nbt.specs.Writing.{IsWellFormed}
@@ -31,7 +31,7 @@ use Rattle.av_document.proofs.Numbers.{height_fits}
 use Rattle.av_document.proofs.Positions.{lies_in-block_at}
 use Rattle.av_document.proofs.WrittenTicks.{entry_tags}
 use Rattle.av_document.proofs.WrittenSection.{written_states}
-use Rattle.av_document.proofs.WrittenPalette.{IsFilled, is_filled, indices, indices_all}
+use Rattle.av_document.proofs.WrittenPalette.{AreOfPalette, is_filled, indices, indices_all}
 use Rattle.av_document.proofs.Good.{IsGood, IsGoodNamed, AreGood, byte_good, byte_array_good, long_array_good, compound_good, compounds_good, compound_parts, compounds_parts}
 use Rattle.av_document.proofs.GoodNames.{differs, absent_without, absent_kept, place_good, without_good, found_good}
 use Rattle.av_document.proofs.GoodStates.{same_rows, palette_good, longs_fit, few_longs, entry_tags_good}
@@ -46,12 +46,12 @@ each_from : (P : BlockState → Type 0) (f : ℕ → BlockState) (a n : ℕ) →
 each_from P f a zero h = tt
 each_from P f a (suc n) h = (h a (omega arith), each_from P f (a + 1) n (λ i lt. h i (omega arith)))
 
-palette_tag_good : (k : ℕ) (states : List BlockState) → IsFilled states (palette_states states) → IsGood (suc (suc (suc k))) (palette_tag states)
+palette_tag_good : (k : ℕ) (states : List BlockState) → AreOfPalette states (palette_states states) → IsGood (suc (suc (suc k))) (palette_tag states)
 palette_tag_good k states filled =
     let few : length (palette_states states) < 2 ^ 31 = omega (arith, filled.few) in
-    subst (λ l. IsGood (suc (suc (suc k))) (list kind.Compound (items_of l))) (sym (same_rows (palette_states states))) (palette_good k (palette_states states) filled.meant_states few)
+    subst (λ l. IsGood (suc (suc (suc k))) (list tag_type.Compound (items_of l))) (sym (same_rows (palette_states states))) (palette_good k (palette_states states) filled.meant_states few)
 
-data_good : (k : ℕ) (states : List BlockState) → IsFilled states (palette_states states) → AllByRecursion (IsGoodNamed k) (data_tags (data_tag states))
+data_good : (k : ℕ) (states : List BlockState) → AreOfPalette states (palette_states states) → AllByRecursion (IsGoodNamed k) (data_tags (data_tag states))
 data_good k states filled = by (nat_lt 1 (length (palette_states states))) where
   palette : List BlockState
   palette = palette_states states
@@ -70,7 +70,7 @@ data_good k states filled = by (nat_lt 1 (length (palette_states states))) where
   by false = tt
 
 states_tags_good : (k : ℕ) (palette : Nbt) (o : Option Nbt) (others : List NamedTag) → IsGood k palette → AllByRecursion (IsGoodNamed k) (data_tags o) → AreGood k others
-    → IsAbsent (codes "palette") (members_of others) → IsAbsent (codes "data") (members_of others) → AreGood k (record { name = codes "palette"; tag = palette } ∷ data_tags o ++ others)
+    → LacksMember (codes "palette") (members_of others) → LacksMember (codes "data") (members_of others) → AreGood k (record { name = codes "palette"; tag = palette } ∷ data_tags o ++ others)
 states_tags_good k palette None others good data_are h no_palette no_data = record {
   each_good = (record { short = lit< tt; good = good }, h.each_good);
   distinct = (no_palette, h.distinct);
@@ -101,11 +101,11 @@ row_good j ms cell light h meant_cells lit =
     let x : List NamedTag = or_else [] (block_states_of ms) in
     let old : AreGood (suc (suc (suc j))) (or_else [] (block_states_of ms)) = old_states_good (suc (suc (suc j))) ms h in
     let others : AreGood (suc (suc (suc j))) (section_rest ms).states = without_good (suc (suc (suc j))) (codes "data") (without (codes "palette") (or_else [] (block_states_of ms))) (without_good (suc (suc (suc j))) (codes "palette") (or_else [] (block_states_of ms)) old) in
-    let no_palette : IsAbsent (codes "palette") (members_of (section_rest ms).states) = absent_kept (codes "palette") (codes "data") (without (codes "palette") (or_else [] (block_states_of ms))) (absent_without (codes "palette") (or_else [] (block_states_of ms))) in
-    let no_data : IsAbsent (codes "data") (members_of (section_rest ms).states) = absent_without (codes "data") (without (codes "palette") (or_else [] (block_states_of ms))) in
+    let no_palette : LacksMember (codes "palette") (members_of (section_rest ms).states) = absent_kept (codes "palette") (codes "data") (without (codes "palette") (or_else [] (block_states_of ms))) (absent_without (codes "palette") (or_else [] (block_states_of ms))) in
+    let no_data : LacksMember (codes "data") (members_of (section_rest ms).states) = absent_without (codes "data") (without (codes "palette") (or_else [] (block_states_of ms))) in
     let states : List BlockState = states_of cell in
     let count : length (states_of cell) ≡ 4096 = length-map-range_with_len cell 0 4096 in
-    let filled : IsFilled (states_of cell) (palette_states (states_of cell)) = is_filled (states_of cell) count (each_from IsMeant cell 0 4096 (λ i lt. meant_cells i (omega arith))) in
+    let filled : AreOfPalette (states_of cell) (palette_states (states_of cell)) = is_filled (states_of cell) count (each_from IsMeant cell 0 4096 (λ i lt. meant_cells i (omega arith))) in
     let written : AreGood (suc (suc (suc j))) (written_states (section_rest ms).states (states_of cell)) =
     states_tags_good (suc (suc (suc j))) (palette_tag (states_of cell)) (data_tag (states_of cell)) (section_rest ms).states (palette_tag_good j (states_of cell) filled) (data_good (suc (suc (suc j))) (states_of cell) filled) others no_palette no_data in
     let block_states : IsGood (suc (suc (suc (suc j)))) (states_layout (section_rest ms).states (states_of cell)) = compound_good (suc (suc (suc j))) (written_states (section_rest ms).states (states_of cell)) written in
@@ -113,7 +113,7 @@ row_good j ms cell light h meant_cells lit =
     let emptied_good : AreGood (suc (suc (suc (suc j)))) (section_rest ms).tags =
     place_good (suc (suc (suc (suc j)))) (codes "BlockLight") blank (emptied (codes "block_states") ms) (lit< tt) (blank_good (suc (suc (suc (suc j)))))
     (place_good (suc (suc (suc (suc j)))) (codes "block_states") blank ms (lit< tt) (blank_good (suc (suc (suc (suc j))))) h) in
-    place_good (suc (suc (suc (suc j)))) (codes "BlockLight") (byte_array light) (place (codes "block_states") (states_layout (section_rest ms).states (states_of cell)) (section_rest ms).tags) (lit< tt) (byte_array_good (suc (suc (suc (suc j)))) light few)
+    place_good (suc (suc (suc (suc j)))) (codes "BlockLight") (byte_array light) (with_tag (codes "block_states") (states_layout (section_rest ms).states (states_of cell)) (section_rest ms).tags) (lit< tt) (byte_array_good (suc (suc (suc (suc j)))) light few)
     (place_good (suc (suc (suc (suc j)))) (codes "block_states") (states_layout (section_rest ms).states (states_of cell)) (section_rest ms).tags (lit< tt) block_states emptied_good)
 
 -- ---- the chunk
@@ -214,19 +214,19 @@ module _ (c : ChunkPos) (h : Height) (d : Document) (bytes : List ℕ) (cells no
       let whole : length (rest.foreign ++ map (entry_tags sources n) then) ≡ length rest.foreign + length then = length-append rest.foreign (map (entry_tags sources n) then) ∙ ap (λ k. length rest.foreign + k) (length-map then (entry_tags sources n)) in
       compounds_good 509 (rest.foreign ++ map (entry_tags sources n) then) (omega arith) all
 
-  new_root : AreGood 511 (place (codes "fluid_ticks") (ticks_layout sources rest.foreign then n) (place (codes "sections") (compounds (all_of (section_at c h now rest light) section_numbers)) rest.tags))
+  new_root : AreGood 511 (with_tag (codes "fluid_ticks") (ticks_layout sources rest.foreign then n) (with_tag (codes "sections") (compounds (all_of (section_at c h now rest light) section_numbers)) rest.tags))
   new_root =
       let empty : AreGood 511 rest.tags = subst (AreGood 511) (sym denotes.tags_are)
       (place_good 511 (codes "fluid_ticks") blank (emptied (codes "sections") (root_tags d)) (lit< tt) (blank_good 511) (place_good 511 (codes "sections") blank (root_tags d) (lit< tt) (blank_good 511) old_good)) in
-      place_good 511 (codes "fluid_ticks") (ticks_layout sources rest.foreign then n) (place (codes "sections") (compounds (all_of (section_at c h now rest light) section_numbers)) rest.tags) (lit< tt) new_ticks
+      place_good 511 (codes "fluid_ticks") (ticks_layout sources rest.foreign then n) (with_tag (codes "sections") (compounds (all_of (section_at c h now rest light) section_numbers)) rest.tags) (lit< tt) new_ticks
       (place_good 511 (codes "sections") (compounds (all_of (section_at c h now rest light) section_numbers)) rest.tags (lit< tt) new_sections empty)
 
   pub well_formed : IsWellFormed (chunk_layout c h now then sources rest light n)
   well_formed =
-      let good = compound_good 511 (place (codes "fluid_ticks") (ticks_layout sources rest.foreign then n) (place (codes "sections") (compounds (all_of (section_at c h now rest light) section_numbers)) rest.tags)) new_root in
+      let good = compound_good 511 (with_tag (codes "fluid_ticks") (ticks_layout sources rest.foreign then n) (with_tag (codes "sections") (compounds (all_of (section_at c h now rest light) section_numbers)) rest.tags)) new_root in
       let name : List ℕ = to_be_bytes w16 (length rest.name) ++ rest.name in
       record {
-        bytes = kind_number kind.Compound ∷ (name ++ good.bytes);
+        bytes = type_number tag_type.Compound ∷ (name ++ good.bytes);
         spelled = record {
           name = name;
           body = good.bytes;

@@ -14,7 +14,7 @@ use Rattle.av_types.specs.declared.place.ChunkPos.{ChunkPos}
 use Rattle.av_types.specs.declared.place.Height.{Height}
 use Rattle.av_types.specs.declared.tick.Entry.{Entry}
 use Rattle.av_nbt.specs.Nbt.{Nbt, byte, NamedTag, Document}
-use Rattle.av_nbt.specs.Place.{tag_of, place, blank, emptied}
+use Rattle.av_nbt.specs.Place.{tag_of, with_tag, blank, emptied}
 use Rattle.av_nbt.specs.Shape.{◌>>=◌, text_of, int_of, compound_of, compounds_of, lacks, or_else}
 use Rattle.av_nbt.specs.Writing.{IsWellFormed}
 use Rattle.av_nbt.proofs.Trees.{members_in_of}
@@ -104,21 +104,21 @@ module _ (filled_ticks filled_sections : Nbt) (root : List NamedTag) where
   emptied_root = emptied ticks_key (emptied sections_key root)
 
   abbrev filled_root : List NamedTag
-  filled_root = place ticks_key filled_ticks (place sections_key filled_sections emptied_root)
+  filled_root = with_tag ticks_key filled_ticks (with_tag sections_key filled_sections emptied_root)
 
   root_stays : (k : List ℕ) → bytes_eq k ticks_key ≡ false → bytes_eq k sections_key ≡ false → tag_of k filled_root ≡ tag_of k root
   root_stays k ticks_differ sections_differ =
-      tag_of-place_other k ticks_key filled_ticks (place sections_key filled_sections emptied_root) ticks_differ
+      tag_of-place_other k ticks_key filled_ticks (with_tag sections_key filled_sections emptied_root) ticks_differ
       ∙ tag_of-place_other k sections_key filled_sections emptied_root sections_differ
       ∙ tag_of-place_other k ticks_key blank (emptied sections_key root) ticks_differ
       ∙ tag_of-place_other k sections_key blank root sections_differ
 
   ticks_there : tag_of ticks_key filled_root ≡ Some filled_ticks
-  ticks_there = tag_of-place_same ticks_key filled_ticks (place sections_key filled_sections emptied_root)
+  ticks_there = tag_of-place_same ticks_key filled_ticks (with_tag sections_key filled_sections emptied_root)
 
   sections_there : tag_of sections_key filled_root ≡ Some filled_sections
   sections_there =
-      tag_of-place_other sections_key ticks_key filled_ticks (place sections_key filled_sections emptied_root) refl
+      tag_of-place_other sections_key ticks_key filled_ticks (with_tag sections_key filled_sections emptied_root) refl
       ∙ tag_of-place_same sections_key filled_sections emptied_root
 
   rest_stays : emptied ticks_key (emptied sections_key filled_root) ≡ emptied_root
@@ -219,9 +219,9 @@ module _ (c : ChunkPos) (h : Height) (d : Document) (cells now : Pos → BlockSt
 
   new_is : root_tags (chunk_layout c h now then sources rest light n) ≡ new
   new_is =
-      members_in_of (place ticks_key (ticks_layout sources rest.foreign then n) (place sections_key (compounds rows) rest.tags))
-      ∙ ap (λ ts. place ticks_key (compounds (ts ++ map (entry_tags sources n) then)) (place sections_key (compounds rows) rest.tags)) denotes.foreign_are
-      ∙ ap (λ tags. place ticks_key (compounds all_ticks) (place sections_key (compounds rows) tags)) denotes.tags_are
+      members_in_of (with_tag ticks_key (ticks_layout sources rest.foreign then n) (with_tag sections_key (compounds rows) rest.tags))
+      ∙ ap (λ ts. with_tag ticks_key (compounds (ts ++ map (entry_tags sources n) then)) (with_tag sections_key (compounds rows) rest.tags)) denotes.foreign_are
+      ∙ ap (λ tags. with_tag ticks_key (compounds all_ticks) (with_tag sections_key (compounds rows) tags)) denotes.tags_are
 
   stays : (k : List ℕ) → bytes_eq k ticks_key ≡ false → bytes_eq k sections_key ≡ false → tag_of k new ≡ tag_of k old
   stays k e f = root_stays (compounds all_ticks) (compounds rows) old k e f

@@ -172,14 +172,14 @@ indices_in-longs count longs some = ap (λ b. cond b (indices_if (nat_eq count 1
     not_zero n h = grind (arith, nat_tests)
 
 -- the states of 4,096 places, and their palette
-pub record IsFilled (states palette : List BlockState) : Type 0 where
+pub record AreOfPalette (states palette : List BlockState) : Type 0 where
   pub count : length states ≡ 4096
   pub numbered : AllByRecursion (HasNumber palette) states
   pub meant_states : AllByRecursion IsMeant palette
   pub some : 0 < length palette
   pub few : length palette ≤ 4096
 
-pub is_filled : (states : List BlockState) → length states ≡ 4096 → AllByRecursion IsMeant states → IsFilled states (palette_states states)
+pub is_filled : (states : List BlockState) → length states ≡ 4096 → AllByRecursion IsMeant states → AreOfPalette states (palette_states states)
 is_filled states count meant_all = record {
   count = count;
   numbered = with_states-has [] states;
@@ -195,7 +195,7 @@ is_filled states count meant_all = record {
 nat_eq-same : (m n : ℕ) → m ≡ n → nat_eq m n ≡ true
 nat_eq-same m n e = grind (arith, nat_tests)
 
-module _ (states palette : List BlockState) (filled : IsFilled states palette) where
+module _ (states palette : List BlockState) (filled : AreOfPalette states palette) where
   longs_back : unpacked (bits_for (length palette)) (packed (bits_for (length palette)) (indices palette states)) ≡ indices palette states
   longs_back =
       let b : ℕ = bits_for (length palette) in
@@ -245,7 +245,7 @@ pub record ReadsBack (states : List BlockState) (palette data_found : Option Nbt
 
 pub reads_back : (states : List BlockState) → length states ≡ 4096 → AllByRecursion IsMeant states → ReadsBack states (Some (palette_tag states)) (data_tag states)
 reads_back states count meant_all =
-    let filled : IsFilled states (palette_states states) = is_filled states count meant_all in
+    let filled : AreOfPalette states (palette_states states) = is_filled states count meant_all in
     let pal : palette_of (Some (palette_tag states)) ≡ Some (palette_states states) = palette_of-written (palette_states states) filled.meant_states filled.some (omega (arith, filled.few)) in
     let ix : indices_of (length (palette_states states)) (data_tag states) ≡ Some (indices (palette_states states) states) = indices_back states (palette_states states) filled in
     let all : each meant (palette_states states) ≡ Some (palette_states states) = each_meant (palette_states states) filled.meant_states in

@@ -5,7 +5,7 @@ use Rattle.std.specs.List.{range_with_len, AllByRecursion}
 use Rattle.std.specs.Str.{bytes_eq}
 use Rattle.std.proofs.lemmas.List.FromFn.{length-map-range_with_len, get_or-map-range_with_len}
 use Rattle.av_nbt.specs.Nbt.{Nbt, byte_array, NamedTag}
-use Rattle.av_nbt.specs.Place.{tag_of, place, without, blank, emptied}
+use Rattle.av_nbt.specs.Place.{tag_of, with_tag, without, blank, emptied}
 use Rattle.av_nbt.specs.Shape.{◌>>=◌, byte_of, compound_of, or_else}
 use Rattle.av_nbt.proofs.Trees.{members_in_of}
 use Rattle.av_state.specs.BlockState.{BlockState, air}
@@ -38,7 +38,7 @@ module _ (ms : List NamedTag) (cell : ℕ → BlockState) (light : List ℕ) whe
   -- a tag of another name stays
   tag_stays : (k : List ℕ) → bytes_eq k (codes "BlockLight") ≡ false → bytes_eq k (codes "block_states") ≡ false → tag_of k row ≡ tag_of k ms
   tag_stays k light_differs states_differ =
-      tag_of-place_other k (codes "BlockLight") (byte_array light) (place (codes "block_states") (states_layout others states) (section_rest ms).tags) light_differs
+      tag_of-place_other k (codes "BlockLight") (byte_array light) (with_tag (codes "block_states") (states_layout others states) (section_rest ms).tags) light_differs
       ∙ tag_of-place_other k (codes "block_states") (states_layout others states) (section_rest ms).tags states_differ
       ∙ tag_of-place_other k (codes "BlockLight") blank (emptied (codes "block_states") ms) light_differs
       ∙ tag_of-place_other k (codes "block_states") blank ms states_differ
@@ -48,7 +48,7 @@ module _ (ms : List NamedTag) (cell : ℕ → BlockState) (light : List ℕ) whe
 
   states_there : tag_of (codes "block_states") row ≡ Some (states_layout others states)
   states_there =
-      tag_of-place_other (codes "block_states") (codes "BlockLight") (byte_array light) (place (codes "block_states") (states_layout others states) (section_rest ms).tags) refl
+      tag_of-place_other (codes "block_states") (codes "BlockLight") (byte_array light) (with_tag (codes "block_states") (states_layout others states) (section_rest ms).tags) refl
       ∙ tag_of-place_same (codes "block_states") (states_layout others states) (section_rest ms).tags
 
   pub block_states_of-row : block_states_of row ≡ Some (written_states others states)

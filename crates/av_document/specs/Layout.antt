@@ -6,9 +6,9 @@ use Rattle.av_types.specs.declared.place.Pos.{Pos}
 use Rattle.av_types.specs.declared.place.ChunkPos.{ChunkPos}
 use Rattle.av_types.specs.declared.place.Height.{Height}
 use Rattle.av_types.specs.declared.tick.Entry.{Entry}
-use Rattle.av_nbt.specs.declared.tag.Kind.TheVariants as kind
+use Rattle.av_nbt.specs.declared.tag.TagType.TheVariants as tag_type
 use Rattle.av_nbt.specs.Nbt.{Nbt, int, text, byte_array, list, compound, NamedTag, Document, members_of, items_of}
-use Rattle.av_nbt.specs.Place.{place}
+use Rattle.av_nbt.specs.Place.{with_tag}
 use Rattle.av_state.specs.BlockState.{BlockState}
 use Rattle.av_section.specs.BlockStates.{palette_tag, data_tag}
 use Rattle.av_document.specs.Chunk.{SectionRest, RestOfChunk}
@@ -19,7 +19,7 @@ compound_with ms = compound (members_of ms)
 
 -- a List of Compounds
 abbrev pub compounds : List (List NamedTag) → Nbt
-compounds rows = list kind.Compound (items_of (map compound_with rows))
+compounds rows = list tag_type.Compound (items_of (map compound_with rows))
 
 -- ---- sections
 
@@ -37,7 +37,7 @@ states_of cell = map cell (range_with_len 0 4096)
 
 -- the tags of a section, from its rest, the state of each place and its light of 2,048 bytes
 abbrev pub section_layout : SectionRest → (ℕ → BlockState) → List ℕ → List NamedTag
-section_layout rest cell light = place (codes "BlockLight") (byte_array light) (place (codes "block_states") (states_layout rest.states (states_of cell)) rest.tags)
+section_layout rest cell light = with_tag (codes "BlockLight") (byte_array light) (with_tag (codes "block_states") (states_layout rest.states (states_of cell)) rest.tags)
 
 -- so many numbers below 0, rising to -1
 abbrev pub below_zero : ℕ → List ℤ
@@ -84,6 +84,6 @@ ticks_layout sources others water elapsed = compounds (others ++ map (λ e. entr
 abbrev pub chunk_layout : ChunkPos → Height → (Pos → BlockState) → List Entry → (Pos → Bool) → RestOfChunk → (ℤ → List ℕ) → ℕ → Document
 chunk_layout c h cells water sources rest light elapsed = record {
   name = rest.name;
-  members = members_of (place (codes "fluid_ticks") (ticks_layout sources rest.foreign water elapsed)
-      (place (codes "sections") (compounds (all_of (section_at c h cells rest light) section_numbers)) rest.tags));
+  members = members_of (with_tag (codes "fluid_ticks") (ticks_layout sources rest.foreign water elapsed)
+      (with_tag (codes "sections") (compounds (all_of (section_at c h cells rest light) section_numbers)) rest.tags));
 }

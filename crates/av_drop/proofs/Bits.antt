@@ -7,7 +7,7 @@ use Rattle.std.proofs.lemmas.Bool.{true≢false, and_parts}
 use Rattle.std.proofs.lemmas.Bool.Decides.{nat_tests}
 use Rattle.std.proofs.lemmas.Nat.Bits.{bit_at-zero, bit_at-lt, bit_at_and, bit_at_or, bit_at_above, bit_at_not, bit_at_cat_low, bit_at_cat_high}
 use Rattle.av_drop.specs.declared.board.Board.{Board}
-use Rattle.av_drop.specs.Board.{is_on, HasPlace}
+use Rattle.av_drop.specs.Board.{is_on, HasMark}
 
 -- a bit that is 1, and one that is not
 pub one_on : (b : Board) (i : ℕ) → bit_at b.bits i ≡ 1 → is_on b i ≡ true
@@ -47,7 +47,7 @@ zero≢one : (a b : ℕ) → a ≡ 0 → b ≡ 1 → a ≡ b → ⊥
 zero≢one a b x y e = omega (arith, x, y, e)
 
 -- a board with a place is not 0
-pub place_positive : (b : Board) → HasPlace b → 0 < b.bits
+pub place_positive : (b : Board) → HasMark b → 0 < b.bits
 place_positive b h = by b.bits refl where
   by : (n : ℕ) → b.bits ≡ n → 0 < b.bits
   by zero e = absurd (zero≢one (bit_at 0 h.place) (bit_at b.bits h.place) (bit_at-zero h.place) (on_one b h.place h.marked) (ap (λ n. bit_at n h.place) (sym e)))

@@ -22,7 +22,7 @@ unfoldable pub is_on : Board → ℕ → Bool
 is_on board i = bit_at board.bits i == 1
 
 -- a marked place
-pub record HasPlace (board : Board) : Type 0 where
+pub record HasMark (board : Board) : Type 0 where
   pub place : ℕ
   pub bound : place < 128
   pub marked : is_on board place ≡ true

@@ -1,6 +1,6 @@
 //! Places of a board of 11 by 11 blocks around a block, row by row from the north: a bit for each.
 ghost use Rattle.std.specs.Prelude.{◌≡◌, ◌<◌, ◌&&◌, ℕ, nat_eq, not, true, false};
-ghost use Rattle.av_drop.specs.Board.{is_on, HasPlace, AreBeside};
+ghost use Rattle.av_drop.specs.Board.{is_on, HasMark, AreBeside};
 
 /// Some places of the board.
 #[derive(Clone, Copy)]
@@ -19,14 +19,14 @@ impl Board {
     /// Whether there is no place.
     pub fn is_empty(self) -> bool
         ensures none { result ≡ true → (i : ℕ) → is_on self i ≡ false }
-        ensures some { result ≡ false → HasPlace self }
+        ensures some { result ≡ false → HasMark self }
     {
         self.bits == 0
     }
 
     /// The first place of some.
     pub fn first(self) -> u32
-        requires { HasPlace self }
+        requires { HasMark self }
         ensures bound { result < 128 }
         ensures marked { is_on self result ≡ true }
     {

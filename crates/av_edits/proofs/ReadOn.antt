@@ -42,7 +42,7 @@ pub tables_end : (t : List BlockState) (all : List (List ℕ)) (total : List Blo
 tables_end t all total e h = sym (ap (table_after_lines t) e) ∙ h
 
 -- some edits were read, and others are still to be read
-pub record AreRead (t : List BlockState) (es : List Edit) (rest whole : List (List ℕ)) : Type 0 where
+pub record AreEditsRead (t : List BlockState) (es : List Edit) (rest whole : List (List ℕ)) : Type 0 where
   pub taken : List (Set BlockState)
   pub are : map (stated_in t) es ≡ map Some taken
   pub all : taken ++ flat_map edits_in rest ≡ flat_map edits_in whole
@@ -67,7 +67,7 @@ assoc [] ys zs = refl
 assoc (x ∷ xs) ys zs = ap (λ l. x ∷ l) (assoc xs ys zs)
 
 pub read_next : (t t' : List BlockState) (es es' : List Edit) (o : Option Edit) (x : List ℕ) (all rest whole : List (List ℕ)) → all ≡ x ∷ rest → Grows t t' → es' ≡ es ++ option_list o → map (stated_in t') (option_list o) ≡ map Some (edits_in x)
-    → AreRead t es all whole → AreRead t' es' rest whole
+    → AreEditsRead t es all whole → AreEditsRead t' es' rest whole
 read_next t t' es es' o x all rest whole e g more one a = record {
   taken = a.taken ++ edits_in x;
   are = ap (map (stated_in t')) more ∙ (map-append (stated_in t') es (option_list o) ∙ (ap (λ l. l ++ map (stated_in t') (option_list o)) (grown t t' es a.taken g a.are)
@@ -75,7 +75,7 @@ read_next t t' es es' o x all rest whole e g more one a = record {
   all = assoc a.taken (edits_in x) (flat_map edits_in rest) ∙ (ap (λ l. a.taken ++ flat_map edits_in l) (sym e) ∙ a.all);
 }
 
-pub read_end : (t : List BlockState) (es : List Edit) (all whole : List (List ℕ)) → all ≡ [] → AreRead t es all whole → map (stated_in t) es ≡ map Some (flat_map edits_in whole)
+pub read_end : (t : List BlockState) (es : List Edit) (all whole : List (List ℕ)) → all ≡ [] → AreEditsRead t es all whole → map (stated_in t) es ≡ map Some (flat_map edits_in whole)
 read_end t es all whole e a = a.are ∙ ap (map Some) (sym (append_nil a.taken) ∙ (ap (λ l. a.taken ++ flat_map edits_in l) (sym e) ∙ a.all)) where
   append_nil : {X : Type 0} (xs : List X) → xs ++ [] ≡ xs
   append_nil [] = refl

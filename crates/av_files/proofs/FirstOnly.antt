@@ -10,7 +10,7 @@ use Rattle.av_types.specs.declared.fault.Fault.{Fault}
 use Rattle.av_types.specs.declared.fault.Fault.TheVariants.{BadLocation, TruncatedChunk, BadLength, ExternalChunk, Compression}
 use Rattle.av_types.proofs.HeightNumbers.{height_is}
 use Rattle.av_nbt.specs.Spelling.{SpellsDocument}
-use Rattle.av_region.specs.Region.{IsChunkFault, IsBadLocation, IsLocated, IsTruncated, IsWhole, IsBadLength, IsMeasured, Holds, IsAbsent, location_of, offset_of, count_of, length_of, type_of}
+use Rattle.av_region.specs.Region.{IsChunkFault, IsBadLocation, IsLocated, IsTruncated, IsWithinFile, IsBadLength, IsMeasured, Holds, IsAbsent, location_of, offset_of, count_of, length_of, type_of}
 use Rattle.av_state.specs.BlockState.{BlockState}
 use Rattle.av_state.specs.StateList.{first_states, with_states}
 use Rattle.av_rules.specs.Rows.{BlockTable}
@@ -20,7 +20,7 @@ use Rattle.av_files.specs.Files.{File, in_order}
 use Rattle.av_files.specs.Denotes.{Rest, Denotes}
 use Rattle.av_files.specs.Layout.{indices}
 use Rattle.av_edits.specs.Edits.{first_in_edits}
-use Rattle.av_files.specs.FirstFault.{IsPlaceFault, sectors, spelling, document, IsPlaceGood, nothing, chunk, states_read, ArePlacesGood, IsFirstOfPlaces, IsFileGood, IsFirstOfFile, header, place, AreFilesGood, IsFirstOfFiles, IsTable, AreRead, IsFilesFault, range, repeated, region, IsFirstFault, counts, rules, file, edit, IsAccepted, OneFirstFault}
+use Rattle.av_files.specs.FirstFault.{IsPlaceFault, sectors, spelling, document, IsPlaceGood, nothing, chunk, states_read, ArePlacesGood, IsFirstOfPlaces, IsFileGood, IsFirstOfFile, header, place, AreFilesGood, IsFirstOfFiles, IsTable, AreFilesRead, IsFilesFault, range, repeated, region, IsFirstFault, counts, rules, file, edit, IsAccepted, OneFirstFault}
 use Rattle.av_files.proofs.Unique.{same_document, some_location, denote_one}
 use Rattle.av_files.proofs.OneFault.{document_fault}
 
@@ -38,7 +38,7 @@ mismeasured f i a b = by a.cause where
   by (inl h) = let x = b.nonempty in omega arith
   by (inr h) = let x = b.fits in omega arith
 
-cut : (f : List ℕ) (i : ℕ) → IsTruncated f i → IsWhole f i → ⊥
+cut : (f : List ℕ) (i : ℕ) → IsTruncated f i → IsWithinFile f i → ⊥
 cut f i a b = let x = a.cause in let y = b.within in omega arith
 
 typed : (n k : ℕ) → 128 ≤ n → n ≡ k → k < 128 → ⊥
@@ -198,7 +198,7 @@ input_one h fs e g (region l s x) (range n is') = absurd (n l)
 input_one h fs e g (region l s x) (repeated l' s' is') = absurd (true≢false (sym s' ∙ s))
 input_one h fs e g (region l s x) (region l' s' y) = files_one h first_states (in_order fs) e g x y
 
-input_not : (h : Height) (fs : List File) (e : Fault) (states : List BlockState) → IsFilesFault h fs e → AreRead h fs states → ⊥
+input_not : (h : Height) (fs : List File) (e : Fault) (states : List BlockState) → IsFilesFault h fs e → AreFilesRead h fs states → ⊥
 input_not h fs e states (range n is) b = n b.limits
 input_not h fs e states (repeated l s is) b = true≢false (sym s ∙ b.apart)
 input_not h fs e states (region l s x) b = files_not h first_states (in_order fs) e states x b.good
@@ -212,10 +212,10 @@ table_one text t u h k a b =
     height_is h k (a.low ∙ ap (λ x. x.min_section) same ∙ sym b.low) (a.count ∙ ap (λ x. x.sections) same ∙ sym b.count)
 
 -- the fault of edits does not depend on how the files were read
-edit_same : (h k : Height) (fs : List File) (xs ys : List BlockState) (w v : Land BlockState) (r s : Rest) (n : ℕ) (text : List ℕ) → h ≡ k → AreRead h fs xs → AreRead k fs ys → Denotes h fs w r → Denotes k fs v s
+edit_same : (h k : Height) (fs : List File) (xs ys : List BlockState) (w v : Land BlockState) (r s : Rest) (n : ℕ) (text : List ℕ) → h ≡ k → AreFilesRead h fs xs → AreFilesRead k fs ys → Denotes h fs w r → Denotes k fs v s
     → first_in_edits (is_loaded w) n xs text ≡ first_in_edits (is_loaded v) n ys text
 edit_same h k fs xs ys w v r s n text same a b d d' =
-    let b' : AreRead h fs ys = subst (λ x. AreRead x fs ys) (sym same) b in
+    let b' : AreFilesRead h fs ys = subst (λ x. AreFilesRead x fs ys) (sym same) b in
     let states = files_good h first_states (in_order fs) xs ys a.good b'.good in
     let worlds = (denote_one h fs w v r s d (subst (λ x. Denotes x fs v s) (sym same) d')).0 in
     λ i. first_in_edits (is_loaded (worlds i)) n (states i) text
@@ -232,17 +232,17 @@ fault_one fs table edits n k e g (rules a bad is) (edit b t h xs w r tab read de
 fault_one fs table edits n k e g (file a t h tab x) (counts b is') = absurd (b a)
 fault_one fs table edits n k e g (file a t h tab x) (rules b bad is') = absurd (bad t h tab)
 fault_one fs table edits n k e g (file a t h tab x) (file b t' h' tab' y) = input_one h fs e g x (subst (λ z. IsFilesFault z fs g) (table_one table t' t h' h tab' tab) y)
-fault_one fs table edits n k e g (file a t h tab x) (edit b t' h' xs w r tab' read den y) = absurd (input_not h fs e xs x (subst (λ z. AreRead z fs xs) (table_one table t' t h' h tab' tab) read))
+fault_one fs table edits n k e g (file a t h tab x) (edit b t' h' xs w r tab' read den y) = absurd (input_not h fs e xs x (subst (λ z. AreFilesRead z fs xs) (table_one table t' t h' h tab' tab) read))
 fault_one fs table edits n k e g (edit a t h xs w r tab read den x) (counts b is') = absurd (b a)
 fault_one fs table edits n k e g (edit a t h xs w r tab read den x) (rules b bad is') = absurd (bad t h tab)
-fault_one fs table edits n k e g (edit a t h xs w r tab read den x) (file b t' h' tab' y) = absurd (input_not h' fs g xs y (subst (λ z. AreRead z fs xs) (table_one table t t' h h' tab tab') read))
+fault_one fs table edits n k e g (edit a t h xs w r tab read den x) (file b t' h' tab' y) = absurd (input_not h' fs g xs y (subst (λ z. AreFilesRead z fs xs) (table_one table t t' h h' tab tab') read))
 fault_one fs table edits n k e g (edit a t h xs w r tab read den x) (edit b t' h' ys v s tab' read' den' y) =
     same_some e g (sym x ∙ edit_same h h' fs xs ys w v r s n edits (table_one table t t' h h' tab tab') read read' den den' ∙ y)
 
 fault_not : (fs : List File) (table edits : List ℕ) (n k : ℕ) (e : Fault) (t : BlockTable) (h : Height) (w : Land BlockState) (r : Rest) → IsFirstFault fs table edits n k e → IsAccepted fs table edits n k t h w r → ⊥
 fault_not fs table edits n k e t h w r (counts a is) b = a b.counts
 fault_not fs table edits n k e t h w r (rules a bad is) b = bad t h b.rules
-fault_not fs table edits n k e t h w r (file a t' h' tab x) b = input_not h' fs e b.states x (subst (λ z. AreRead z fs b.states) (table_one table t t' h h' b.rules tab) b.read)
+fault_not fs table edits n k e t h w r (file a t' h' tab x) b = input_not h' fs e b.states x (subst (λ z. AreFilesRead z fs b.states) (table_one table t t' h h' b.rules tab) b.read)
 fault_not fs table edits n k e t h w r (edit a t' h' xs v s tab read den x) b =
     none-some e (sym b.no_fault ∙ edit_same h h' fs b.states xs w v r s n edits (table_one table t t' h h' b.rules tab) b.read read b.denotes den ∙ x)
 

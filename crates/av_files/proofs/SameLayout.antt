@@ -13,7 +13,7 @@ use Rattle.av_types.specs.declared.tick.Entry.{Entry}
 use Rattle.av_types.proofs.Coordinates.{region_back}
 use Rattle.av_files.proofs.Coordinates.{same_region-refl}
 use Rattle.av_nbt.specs.Nbt.{NamedTag, members_of, text, int}
-use Rattle.av_nbt.specs.Place.{place}
+use Rattle.av_nbt.specs.Place.{with_tag}
 use Rattle.av_nbt.specs.Writing.{written_document}
 use Rattle.av_region.specs.Layout.{region_bytes}
 use Rattle.av_state.specs.BlockState.{BlockState}
@@ -69,8 +69,8 @@ chunk_same c h cells es sources r s l m n k then now a b same lit =
     let entries = entries_same sources n k es in
     λ i. record {
       name = same.same_name i;
-      members = members_of (place (codes "fluid_ticks") (compounds (same.same_foreign i ++ entries i))
-          (place (codes "sections") (compounds (all_of (λ y. sections y i) section_numbers)) (same.same_tags i)));
+      members = members_of (with_tag (codes "fluid_ticks") (compounds (same.same_foreign i ++ entries i))
+          (with_tag (codes "sections") (compounds (all_of (λ y. sections y i) section_numbers)) (same.same_tags i)));
     }
 
 -- ---- files

@@ -95,8 +95,8 @@ pub record AreReadAfter (h : Height) (old : List BlockState) (files : List File)
   pub good : AreFilesGood h old (in_order files) table
 
 -- after a new table, which has the ten built-in states
-abbrev pub AreRead : Height → List File → List BlockState → Type 0
-AreRead h files table = AreReadAfter h first_states files table
+abbrev pub AreFilesRead : Height → List File → List BlockState → Type 0
+AreFilesRead h files table = AreReadAfter h first_states files table
 
 -- The first fault of files: of the list of regions, and else of the first place that has one, by (z, x) of its region and its index.
 pub data IsFilesFaultAfter (h : Height) (old : List BlockState) (files : List File) (e : Fault) : Type 0 where
@@ -111,14 +111,14 @@ pub data IsFirstFault (files : List File) (table edits : List ℕ) (ticks worker
   counts : ¬ AreCountsGood files ticks workers → e ≡ BadCount → IsFirstFault files table edits ticks workers e
   rules : AreCountsGood files ticks workers → IsBadTable table → e ≡ BadTable → IsFirstFault files table edits ticks workers e
   file : AreCountsGood files ticks workers → (t : BlockTable) (h : Height) → IsTable table t h → IsFilesFault h files e → IsFirstFault files table edits ticks workers e
-  edit : AreCountsGood files ticks workers → (t : BlockTable) (h : Height) (states : List BlockState) (w : Land BlockState) (r : Rest) → IsTable table t h → AreRead h files states → Denotes h files w r
+  edit : AreCountsGood files ticks workers → (t : BlockTable) (h : Height) (states : List BlockState) (w : Land BlockState) (r : Rest) → IsTable table t h → AreFilesRead h files states → Denotes h files w r
       → first_in_edits (is_loaded w) ticks states edits ≡ Some e → IsFirstFault files table edits ticks workers e
 
 pub record IsAccepted (files : List File) (table edits : List ℕ) (ticks workers : ℕ) (t : BlockTable) (h : Height) (w : Land BlockState) (r : Rest) : Type 0 where
   pub counts : AreCountsGood files ticks workers
   pub rules : IsTable table t h
   pub states : List BlockState
-  pub read : AreRead h files states
+  pub read : AreFilesRead h files states
   pub denotes : Denotes h files w r
   pub no_fault : first_in_edits (is_loaded w) ticks states edits ≡ None
 

@@ -50,6 +50,6 @@ pub record IsTooLarge (files : List File) (table edits : List ℕ) (n k : ℕ) (
   pub first : too_large rules reached rest light n ≡ Some c
 
 -- why a run is refused, but for want of memory
-pub data IsRefused (files : List File) (table edits : List ℕ) (n k : ℕ) (e : Fault) : Type 0 where
-  input : IsFirstFault files table edits n k e → IsRefused files table edits n k e
-  output : (c : ChunkPos) → e ≡ ChunkTooLarge c → IsTooLarge files table edits n k c → IsRefused files table edits n k e
+pub data IsRunRefused (files : List File) (table edits : List ℕ) (n k : ℕ) (e : Fault) : Type 0 where
+  input : IsFirstFault files table edits n k e → IsRunRefused files table edits n k e
+  output : (c : ChunkPos) → e ≡ ChunkTooLarge c → IsTooLarge files table edits n k c → IsRunRefused files table edits n k e

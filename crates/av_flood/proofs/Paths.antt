@@ -3,7 +3,7 @@ use Rattle.std.proofs.Common.{◌≡◌, ℕ, ◌+◌, ◌-◌, ◌<◌, ◌≤�
 use Rattle.std.proofs.lemmas.Int.{ints}
 use Rattle.av_types.specs.declared.place.Pos.{Pos}
 use Rattle.av_types.specs.declared.place.ChunkPos.{ChunkPos}
-use Rattle.av_flood.specs.Light.{Terrain, IsAdjacent, sides, cost, costs, IsPath, last_of, light_along, HasLight, IsLight}
+use Rattle.av_flood.specs.Light.{Terrain, IsAdjacent, sides, cost, costs, IsLightPath, last_of, light_along, HasLight, IsLight}
 use Rattle.av_flood.specs.Flooding.{Matters, IsNearAlong}
 
 -- a step moves a coordinate by 1 at most
@@ -65,9 +65,9 @@ pub Matters-more : (c : ChunkPos) (n m : ℕ) (p : Pos) → n ≤ m → Matters 
 Matters-more c n m p l h = record { over_x = h.over_x; over_z = h.over_z; less = let k = h.less in omega arith; along_x = h.along_x; along_z = h.along_z }
 
 -- one block more at the end of a path
-IsPath-more : (g : Terrain) (c : Pos) (ps : List Pos) (p q : Pos) → IsPath g c ps → last_of c ps ≡ p → IsAdjacent p q → IsTrue (g.loaded q) → IsPath g c (ps ++ q ∷ [])
-IsPath-more g c [] p q h e a l = (h, subst (λ r. IsAdjacent r q) (sym e) a, l)
-IsPath-more g c (r ∷ rs) p q h e a l = (h.0, h.1, IsPath-more g r rs p q h.2 e a l)
+IsLightPath-more : (g : Terrain) (c : Pos) (ps : List Pos) (p q : Pos) → IsLightPath g c ps → last_of c ps ≡ p → IsAdjacent p q → IsTrue (g.loaded q) → IsLightPath g c (ps ++ q ∷ [])
+IsLightPath-more g c [] p q h e a l = (h, subst (λ r. IsAdjacent r q) (sym e) a, l)
+IsLightPath-more g c (r ∷ rs) p q h e a l = (h.0, h.1, IsLightPath-more g r rs p q h.2 e a l)
 
 last_of-more : (c : Pos) (ps : List Pos) (q : Pos) → last_of c (ps ++ q ∷ []) ≡ q
 last_of-more c [] q = refl
@@ -84,7 +84,7 @@ HasLight-next g q p n m a l e h =
     record {
       from = h.from;
       over = h.over ++ p ∷ [];
-      path = record { path = IsPath-more g h.from h.over q p h.path.path h.path.ends a l; ends = last_of-more h.from h.over p };
+      path = record { path = IsLightPath-more g h.from h.over q p h.path.path h.path.ends a l; ends = last_of-more h.from h.over p };
       brings = omega arith;
     }
 
@@ -92,7 +92,7 @@ pub HasLight-emitted : (g : Terrain) (p : Pos) → IsTrue (g.loaded p) → HasLi
 HasLight-emitted g p l = record { from = p; over = []; path = record { path = l; ends = refl }; brings = omega arith }
 
 -- no light comes to a block that is not loaded
-last_loaded : (g : Terrain) (c : Pos) (ps : List Pos) → IsPath g c ps → IsTrue (g.loaded (last_of c ps))
+last_loaded : (g : Terrain) (c : Pos) (ps : List Pos) → IsLightPath g c ps → IsTrue (g.loaded (last_of c ps))
 last_loaded g c [] h = h
 last_loaded g c (p ∷ ps) h = last_loaded g p ps h.2
 
@@ -106,7 +106,7 @@ pub record IsClosed (g : Terrain) (c : ChunkPos) (lit : Pos → ℕ) : Type 0 wh
 
 -- what comes along a path is there
 along : (g : Terrain) (c : ChunkPos) (lit : Pos → ℕ) → IsClosed g c lit → (p q : Pos) (ps : List Pos) (n : ℕ)
-    → ((v : ℕ) → 0 < v → v ≤ n → Matters c v q → v ≤ lit q) → IsPath g q ps → last_of q ps ≡ p
+    → ((v : ℕ) → 0 < v → v ≤ n → Matters c v q → v ≤ lit q) → IsLightPath g q ps → last_of q ps ≡ p
     → (v : ℕ) → 0 < v → v ≤ n - costs g ps → Matters c v p → v ≤ lit p
 along g c lit closed p q [] n here path ends v positive less matters =
     subst (λ r. v ≤ lit r) ends (here v positive (omega arith) (subst (Matters c v) (sym ends) matters))
@@ -116,7 +116,7 @@ along g c lit closed p q (r ∷ rs) n here path ends v positive less matters =
     (here (u + cost g r) (omega arith) (omega arith) (Matters-before c u (u + cost g r) r q path.1 (let one : 1 ≤ cost g r = omega arith in omega arith) near)) near)
     path.2 ends v positive (omega arith) matters
   where
-    first_loaded : (s : Pos) (ss : List Pos) → IsPath g s ss → IsTrue (g.loaded s)
+    first_loaded : (s : Pos) (ss : List Pos) → IsLightPath g s ss → IsTrue (g.loaded s)
     first_loaded s [] h = h
     first_loaded s (t ∷ ts) h = h.0
 
@@ -138,6 +138,6 @@ IsLight-closed g c lit closed sound p inside =
     greatest zero m h = omega arith
     greatest (suc n) m h = h (suc n) (omega arith) (omega arith)
 
-    first_loaded : (s : Pos) (ss : List Pos) → IsPath g s ss → IsTrue (g.loaded s)
+    first_loaded : (s : Pos) (ss : List Pos) → IsLightPath g s ss → IsTrue (g.loaded s)
     first_loaded s [] h = h
     first_loaded s (t ∷ ts) h = h.0

@@ -13,7 +13,7 @@ use Rattle.av_types.specs.declared.tick.Entry.{Entry}
 use Rattle.av_types.proofs.Coordinates.{region_back}
 use Rattle.av_files.proofs.SameLayout.{map_range, payload_if}
 use Rattle.av_nbt.specs.Nbt.{members_of}
-use Rattle.av_nbt.specs.Place.{place}
+use Rattle.av_nbt.specs.Place.{with_tag}
 use Rattle.av_nbt.specs.Writing.{written_document}
 use Rattle.av_region.specs.Layout.{region_bytes, first_too_large}
 use Rattle.av_state.specs.BlockState.{BlockState}
@@ -43,8 +43,8 @@ chunk_same c h cells es sources r s l m n then now a b same lit =
     let sections : (y : ℤ) → section_at c h cells r l y ≡ section_at c h cells s m y = λ y. section_same c h cells r s l m y same.same_outside same.same_section lit in
     λ i. record {
       name = same.same_name i;
-      members = members_of (place (codes "fluid_ticks") (compounds (same.same_foreign i ++ map (λ e. entry_layout (sources e.pos) n e) es))
-          (place (codes "sections") (compounds (all_of (λ y. sections y i) section_numbers)) (same.same_tags i)));
+      members = members_of (with_tag (codes "fluid_ticks") (compounds (same.same_foreign i ++ map (λ e. entry_layout (sources e.pos) n e) es))
+          (with_tag (codes "sections") (compounds (all_of (λ y. sections y i) section_numbers)) (same.same_tags i)));
     }
 
 -- ---- the places of a region

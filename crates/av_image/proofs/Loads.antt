@@ -53,7 +53,7 @@ use Rattle.av_image.specs.Placed.{WasPlaceRead, WasRegionRead, WereRegionsRead}
 use Rattle.av_image.specs.Loading.{file_in, placed_order}
 use Rattle.av_land.specs.Land.{is_loaded}
 use Rattle.av_world.specs.Views.{grid}
-use Rattle.av_world.specs.Lands.{land_of, IsWhole}
+use Rattle.av_world.specs.Lands.{land_of, IsUncarved}
 use Rattle.av_image.specs.Views.{rest_view, region_found, stamp_in}
 use Rattle.av_image.specs.Splits.{placed_in, placed_from, AreSplit, chunk_found, ArePlacedOnce, HasAt, IsWorldOf}
 use Rattle.av_image.proofs.Back.{other_region, found_away, found_before, found_none_of}
@@ -262,7 +262,7 @@ layers_there h x all y = by (is_section_of h y) refl where
   by true e = here_is (section_in h x y) (all y e)
   by false e = refl
 
-pub whole_read : (h : Height) (t : List BlockState) (fs : List File) (rs : List ReadRegion) (w : World) → WereRegionsRead h t fs rs → IsWorldOf h (flat_map placed_in rs) w → 0 < length t → IsWhole w
+pub whole_read : (h : Height) (t : List BlockState) (fs : List File) (rs : List ReadRegion) (w : World) → WereRegionsRead h t fs rs → IsWorldOf h (flat_map placed_in rs) w → 0 < length t → IsUncarved w
 whole_read h t fs rs w was is some = λ i p. at p i where
   by : (p : Pos) (o : Option Chunk) → chunk_found (flat_map placed_in rs) (chunk_of p) ≡ o → HasAt h w (chunk_of p) o → is_here (grid w (section_of p)) ≡ is_loaded (land_of w) p
   by p None e has = ap is_here (has.1 (section_of p) refl) ∙ sym (ap (λ b. b && is_block_of w.height p.y) has.0)

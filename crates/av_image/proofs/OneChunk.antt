@@ -126,7 +126,7 @@ module _ (w : World) (k : Kinds) (ls : List ChunkLight) (n : ℕ) (can : CanSave
   module _ (r : ChunkRest) (l : ChunkLight) (at : r.place ≡ c) (tall : r.height ≡ height_of w) (lit : section_count l ≡ (height_of w).sections) where
     pub can_write : CanWrite x r k l n
     can_write = record {
-      whole = subst (λ b. reading.IsWhole b x) (sym tall) (record { count = own.count; each_there = each_there });
+      whole = subst (λ b. reading.HasAllSections b x) (sym tall) (record { count = own.count; each_there = each_there });
       numbered = λ p e. subst (λ b. IsSome (state_in (states (table_in k)) b x p)) (sym tall) (numbered p (subst (λ b. lies_in c b p ≡ true) tall (subst (λ a. lies_in a r.height p ≡ true) at e)));
       within = subst (λ a. All (λ e. lies_in a r.height e.pos ≡ true) (entries x.ticks)) (sym at) (subst (λ b. All (λ e. lies_in c b e.pos ≡ true) (entries x.ticks)) (sym tall) within);
       due = subst (λ (es : List Entry). All (λ e. FitsSigned w32 (e.due -ℤ pos n)) es) own.entries_are (can.due c);

@@ -20,7 +20,7 @@ use Rattle.av_chunk.specs.Light.{section_count}
 use Rattle.av_chunk.specs.declared.light.ChunkLight.{ChunkLight}
 use Rattle.av_land.specs.Land.{is_loaded}
 use Rattle.av_land.specs.Good.{Good, IsTimely, IsEntryOf}
-use Rattle.av_world.specs.Lands.{land_of, IsWhole}
+use Rattle.av_world.specs.Lands.{land_of, IsUncarved}
 use Rattle.av_world.specs.Views.{height_of, positions_of, lists}
 use Rattle.av_world.specs.declared.worlds.World.{World}
 use Rattle.av_files.specs.Layout.{sources_of}
@@ -32,7 +32,7 @@ times_of n w Q [] h a = tt
 times_of n w Q (e ∷ es) h a = ((timely_ints n e (h e a.0)).int_due, times_of n w Q es h a.1)
 
 -- a whole world, good after so many ticks, with a light of all sections for each chunk, can be written
-pub can_save : (w : World) (k : Kinds) (ls : List ChunkLight) (n : ℕ) → IsWhole w → Good (kind_count k) (IsTimely n) (land_of w) → length ls ≡ length (positions_of w)
+pub can_save : (w : World) (k : Kinds) (ls : List ChunkLight) (n : ℕ) → IsUncarved w → Good (kind_count k) (IsTimely n) (land_of w) → length ls ≡ length (positions_of w)
     → All (λ l. section_count l ≡ (height_of w).sections) ls → CanSave w k ls n
 can_save w k ls n whole good count lit = record {
   whole = whole;

@@ -19,7 +19,7 @@ use Rattle.av_chunk.specs.Writing.{light_of}
 use Rattle.av_chunk.specs.declared.light.ChunkLight.{ChunkLight}
 use Rattle.av_land.specs.Land.{Land, is_loaded, has_chunk}
 use Rattle.av_world.specs.Index.{slot}
-use Rattle.av_world.specs.Lands.{land_of, IsWhole}
+use Rattle.av_world.specs.Lands.{land_of, IsUncarved}
 use Rattle.av_world.specs.Views.{height_of, positions_of, lists, is_broken}
 use Rattle.av_world.specs.declared.worlds.World.{World}
 use Rattle.av_files.specs.Files.{File, regions_rise}
@@ -89,7 +89,7 @@ pub record IsRestOf (h : Height) (cs : List ChunkPos) (r : Rest) : Type 0 where
 -- A world that can be written: no section is out, each number is in the table, each entry's time fits an Int after the ticks, and there
 -- is a light of all sections for each chunk.
 pub record CanSave (w : World) (k : Kinds) (ls : List ChunkLight) (n : ℕ) : Type 0 where
-  pub whole : IsWhole w
+  pub whole : IsUncarved w
   pub numbered : (p : Pos) → is_loaded (land_of w) p ≡ true → (land_of w).at p < kind_count k
   pub due : (c : ChunkPos) → All (λ e. FitsSigned w32 (e.due -ℤ pos n)) (lists w c)
   pub lights : length ls ≡ length (positions_of w)

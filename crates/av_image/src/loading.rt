@@ -9,7 +9,7 @@ ghost use Rattle.av_ticks.specs.Order.{ordered};
 ghost use Rattle.av_files.specs.Files.{in_order, regions_rise};
 ghost use Rattle.av_files.specs.FirstFault.{IsFilesFaultAfter};
 ghost use Rattle.av_files.specs.Layers.{IsLoadAfter};
-ghost use Rattle.av_world.specs.Lands.{land_of, IsWhole};
+ghost use Rattle.av_world.specs.Lands.{land_of, IsUncarved};
 ghost use Rattle.av_world.specs.Views.{positions_of, is_broken};
 ghost use Rattle.av_image.specs.Views.{rest_in};
 ghost use Rattle.av_image.specs.Saving.{IsRestOf};
@@ -110,7 +110,7 @@ fn load_at(
     table: &mut StateTable,
 ) -> Result<(World, Rest), Fault>
     ensures ok { IfOk result (λ read. IsLoadAfter height (states table.old) (map file_in files.items) (states table.new) (land_of read.0) (rest_in read.1)) }
-    ensures whole { IfOk result (λ read. IsWhole read.0) }
+    ensures whole { IfOk result (λ read. IsUncarved read.0) }
     ensures rest { IfOk result (λ read. IsRestOf height (positions_of read.0) read.1) }
     ensures sound { IfOk result (λ read. is_broken read.0 ≡ false) }
     ensures err { IfErr result (λ e. e ≢ OutOfMemory → IsFilesFaultAfter height (states table.old) (map file_in files.items) e) }
@@ -142,7 +142,7 @@ pub fn load(
     table: &mut StateTable,
 ) -> Result<(World, Rest), Fault>
     ensures ok { IfOk result (λ read. IsLoadAfter rules.now.height (states table.old) (map file_in files.items) (states table.new) (land_of read.0) (rest_in read.1)) }
-    ensures whole { IfOk result (λ read. IsWhole read.0) }
+    ensures whole { IfOk result (λ read. IsUncarved read.0) }
     ensures rest { IfOk result (λ read. IsRestOf rules.now.height (positions_of read.0) read.1) }
     ensures sound { IfOk result (λ read. is_broken read.0 ≡ false) }
     ensures err { IfErr result (λ e. e ≢ OutOfMemory → IsFilesFaultAfter rules.now.height (states table.old) (map file_in files.items) e) }

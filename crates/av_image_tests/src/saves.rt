@@ -5,7 +5,7 @@ ghost use Rattle.av_chunk.specs.Light.{section_count};
 ghost use Rattle.av_image.specs.Saving.{IsRestOf};
 ghost use Rattle.av_land.specs.Good.{Good, IsTimely};
 ghost use Rattle.av_rules.specs.Kinds.{kind_count};
-ghost use Rattle.av_world.specs.Lands.{land_of, IsWhole};
+ghost use Rattle.av_world.specs.Lands.{land_of, IsUncarved};
 ghost use Rattle.av_world.specs.Views.{height_of, positions_of};
 
 use av_chunk::ChunkLight;
@@ -19,7 +19,7 @@ use std::alloc::Global;
 /// What files say, and the kinds of the states that they name, by a table without rows.
 fn read(alloc: Global, files: Vec<RegionFile>) -> Result<(World, Rest, Kinds), Fault>
     ensures good { IfOk result (λ read. Good (kind_count read.2) (IsTimely 0) (land_of read.0)) }
-    ensures whole { IfOk result (λ read. IsWhole read.0) }
+    ensures whole { IfOk result (λ read. IsUncarved read.0) }
     ensures rest { IfOk result (λ read. IsRestOf (height_of read.0) (positions_of read.0) read.1) }
 {
     let rules = Rules::read(alloc, b"version = 1")?;

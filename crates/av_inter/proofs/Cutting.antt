@@ -12,7 +12,7 @@ use Rattle.av_world.specs.ParcelViews.{kept_grid, aside, blocks as parcel_blocks
 use Rattle.av_world.specs.declared.worlds.World.{World}
 use Rattle.av_world.specs.declared.parcels.Parcel.{Parcel}
 use Rattle.av_cluster.specs.Clusters.{sections_at}
-use Rattle.av_inter.specs.Cut.{CanCut, IsCutOut, AreCut, IsSlotOf, put_grid}
+use Rattle.av_inter.specs.Cut.{CanCut, IsCutOut, AreCut, HoldsPartOf, put_grid}
 
 pub got_old : {X : Type 0} (xs : List X) (y : X) (n : ℕ) → n < length xs → slice_get (xs ++ y ∷ []) n ≡ slice_get xs n
 got_old [] y n l = absurd (omega arith)
@@ -64,8 +64,8 @@ module _ (g : Grid) (secs : List (List SectionPos)) (can : CanCut g secs) where
   pub cut_end : (w : World) → AreCut g secs w [] → grid w ≡ g
   cut_end w cut = λ i s. cut.others s (λ n l. absurd (omega arith)) i
 
-  pub parts_of_cut : (w : World) (cs : List (Option Parcel)) → AreCut g secs w cs → All (IsSlotOf w) cs
-  parts_of_cut w cs cut k d l = let o = cut.out k l in subst (IsSlotOf w) (sym (get_or_from_slice_get cs k (Some o.0) d o.1)) o.2.part
+  pub parts_of_cut : (w : World) (cs : List (Option Parcel)) → AreCut g secs w cs → All (HoldsPartOf w) cs
+  parts_of_cut w cs cut k d l = let o = cut.out k l in subst (HoldsPartOf w) (sym (get_or_from_slice_get cs k (Some o.0) d o.1)) o.2.part
 
   pub cut_same : (old new : World) (cs : List (Option Parcel)) → AreCut g secs old cs → grid new ≡ grid old → IsSamePlaces old new → AreCut g secs new cs
   cut_same old new cs cut e same =
@@ -166,7 +166,7 @@ module _ (g : Grid) (secs : List (List SectionPos)) (can : CanCut g secs) where
 pub same_trans : (u v w : World) → IsSamePlaces u v → IsSamePlaces v w → IsSamePlaces u w
 same_trans u v w a b = record { height = b.height ∙ a.height; positions = b.positions ∙ a.positions; broken = b.broken ∙ a.broken; lists_are = b.lists_are ∙ a.lists_are }
 
-pub slot_same : (v w : World) (o : Option Parcel) → IsSamePlaces v w → IsSlotOf v o → IsSlotOf w o
+pub slot_same : (v w : World) (o : Option Parcel) → IsSamePlaces v w → HoldsPartOf v o → HoldsPartOf w o
 slot_same v w None s h = tt
 slot_same v w (Some p) s h = part_in_same v w p s h
 

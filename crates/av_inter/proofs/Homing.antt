@@ -19,7 +19,7 @@ use Rattle.av_play.specs.declared.event.Stage.TheVariants.{Ended}
 use Rattle.av_inter.specs.Out.{Out, out_of, out_in}
 use Rattle.av_inter.specs.Whole.{whole}
 use Rattle.av_inter.specs.Lawful.{is_home, is_ended, IsBlank, IsCore}
-use Rattle.av_inter.specs.Cut.{IsSlotOf, put_blocks}
+use Rattle.av_inter.specs.Cut.{HoldsPartOf, put_blocks}
 use Rattle.av_inter.proofs.Mending.{whole_same, core_mended}
 
 -- a core is one over another world with the same chunks and lists
@@ -32,7 +32,7 @@ core_moved count v w rest secs parts stages os made s i =
 
 -- the slot of a part is of a part of the world
 pub slot_of_world : (count : ℕ) (w : World) (rest : cells.World) (secs : List (List SectionPos)) (parts : List (List Placed)) (stages : List Stage) (os : List (Option Out)) (made : List Made) → IsCore count w.height w.positions.items (lists w) rest secs parts stages os made
-    → (n : ℕ) (o : Option Parcel) → slice_get os n ≡ Some (out_in o) → IsSlotOf w o
+    → (n : ℕ) (o : Option Parcel) → slice_get os n ≡ Some (out_in o) → HoldsPartOf w o
 slot_of_world count w rest secs parts stages os made core n None e = tt
 slot_of_world count w rest secs parts stages os made core n (Some c) e = (core.out n (out_of c) e).part
 

@@ -33,12 +33,12 @@ pub record AreCut (g : Grid) (sections : List (List SectionPos)) (w : World) (pa
   pub others : (s : SectionPos) → ((n : ℕ) → n < length parcels → among (sections_at sections n) s ≡ false) → grid w s ≡ g s
 
 -- a slot whose parcel, if it is there, is a part of the world
-abbrev pub IsSlotOf : World → Option Parcel → Type 0
-IsSlotOf w None = Unit {0}
-IsSlotOf w (Some c) = IsPartOf (height_of w) (positions_of w) (lists w) (parcel_blocks c) (parcel_lists c)
+abbrev pub HoldsPartOf : World → Option Parcel → Type 0
+HoldsPartOf w None = Unit {0}
+HoldsPartOf w (Some c) = IsPartOf (height_of w) (positions_of w) (lists w) (parcel_blocks c) (parcel_lists c)
 
 abbrev pub ArePartsOf : World → List (Option Parcel) → Type 0
-ArePartsOf w cs = All (IsSlotOf w) cs
+ArePartsOf w cs = All (HoldsPartOf w) cs
 
 -- a grid with the sections of a slot's parcel put over its own
 abbrev pub put_grid : Option Parcel → Grid → Grid

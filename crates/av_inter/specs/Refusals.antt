@@ -17,14 +17,14 @@ done_by worker (Some (Held holder done)) = if nat_eq holder worker then Some don
 done_by worker _ = None
 
 -- Memory may be refused to a lawful turn alone. Every other refusal says why the event is not lawful.
-abbrev pub IsRefusal : List (List Placed) → State → Event → Refused → Type 0
-IsRefusal parts s (Take worker n) NotWaiting = ¬ (slice_get s.stages n ≡ Some Waits)
-IsRefusal parts s (Turn worker n) NotHolder = (done : ℕ) → ¬ (slice_get s.stages n ≡ Some (Held worker done))
-IsRefusal parts s (Turn worker n) NoEntry = (done : ℕ) × (slice_get s.stages n ≡ Some (Held worker done)) × (slice_get (part_at parts n) done ≡ None)
-IsRefusal parts s (Turn worker n) NoMemory = HoldsEntry parts s worker n
-IsRefusal parts s (Back worker n) NotHolder = (done : ℕ) → ¬ (slice_get s.stages n ≡ Some (Held worker done))
-IsRefusal parts s (Back worker n) NotDone = (done : ℕ) × (slice_get s.stages n ≡ Some (Held worker done)) × (¬ (done ≡ length (part_at parts n)))
-IsRefusal parts s event refused = ⊥
+abbrev pub IsEventRefusal : List (List Placed) → State → Event → Refused → Type 0
+IsEventRefusal parts s (Take worker n) NotWaiting = ¬ (slice_get s.stages n ≡ Some Waits)
+IsEventRefusal parts s (Turn worker n) NotHolder = (done : ℕ) → ¬ (slice_get s.stages n ≡ Some (Held worker done))
+IsEventRefusal parts s (Turn worker n) NoEntry = (done : ℕ) × (slice_get s.stages n ≡ Some (Held worker done)) × (slice_get (part_at parts n) done ≡ None)
+IsEventRefusal parts s (Turn worker n) NoMemory = HoldsEntry parts s worker n
+IsEventRefusal parts s (Back worker n) NotHolder = (done : ℕ) → ¬ (slice_get s.stages n ≡ Some (Held worker done))
+IsEventRefusal parts s (Back worker n) NotDone = (done : ℕ) × (slice_get s.stages n ≡ Some (Held worker done)) × (¬ (done ≡ length (part_at parts n)))
+IsEventRefusal parts s event refused = ⊥
 
 -- why a core can't be finished: a part is not back, or memory was refused
 abbrev pub IsUnfinished : State → Refused → Type 0

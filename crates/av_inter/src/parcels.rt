@@ -5,7 +5,7 @@ ghost use Rattle.av_types.specs.declared.place.SectionPos.{SectionPos};
 ghost use Rattle.av_world.specs.Views.{grid, blocks, lists, is_broken, IsSamePlaces};
 ghost use Rattle.av_cells.specs.Grid.{Grid};
 ghost use Rattle.av_cluster.specs.Clusters.{sections_of};
-ghost use Rattle.av_inter.specs.Cut.{CanCut, AreCut, ArePartsOf, IsSlotOf, put_grid, put_blocks};
+ghost use Rattle.av_inter.specs.Cut.{CanCut, AreCut, ArePartsOf, HoldsPartOf, put_grid, put_blocks};
 ghost use Rattle.av_inter.specs.Out.{out_in};
 
 use av_cluster::Cluster;
@@ -36,7 +36,7 @@ pub(crate) fn carve_all(
 
 /// Puts a parcel back, if it is out.
 pub(crate) fn mend_one(world: &mut World, slot: Option<Parcel>)
-    requires { IsSlotOf world.old slot }
+    requires { HoldsPartOf world.old slot }
     ensures blocks { blocks world.new ≡ put_blocks (lists world.old) (out_in slot) (blocks world.old) }
     ensures grid { grid world.new ≡ put_grid slot (grid world.old) }
     ensures same { IsSamePlaces world.old world.new }

@@ -20,7 +20,7 @@ use Rattle.av_cells.specs.World.{Lists, with_entry_if, listed_if, listed_all}
 use Rattle.av_cells.specs.Turn.{Change, change, entry_of, set_awake, turn}
 use Rattle.av_land.specs.Land.{Land, has_chunk, is_loaded, cells_of}
 use Rattle.av_land.specs.Tick.{Set, after, turned, set_in, edited, due_entries, without_due, turned_all, ticked, run_after}
-use Rattle.av_land.specs.Good.{IsEntryOf, Good, IsTimely, HasInts, IsSetOf, RunKeeps}
+use Rattle.av_land.specs.Good.{IsEntryOf, Good, IsTimely, HasIntCoordinates, IsSetOf, RunKeeps}
 use Rattle.av_land.proofs.Steps.{IsClosed, turn_keeps, set_keeps}
 
 abbrev land_of : Land ℕ → (Pos → ℕ) → Lists → Land ℕ
@@ -248,12 +248,12 @@ stays_timely n e few h s =
 zero_fits : FitsSigned w32 (pos 0)
 zero_fits = search rules
 
-made_timely : (n m : ℕ) (w : Land ℕ) → n < 1000000 → m ≤ n + 1 → HasInts w → Holds (IsTimely m) (n + 1) w
+made_timely : (n m : ℕ) (w : Land ℕ) → n < 1000000 → m ≤ n + 1 → HasIntCoordinates w → Holds (IsTimely m) (n + 1) w
 made_timely n m w few le ints_of p l =
     let i = ints_of p l in
     record { int_x = i.0; int_y = i.1; int_z = i.2; int_priority = zero_fits; late = omega (arith, ints); soon = omega (arith, ints) }
 
-ticked_good : (k : ℕ → Kind) (count : ℕ) (es : List (Set ℕ)) (n : ℕ) (w v : Land ℕ) → 10 ≤ count → n < 1000000 → HasInts w → AllByRecursion (IsSetOf count w) es → IsGoodLike count (IsTimely n) w v
+ticked_good : (k : ℕ → Kind) (count : ℕ) (es : List (Set ℕ)) (n : ℕ) (w v : Land ℕ) → 10 ≤ count → n < 1000000 → HasIntCoordinates w → AllByRecursion (IsSetOf count w) es → IsGoodLike count (IsTimely n) w v
     → IsGoodLike count (IsTimely (n + 1)) w (ticked k (n + 1) es v)
 ticked_good k count es n w v ten few ints_of sets s =
     let u = edited k (n + 1) es v in
@@ -264,7 +264,7 @@ ticked_good k count es n w v ten few ints_of sets s =
     } in
     turned_all_good k count (IsTimely (n + 1)) (n + 1) (due_entries (n + 1) u) w (without_due (n + 1) u) ten (made_timely n (n + 1) w few (omega arith) ints_of) b
 
-run_good : (k : ℕ → Kind) (count : ℕ) (es : List (Set ℕ)) (n : ℕ) (w : Land ℕ) → 10 ≤ count → n ≤ 1000000 → HasInts w → AllByRecursion (IsSetOf count w) es → Good count (IsTimely 0) w
+run_good : (k : ℕ → Kind) (count : ℕ) (es : List (Set ℕ)) (n : ℕ) (w : Land ℕ) → 10 ≤ count → n ≤ 1000000 → HasIntCoordinates w → AllByRecursion (IsSetOf count w) es → Good count (IsTimely 0) w
     → IsGoodLike count (IsTimely n) w (run_after k 0 es n w)
 run_good k count es zero w ten few ints_of sets g = record { same = record { same_height = refl; same_chunks = refl }; good = g }
 run_good k count es (suc n) w ten few ints_of sets g =

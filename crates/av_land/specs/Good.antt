@@ -36,8 +36,8 @@ pub record IsTimely (ticks : ℕ) (e : Entry) : Type 0 where
   pub soon : e.due ≤ℤ pos 2147483647
 
 -- each loaded block has coordinates that are Ints
-abbrev pub HasInts : Land ℕ → Type 0
-HasInts w = (p : Pos) → is_loaded w p ≡ true → FitsSigned w32 p.x × FitsSigned w32 p.y × FitsSigned w32 p.z
+abbrev pub HasIntCoordinates : Land ℕ → Type 0
+HasIntCoordinates w = (p : Pos) → is_loaded w p ≡ true → FitsSigned w32 p.x × FitsSigned w32 p.y × FitsSigned w32 p.z
 
 -- an edit of a loaded block to one of so many numbers
 pub record IsSetOf (count : ℕ) (w : Land ℕ) (e : Set ℕ) : Type 0 where
@@ -46,5 +46,5 @@ pub record IsSetOf (count : ℕ) (w : Land ℕ) (e : Set ℕ) : Type 0 where
 
 -- Ticks keep what a world needs to be written.
 abbrev pub RunKeeps : Type 0
-RunKeeps = (k : ℕ → Kind) (count : ℕ) (es : List (Set ℕ)) (n : ℕ) (w : Land ℕ) → 10 ≤ count → n ≤ 1000000 → HasInts w → AllByRecursion (IsSetOf count w) es
+RunKeeps = (k : ℕ → Kind) (count : ℕ) (es : List (Set ℕ)) (n : ℕ) (w : Land ℕ) → 10 ≤ count → n ≤ 1000000 → HasIntCoordinates w → AllByRecursion (IsSetOf count w) es
     → Good count (IsTimely 0) w → Good count (IsTimely n) (run k es n w)

@@ -9,7 +9,7 @@ use Rattle.av_rules.specs.declared.kinds.Kinds.{Kinds}
 use Rattle.av_world.specs.Views.{height_of, positions_of, blocks}
 use Rattle.av_world.specs.declared.worlds.World.{World}
 use Rattle.av_section_light.specs.Light.{IsChunkLight}
-use Rattle.av_light.specs.Placed.{IsPlaced, IsLitAt, ArePlaced}
+use Rattle.av_light.specs.Placed.{IsChunkLightAt, IsLitAt, ArePlaced}
 use Rattle.av_light.specs.declared.dealt.PlacedLight.{PlacedLight}
 
 -- what holds of each place still does where one is set
@@ -21,8 +21,8 @@ set_keeps P (x ∷ xs) (suc i) y d h is zero = h zero
 set_keeps P (x ∷ xs) (suc i) y d h is (suc j) = set_keeps (λ n. P (suc n)) xs i y d (λ n. h (suc n)) is j
 
 -- one slot is filled, or emptied
-pub placed_set : (k : Kinds) (w : World) (slots : List (Option ChunkLight)) (i : ℕ) (o : Option ChunkLight) → ArePlaced k w slots → IfSome o (IsPlaced k w i) → ArePlaced k w (set slots i o)
-placed_set k w slots i o h is = set_keeps (λ j s. IfSome s (IsPlaced k w j)) slots i o None h is
+pub placed_set : (k : Kinds) (w : World) (slots : List (Option ChunkLight)) (i : ℕ) (o : Option ChunkLight) → ArePlaced k w slots → IfSome o (IsChunkLightAt k w i) → ArePlaced k w (set slots i o)
+placed_set k w slots i o h is = set_keeps (λ j s. IfSome s (IsChunkLightAt k w j)) slots i o None h is
 
 zip_push : {A B : Type 0} (R : A → B → Type 0) (xs : List A) (ys : List B) (x : A) (y : B) → AllZip R xs ys → R x y → AllZip R (xs ++ x ∷ []) (ys ++ y ∷ [])
 zip_push R [] [] x y h is = (is, tt)
@@ -48,7 +48,7 @@ if_some (Some x) turn h = turn x h
 pub placed_at : (k : Kinds) (w : World) (slots : List (Option ChunkLight)) (i : ℕ) (o : Option ChunkLight) (cs : List ChunkPos) (d : ChunkPos)
     → ArePlaced k w slots → i < length slots → o ≡ get_or slots i o → cs ≡ positions_of w → IfSome o (IsChunkLight k (blocks w) (height_of w) (get_or cs i d))
 placed_at k w slots i o cs d h less is same =
-    let here : IfSome o (IsPlaced k w i) = subst (λ s. IfSome s (IsPlaced k w i)) (sym (is ∙ same_read slots i o None less)) (h i) in
+    let here : IfSome o (IsChunkLightAt k w i) = subst (λ s. IfSome s (IsChunkLightAt k w i)) (sym (is ∙ same_read slots i o None less)) (h i) in
     if_some o (λ l p. subst (λ ps. IsChunkLight k (blocks w) (height_of w) (get_or ps i d) l) (sym same) (p.light d)) here
 
 -- one light more

@@ -7,7 +7,7 @@ use Rattle.av_types.specs.declared.fault.Fault.TheVariants.{OutOfMemory}
 use Rattle.av_sink.specs.Account.{Account, IsDevice, with_files}
 use Rattle.av_sink.specs.Saving.{IsStopped, named_file}
 use Rattle.av_image.specs.Loading.{file_in}
-use Rattle.av_run.specs.Answer.{IsAnswer}
+use Rattle.av_run.specs.Answer.{IsRunAnswer}
 use Rattle.av_run.specs.declared.runs.Outcome.{Outcome}
 use Rattle.av_main.specs.declared.running.Inputs.{Inputs}
 use Rattle.av_main.specs.Folders.{IsUnreadFolder}
@@ -32,7 +32,7 @@ IsUnreadRun table edits folder e = (e ≡ OutOfMemory) ⊎ (IsDevice table e ⊎
 
 -- the answer is that of a run of what was read
 abbrev pub IsRunOf : Inputs → ℕ → ℕ → Result Outcome Fault → Type 0
-IsRunOf i ticks workers answer = IsAnswer (map file_in i.files.items) i.table.items i.edits.items ticks workers answer
+IsRunOf i ticks workers answer = IsRunAnswer (map file_in i.files.items) i.table.items i.edits.items ticks workers answer
 
 -- What a run leaves in the account of a sink that its files are handed to: all of them, in their order; or, where the run is
 -- refused, nothing; or those before the first that was not taken.

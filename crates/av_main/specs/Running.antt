@@ -13,7 +13,7 @@ use Rattle.av_survey.specs.declared.finding.Finding.{Finding}
 use Rattle.av_words.specs.declared.command_line.commands.Words.{Words}
 use Rattle.av_words.specs.declared.command_line.commands.Words.TheVariants.{Block, Check, Run}
 use Rattle.av_commands.specs.BlockCommand.{HasAnswered}
-use Rattle.av_words.specs.CommandLine.{IsReadFrom, IsRefusal}
+use Rattle.av_words.specs.CommandLine.{IsReadFrom, IsWordsRefusal}
 use Rattle.av_commands.specs.CheckCommand.{HasFindings}
 use Rattle.av_main.specs.RunCommand.{HasRunRegions, folder_account}
 use Rattle.av_sink.specs.Account.{Account}
@@ -55,7 +55,7 @@ HasRunCommand (Run input output table edits ticks workers progress) before after
 -- the same of words: the run of the command that they name, or a refusal, which may print help
 pub data HasRunWords (words : List Text) (before after : Option (List ℕ)) (status : ℕ) : Type 0 where
   ran : (command : Words) → IsReadFrom words command → HasRunCommand command before after status → HasRunWords words before after status
-  refused : (e : Error) → IsRefusal words e → (kind_of e ≡ kind.OutOfMemory → status ≡ 1) → (kind_of e ≢ kind.OutOfMemory → status ≡ 2) → HasRunWords words before after status
+  refused : (e : Error) → IsWordsRefusal words e → (kind_of e ≡ kind.OutOfMemory → status ≡ 1) → (kind_of e ≢ kind.OutOfMemory → status ≡ 2) → HasRunWords words before after status
 
 -- the same of the program: the run of the words that it was called with, or nothing and a status where it can't have them
 pub data HasRunProgram (before after : Option (List ℕ)) (status : ℕ) : Type 0 where

@@ -8,11 +8,11 @@ use Rattle.std.proofs.Math.Facts.{to_z-of_z, Fits-lt-pow, Fits-of_z}
 use Rattle.std.proofs.lemmas.Bool.{le-ltb}
 use Rattle.std.proofs.lemmas.List.{length-append}
 use mir.Val.{bits}
-use Rattle.av_nbt.specs.declared.tag.Kind.{Kind}
-use Rattle.av_nbt.specs.declared.tag.Kind.TheVariants as kind
-use Rattle.av_nbt.specs.Kinds.{kind_number}
+use Rattle.av_nbt.specs.declared.tag.TagType.{TagType}
+use Rattle.av_nbt.specs.declared.tag.TagType.TheVariants as tag_type
+use Rattle.av_nbt.specs.TagTypes.{type_number}
 use Rattle.av_nbt.specs.Spelling.{SpellsNumber, SpellsNumbers, SpellsBits, SpellsText, count_of}
-use Rattle.av_nbt.specs.Reading.{Field, front_at, number_at, signed_at, kind_at, text_at, length_at, list_length_at, bytes_at, numbers_at}
+use Rattle.av_nbt.specs.Reading.{Field, front_at, number_at, signed_at, type_at, text_at, length_at, list_length_at, bytes_at, numbers_at}
 use Rattle.av_nbt.proofs.Bytes.{Codes, codes_16, codes_32}
 use Rattle.av_nbt.proofs.Taken.{SpellsByteArray, SpellsArray}
 
@@ -38,21 +38,21 @@ signed_again w codes z front rest h =
     let small : cast_unsigned w z < 2 ^ bits w = Fits-lt-pow (Fits-of_z h.fits) in
     rw (number_again w codes (cast_unsigned w z) front rest (small, h.is), to_z-of_z h.fits) refl
 
-pub kind_again : (k : Kind) (rest : List ℕ) → kind_at (kind_number k ∷ rest) ≡ Some (k, rest)
-unfolding kind_at
-kind_again kind.End rest = refl
-kind_again kind.Byte rest = refl
-kind_again kind.Short rest = refl
-kind_again kind.Int rest = refl
-kind_again kind.Long rest = refl
-kind_again kind.Float rest = refl
-kind_again kind.Double rest = refl
-kind_again kind.ByteArray rest = refl
-kind_again kind.Text rest = refl
-kind_again kind.List rest = refl
-kind_again kind.Compound rest = refl
-kind_again kind.IntArray rest = refl
-kind_again kind.LongArray rest = refl
+pub type_again : (k : TagType) (rest : List ℕ) → type_at (type_number k ∷ rest) ≡ Some (k, rest)
+unfolding type_at
+type_again tag_type.End rest = refl
+type_again tag_type.Byte rest = refl
+type_again tag_type.Short rest = refl
+type_again tag_type.Int rest = refl
+type_again tag_type.Long rest = refl
+type_again tag_type.Float rest = refl
+type_again tag_type.Double rest = refl
+type_again tag_type.ByteArray rest = refl
+type_again tag_type.Text rest = refl
+type_again tag_type.List rest = refl
+type_again tag_type.Compound rest = refl
+type_again tag_type.IntArray rest = refl
+type_again tag_type.LongArray rest = refl
 
 pub text_again : ReadsAgain text_at SpellsText
 unfolding text_at

@@ -3,12 +3,12 @@ use Rattle.std.proofs.Common.{◌≡◌, flat_map, length, get_or, drop, drop-co
 use Rattle.std.specs.Prelude.{IsErrAnd}
 use Rattle.av_types.specs.declared.fault.Fault.{Fault}
 use Rattle.av_types.specs.declared.fault.Fault.TheVariants.{OutOfMemory, BadNbt}
-use Rattle.av_nbt.specs.declared.tag.Kind.{Kind}
-use Rattle.av_nbt.specs.Kinds.{is_end}
+use Rattle.av_nbt.specs.declared.tag.TagType.{TagType}
+use Rattle.av_nbt.specs.TagTypes.{is_end}
 use Rattle.av_nbt.specs.Nbt.{NamedTag}
 use Rattle.av_nbt.specs.Shape.{◌>>=◌}
 use Rattle.av_nbt.specs.Appending.{Writes}
-use Rattle.av_nbt.specs.Reading.{Fails, Gives, Field, Reader, kind_at, named_at, repeat_at, until_end, with_front}
+use Rattle.av_nbt.specs.Reading.{Fails, Gives, Field, Reader, type_at, named_at, repeat_at, until_end, with_front}
 
 -- a fault of a step is a fault of the whole
 pub fails_whole : {A B : Type 0} (e : Fault) (step : Option A) (whole : Option B) → (step ≡ None → whole ≡ None) → Fails e step → Fails e whole
@@ -47,18 +47,18 @@ module _ {X : Type 0} (read : List ℕ → Field X) where
         sym so_far ∙ ap (λ n. with_front xs (repeat_at read n rest)) left ∙ ap (λ o. with_front xs o) (repeat_none (count - (i + 1)) rest step)
 
 module _ (read : Reader) where
-  until_next : (n : ℕ) (rest after next : List ℕ) (k : Kind) (m : NamedTag) → kind_at rest ≡ Some (k, after) → is_end k ≡ false → named_at read k after ≡ Some (m, next)
+  until_next : (n : ℕ) (rest after next : List ℕ) (k : TagType) (m : NamedTag) → type_at rest ≡ Some (k, after) → is_end k ≡ false → named_at read k after ≡ Some (m, next)
       → until_end read (suc n) rest ≡ (until_end read n next >>= λ f. Some (m ∷ f.0, f.1))
-  until_next n rest after next k m kind more tag = rw (kind, more, tag) refl
+  until_next n rest after next k m tag_type more tag = rw (tag_type, more, tag) refl
 
-  until_last : (n : ℕ) (rest after : List ℕ) (k : Kind) → kind_at rest ≡ Some (k, after) → is_end k ≡ true → until_end read (suc n) rest ≡ Some ([], after)
-  until_last n rest after k kind ends = rw (kind, ends) refl
+  until_last : (n : ℕ) (rest after : List ℕ) (k : TagType) → type_at rest ≡ Some (k, after) → is_end k ≡ true → until_end read (suc n) rest ≡ Some ([], after)
+  until_last n rest after k tag_type ends = rw (tag_type, ends) refl
 
-  until_no_kind : (n : ℕ) (rest : List ℕ) → kind_at rest ≡ None → until_end read (suc n) rest ≡ None
-  until_no_kind n rest kind = rw kind refl
+  until_no_type : (n : ℕ) (rest : List ℕ) → type_at rest ≡ None → until_end read (suc n) rest ≡ None
+  until_no_type n rest tag_type = rw tag_type refl
 
-  until_no_tag : (n : ℕ) (rest after : List ℕ) (k : Kind) → kind_at rest ≡ Some (k, after) → is_end k ≡ false → named_at read k after ≡ None → until_end read (suc n) rest ≡ None
-  until_no_tag n rest after k kind more tag = rw (kind, more, tag) refl
+  until_no_tag : (n : ℕ) (rest after : List ℕ) (k : TagType) → type_at rest ≡ Some (k, after) → is_end k ≡ false → named_at read k after ≡ None → until_end read (suc n) rest ≡ None
+  until_no_tag n rest after k tag_type more tag = rw (tag_type, more, tag) refl
 
   module _ (xs : List NamedTag) (count i : ℕ) (rest : List ℕ) (whole : Field (List NamedTag)) (more : i < count) (so_far : with_front xs (until_end read (count - i) rest) ≡ whole) where
     opened : (o : Field (List NamedTag)) → until_end read (suc (count - (i + 1))) rest ≡ o → with_front xs o ≡ whole
@@ -66,19 +66,19 @@ module _ (read : Reader) where
         let left : suc (count - (i + 1)) ≡ count - i = omega arith in
         ap (λ f. with_front xs f) (sym is) ∙ ap (λ n. with_front xs (until_end read n rest)) left ∙ so_far
 
-    pub named_more : (after next : List ℕ) (k : Kind) (m : NamedTag) → kind_at rest ≡ Some (k, after) → is_end k ≡ false → named_at read k after ≡ Some (m, next)
+    pub named_more : (after next : List ℕ) (k : TagType) (m : NamedTag) → type_at rest ≡ Some (k, after) → is_end k ≡ false → named_at read k after ≡ Some (m, next)
         → with_front (xs ++ m ∷ []) (until_end read (count - (i + 1)) next) ≡ whole
-    named_more after next k m kind going tag =
-        front_moves xs m (until_end read (count - (i + 1)) next) ∙ opened (until_end read (count - (i + 1)) next >>= λ f. Some (m ∷ f.0, f.1)) (until_next (count - (i + 1)) rest after next k m kind going tag)
+    named_more after next k m tag_type going tag =
+        front_moves xs m (until_end read (count - (i + 1)) next) ∙ opened (until_end read (count - (i + 1)) next >>= λ f. Some (m ∷ f.0, f.1)) (until_next (count - (i + 1)) rest after next k m tag_type going tag)
 
-    pub named_end : (after : List ℕ) (k : Kind) → kind_at rest ≡ Some (k, after) → is_end k ≡ true → whole ≡ Some (xs, after)
-    named_end after k kind ends = sym (opened (Some ([], after)) (until_last (count - (i + 1)) rest after k kind ends)) ∙ ap (λ ys. Some (ys, after)) (append-nil xs)
+    pub named_end : (after : List ℕ) (k : TagType) → type_at rest ≡ Some (k, after) → is_end k ≡ true → whole ≡ Some (xs, after)
+    named_end after k tag_type ends = sym (opened (Some ([], after)) (until_last (count - (i + 1)) rest after k tag_type ends)) ∙ ap (λ ys. Some (ys, after)) (append-nil xs)
 
-    pub named_no_kind : kind_at rest ≡ None → whole ≡ None
-    named_no_kind kind = sym (opened None (until_no_kind (count - (i + 1)) rest kind))
+    pub named_no_type : type_at rest ≡ None → whole ≡ None
+    named_no_type tag_type = sym (opened None (until_no_type (count - (i + 1)) rest tag_type))
 
-    pub named_no_tag : (after : List ℕ) (k : Kind) → kind_at rest ≡ Some (k, after) → is_end k ≡ false → named_at read k after ≡ None → whole ≡ None
-    named_no_tag after k kind going tag = sym (opened None (until_no_tag (count - (i + 1)) rest after k kind going tag))
+    pub named_no_tag : (after : List ℕ) (k : TagType) → type_at rest ≡ Some (k, after) → is_end k ≡ false → named_at read k after ≡ None → whole ≡ None
+    named_no_tag after k tag_type going tag = sym (opened None (until_no_tag (count - (i + 1)) rest after k tag_type going tag))
 
 -- a loop that writes: one more value behind those that were written
 pub written_more : {X : Type 0} (f : X → List ℕ) (old new : List ℕ) (xs : List X) (i : ℕ) (x d : X) (whole : List ℕ) → i < length xs → x ≡ get_or xs i d → new ≡ old ++ f x

@@ -3,7 +3,7 @@ use Rattle.std.proofs.Common.{◌≡◌, ℕ, suc, true, false, List, [], ◌∷
 use Rattle.std.specs.Prelude.{option_map, if◌then◌else◌, remove}
 use Rattle.std.specs.Str.{bytes_eq}
 use Rattle.av_nbt.specs.Nbt.{Nbt, NamedTag}
-use Rattle.av_nbt.specs.Place.{tag_of, place, without, index_of_name}
+use Rattle.av_nbt.specs.Place.{tag_of, with_tag, without, index_of_name}
 
 -- What holds of named tags in which a name stands at a place.
 abbrev pub Found : List ℕ → List NamedTag → (List NamedTag → ℕ → Type 0) → Type 0
@@ -24,8 +24,8 @@ by_place n P first later (m ∷ ms) i e =
     ] refl e
 
 -- a tag set where its name stands is a tag placed
-pub set_is_placed : (n : List ℕ) (t : Nbt) (ms : List NamedTag) → Found n ms (λ xs i. set xs i (record { name = n; tag = t }) ≡ place n t xs)
-set_is_placed n t ms = by_place n (λ xs i. set xs i (record { name = n; tag = t }) ≡ place n t xs) (λ m xs is. rw is refl) (λ m xs i is e. rw (is, ← e) refl) ms
+pub set_is_placed : (n : List ℕ) (t : Nbt) (ms : List NamedTag) → Found n ms (λ xs i. set xs i (record { name = n; tag = t }) ≡ with_tag n t xs)
+set_is_placed n t ms = by_place n (λ xs i. set xs i (record { name = n; tag = t }) ≡ with_tag n t xs) (λ m xs is. rw is refl) (λ m xs i is e. rw (is, ← e) refl) ms
 
 -- the tag of a name is the one where the name stands
 pub tag_is_found : (n : List ℕ) (ms : List NamedTag) → Found n ms (λ xs i. (d : NamedTag) → tag_of n xs ≡ Some (get_or xs i d).tag)
@@ -52,8 +52,8 @@ by_absence n P none more (m ∷ ms) e =
     ] refl e
 
 -- a tag of a new name is placed last
-pub placed_last : (n : List ℕ) (t : Nbt) (ms : List NamedTag) → Missing n ms (λ xs. xs ++ record { name = n; tag = t } ∷ [] ≡ place n t xs)
-placed_last n t ms = by_absence n (λ xs. xs ++ record { name = n; tag = t } ∷ [] ≡ place n t xs) refl (λ m xs is e. rw (is, ← e) refl) ms
+pub placed_last : (n : List ℕ) (t : Nbt) (ms : List NamedTag) → Missing n ms (λ xs. xs ++ record { name = n; tag = t } ∷ [] ≡ with_tag n t xs)
+placed_last n t ms = by_absence n (λ xs. xs ++ record { name = n; tag = t } ∷ [] ≡ with_tag n t xs) refl (λ m xs is e. rw (is, ← e) refl) ms
 
 -- a missing name has no tag
 pub tag_is_missing : (n : List ℕ) (ms : List NamedTag) → Missing n ms (λ xs. tag_of n xs ≡ None)

@@ -3,15 +3,15 @@ use Rattle.std.proofs.Common.{◌≡◌, ℕ, List, [], ◌∷◌, ◌++◌, Som
 use Rattle.std.specs.Prelude.{remove}
 use Rattle.std.proofs.Math.ListN.{get_or-map}
 use Rattle.std.proofs.lemmas.List.{map-set, map-append, take-map, drop-map}
-use Rattle.av_nbt.specs.Place.{tag_of, IsPlaced, without, index_of_name}
+use Rattle.av_nbt.specs.Place.{tag_of, IsWithTag, without, index_of_name}
 use Rattle.av_nbt.specs.View.{named_view, named_views}
 use Rattle.av_nbt.specs.declared.tag.Named.{Named}
 use Rattle.av_nbt.proofs.Names.{set_is_placed, tag_is_found, placed_last, without_found}
 
-pub placed_at : (old : List Named) (i : ℕ) (new : Named) → Some i ≡ index_of_name (named_view new).name (named_views old) → IsPlaced (named_view new) (named_views old) (named_views (set old i new))
+pub placed_at : (old : List Named) (i : ℕ) (new : Named) → Some i ≡ index_of_name (named_view new).name (named_views old) → IsWithTag (named_view new) (named_views old) (named_views (set old i new))
 placed_at old i new e = map-set named_view old i new ∙ set_is_placed (named_view new).name (named_view new).tag (named_views old) i (sym e)
 
-pub placed_after : (old : List Named) (new : Named) → None ≡ index_of_name (named_view new).name (named_views old) → IsPlaced (named_view new) (named_views old) (named_views (old ++ new ∷ []))
+pub placed_after : (old : List Named) (new : Named) → None ≡ index_of_name (named_view new).name (named_views old) → IsWithTag (named_view new) (named_views old) (named_views (old ++ new ∷ []))
 placed_after old new e = map-append named_view old (new ∷ []) ∙ placed_last (named_view new).name (named_view new).tag (named_views old) (sym e)
 
 pub taken_at : (old : List Named) (i : ℕ) (x : Named) (n : List ℕ) → Some i ≡ index_of_name n (named_views old) → x ≡ get_or old i x → tag_of n (named_views old) ≡ Some (named_view x).tag

@@ -7,12 +7,12 @@ use Rattle.std.proofs.Math.Nat.{mul-div_cancel}
 use Rattle.std.proofs.Math.Facts.{of_z-to_z, sfits_to_z, Fits-of_lt}
 use Rattle.std.specs.Simd.{first_chunks}
 use Rattle.std.specs.Int.{Width, w16, w32, byte_len, to_be_bytes, from_be_bytes, cast_signed}
-use Rattle.av_nbt.specs.declared.tag.Kind.{Kind}
-use Rattle.av_nbt.specs.declared.tag.Kind.TheVariants as kind
-use Rattle.av_nbt.specs.Kinds.{kind_number, kind_from}
+use Rattle.av_nbt.specs.declared.tag.TagType.{TagType}
+use Rattle.av_nbt.specs.declared.tag.TagType.TheVariants as tag_type
+use Rattle.av_nbt.specs.TagTypes.{type_number, type_from}
 use Rattle.av_nbt.specs.Shape.{◌>>=◌}
 use Rattle.av_nbt.specs.Spelling.{SpellsNumber, SpellsNumbers, SpellsBits, SpellsText, count_of}
-use Rattle.av_nbt.specs.Reading.{Field, front_at, number_at, signed_at, kind_at, text_at, length_from, length_at, list_length_at, bytes_at, signed_in, numbers_at}
+use Rattle.av_nbt.specs.Reading.{Field, front_at, number_at, signed_at, type_at, text_at, length_from, length_at, list_length_at, bytes_at, signed_in, numbers_at}
 use Rattle.av_nbt.proofs.Bytes.{AreBytes, Codes, codes_16, codes_32, bytes_left, bytes_right}
 
 -- the bytes that were taken from the front, and what holds of them
@@ -94,31 +94,31 @@ signed_taken w codes bytes rest z h e =
       holds = subst (λ m. SpellsNumber w m taken.front) value (record { fits = sfits_to_z fits; is = taken.holds.1 ∙ ap (λ m. to_be_bytes w m) (sym (of_z-to_z fits)) });
     }
 
-kind_of_number : (b : ℕ) (k : Kind) → kind_from b ≡ Some k → kind_number k ≡ b
-kind_of_number zero k e = let is : k ≡ kind.End = cc in rw is refl
-kind_of_number (suc zero) k e = let is : k ≡ kind.Byte = cc in rw is refl
-kind_of_number (suc (suc zero)) k e = let is : k ≡ kind.Short = cc in rw is refl
-kind_of_number (suc (suc (suc zero))) k e = let is : k ≡ kind.Int = cc in rw is refl
-kind_of_number (suc (suc (suc (suc zero)))) k e = let is : k ≡ kind.Long = cc in rw is refl
-kind_of_number (suc (suc (suc (suc (suc zero))))) k e = let is : k ≡ kind.Float = cc in rw is refl
-kind_of_number (suc (suc (suc (suc (suc (suc zero)))))) k e = let is : k ≡ kind.Double = cc in rw is refl
-kind_of_number (suc (suc (suc (suc (suc (suc (suc zero))))))) k e = let is : k ≡ kind.ByteArray = cc in rw is refl
-kind_of_number (suc (suc (suc (suc (suc (suc (suc (suc zero)))))))) k e = let is : k ≡ kind.Text = cc in rw is refl
-kind_of_number (suc (suc (suc (suc (suc (suc (suc (suc (suc zero))))))))) k e = let is : k ≡ kind.List = cc in rw is refl
-kind_of_number (suc (suc (suc (suc (suc (suc (suc (suc (suc (suc zero)))))))))) k e = let is : k ≡ kind.Compound = cc in rw is refl
-kind_of_number (suc (suc (suc (suc (suc (suc (suc (suc (suc (suc (suc zero))))))))))) k e = let is : k ≡ kind.IntArray = cc in rw is refl
-kind_of_number (suc (suc (suc (suc (suc (suc (suc (suc (suc (suc (suc (suc zero)))))))))))) k e = let is : k ≡ kind.LongArray = cc in rw is refl
-kind_of_number (suc (suc (suc (suc (suc (suc (suc (suc (suc (suc (suc (suc (suc b))))))))))))) k e = cc
+type_of_number : (b : ℕ) (k : TagType) → type_from b ≡ Some k → type_number k ≡ b
+type_of_number zero k e = let is : k ≡ tag_type.End = cc in rw is refl
+type_of_number (suc zero) k e = let is : k ≡ tag_type.Byte = cc in rw is refl
+type_of_number (suc (suc zero)) k e = let is : k ≡ tag_type.Short = cc in rw is refl
+type_of_number (suc (suc (suc zero))) k e = let is : k ≡ tag_type.Int = cc in rw is refl
+type_of_number (suc (suc (suc (suc zero)))) k e = let is : k ≡ tag_type.Long = cc in rw is refl
+type_of_number (suc (suc (suc (suc (suc zero))))) k e = let is : k ≡ tag_type.Float = cc in rw is refl
+type_of_number (suc (suc (suc (suc (suc (suc zero)))))) k e = let is : k ≡ tag_type.Double = cc in rw is refl
+type_of_number (suc (suc (suc (suc (suc (suc (suc zero))))))) k e = let is : k ≡ tag_type.ByteArray = cc in rw is refl
+type_of_number (suc (suc (suc (suc (suc (suc (suc (suc zero)))))))) k e = let is : k ≡ tag_type.Text = cc in rw is refl
+type_of_number (suc (suc (suc (suc (suc (suc (suc (suc (suc zero))))))))) k e = let is : k ≡ tag_type.List = cc in rw is refl
+type_of_number (suc (suc (suc (suc (suc (suc (suc (suc (suc (suc zero)))))))))) k e = let is : k ≡ tag_type.Compound = cc in rw is refl
+type_of_number (suc (suc (suc (suc (suc (suc (suc (suc (suc (suc (suc zero))))))))))) k e = let is : k ≡ tag_type.IntArray = cc in rw is refl
+type_of_number (suc (suc (suc (suc (suc (suc (suc (suc (suc (suc (suc (suc zero)))))))))))) k e = let is : k ≡ tag_type.LongArray = cc in rw is refl
+type_of_number (suc (suc (suc (suc (suc (suc (suc (suc (suc (suc (suc (suc (suc b))))))))))))) k e = cc
 
-pub kind_taken : (bytes rest : List ℕ) (k : Kind) → kind_at bytes ≡ Some (k, rest) → bytes ≡ kind_number k ∷ rest
-unfolding kind_at
-kind_taken [] rest k e = cc
-kind_taken (b ∷ bs) rest k e =
-    let step = chained (kind_from b) (λ j. Some (j, bs)) (k, rest) e in
+pub type_taken : (bytes rest : List ℕ) (k : TagType) → type_at bytes ≡ Some (k, rest) → bytes ≡ type_number k ∷ rest
+unfolding type_at
+type_taken [] rest k e = cc
+type_taken (b ∷ bs) rest k e =
+    let step = chained (type_from b) (λ j. Some (j, bs)) (k, rest) e in
     let value = same_value (step.value, bs) k rest step.then_rest in
     let left = same_rest (step.value, bs) k rest step.then_rest in
-    let is = kind_of_number b step.value step.first in
-    ap (λ r. b ∷ r) left ∙ ap (λ c. c ∷ rest) (sym is ∙ ap kind_number value)
+    let is = type_of_number b step.value step.first in
+    ap (λ r. b ∷ r) left ∙ ap (λ c. c ∷ rest) (sym is ∙ ap type_number value)
 
 pub text_taken : Takes text_at SpellsText
 unfolding text_at

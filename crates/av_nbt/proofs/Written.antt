@@ -34,7 +34,7 @@ mutual
   spelled_fits (bits64 n) bytes h = tt
   spelled_fits (byte_array s) bytes (len, parts, h) = length_fits (length s) len h
   spelled_fits (text s) bytes h = h.short
-  spelled_fits (list e ts) bytes (size, len, rest, parts, h, count, kinds, items) = (subst (λ n. n < 2 ^ 31) count (count_fits size h.fits).sfits, items_fit ts rest items)
+  spelled_fits (list e ts) bytes (size, len, rest, parts, h, count, tag_types, items) = (subst (λ n. n < 2 ^ 31) count (count_fits size h.fits).sfits, items_fit ts rest items)
   spelled_fits (compound ms) bytes (distinct, members) = members_fit ms bytes members
   spelled_fits (int_array zs) bytes (len, rest, parts, h, numbers) = length_fits (length zs) len h
   spelled_fits (long_array zs) bytes (len, rest, parts, h, numbers) = length_fits (length zs) len h
@@ -75,8 +75,8 @@ mutual
   written_spells (bits64 n) bytes h = (h.0, refl)
   written_spells (byte_array s) bytes (len, parts, h) = (to_be_bytes w32 (length s), refl, written_length (length s) h.fits)
   written_spells (text s) bytes h = written_text s bytes h
-  written_spells (list e ts) bytes (size, len, rest, parts, h, count, kinds, items) =
-      (pos (item_count ts), to_be_bytes w32 (item_count ts), written_items ts, refl, written_length (item_count ts) (subst (λ n. FitsSigned w32 (pos n)) count (count_fits size h.fits)), refl, kinds, written_items_spell ts rest items)
+  written_spells (list e ts) bytes (size, len, rest, parts, h, count, tag_types, items) =
+      (pos (item_count ts), to_be_bytes w32 (item_count ts), written_items ts, refl, written_length (item_count ts) (subst (λ n. FitsSigned w32 (pos n)) count (count_fits size h.fits)), refl, tag_types, written_items_spell ts rest items)
   written_spells (compound ms) bytes (distinct, members) = (distinct, written_members_spell ms bytes members)
   written_spells (int_array zs) bytes (len, rest, parts, h, numbers) = (to_be_bytes w32 (length zs), flat_map (signed_bytes w32) zs, refl, written_length (length zs) h.fits, written_numbers w32 zs rest numbers)
   written_spells (long_array zs) bytes (len, rest, parts, h, numbers) = (to_be_bytes w32 (length zs), flat_map (signed_bytes w64) zs, refl, written_length (length zs) h.fits, written_numbers w64 zs rest numbers)

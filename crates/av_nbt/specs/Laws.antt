@@ -1,12 +1,12 @@
 -- Laws of spelling.
 use Rattle.std.specs.Prelude.{◌≡◌, ℕ, List, ◌++◌}
-use Rattle.av_nbt.specs.Nbt.{Nbt, Document, kind_of}
+use Rattle.av_nbt.specs.Nbt.{Nbt, Document, tag_type_of}
 use Rattle.av_nbt.specs.Spelling.{Spells, SpellsDocument}
 use Rattle.av_nbt.specs.Writing.{written_document, IsWellFormed}
 
--- Bytes spell at most one tag of a kind, and no spelling begins a longer one.
+-- Bytes spell at most one tag of a type, and no spelling begins a longer one.
 abbrev pub OneTag : Type 0
-OneTag = (t u : Nbt) (a b x y : List ℕ) → kind_of t ≡ kind_of u → Spells t a → Spells u b → a ++ x ≡ b ++ y → (t ≡ u) × (a ≡ b)
+OneTag = (t u : Nbt) (a b x y : List ℕ) → tag_type_of t ≡ tag_type_of u → Spells t a → Spells u b → a ++ x ≡ b ++ y → (t ≡ u) × (a ≡ b)
 
 -- Bytes spell at most one document, and no spelling begins a longer one.
 abbrev pub OneDocument : Type 0

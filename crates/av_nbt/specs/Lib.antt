@@ -1,4 +1,4 @@
-pub mod Kinds
+pub mod TagTypes
 pub mod Nbt
 pub mod View
 pub mod Spelling

@@ -1,8 +1,8 @@
 -- What a tag is (minecraft.wiki, "NBT format"), apart from where it lies in memory.
 -- Texts are bytes, a Float is a number of 32 bits and a Double one of 64.
 use Rattle.std.specs.Prelude.{◌≡◌, ◌≢◌, ℕ, suc, max, ℤ, List, [], ◌∷◌}
-use Rattle.av_nbt.specs.declared.tag.Kind.{Kind}
-use Rattle.av_nbt.specs.declared.tag.Kind.TheVariants as kind
+use Rattle.av_nbt.specs.declared.tag.TagType.{TagType}
+use Rattle.av_nbt.specs.declared.tag.TagType.TheVariants as tag_type
 
 mutual
   pub data Nbt : Type 0 where
@@ -14,7 +14,7 @@ mutual
     bits64 : ℕ → Nbt
     byte_array : List ℕ → Nbt
     text : List ℕ → Nbt
-    list : Kind → Items → Nbt
+    list : TagType → Items → Nbt
     compound : Members → Nbt
     int_array : List ℤ → Nbt
     long_array : List ℤ → Nbt
@@ -37,19 +37,19 @@ pub record Document : Type 0 where
   pub name : List ℕ
   pub members : Members
 
-abbrev pub kind_of : Nbt → Kind
-kind_of (byte z) = kind.Byte
-kind_of (int16 z) = kind.Short
-kind_of (int z) = kind.Int
-kind_of (int64 z) = kind.Long
-kind_of (bits32 n) = kind.Float
-kind_of (bits64 n) = kind.Double
-kind_of (byte_array s) = kind.ByteArray
-kind_of (text s) = kind.Text
-kind_of (list e ts) = kind.List
-kind_of (compound ms) = kind.Compound
-kind_of (int_array zs) = kind.IntArray
-kind_of (long_array zs) = kind.LongArray
+abbrev pub tag_type_of : Nbt → TagType
+tag_type_of (byte z) = tag_type.Byte
+tag_type_of (int16 z) = tag_type.Short
+tag_type_of (int z) = tag_type.Int
+tag_type_of (int64 z) = tag_type.Long
+tag_type_of (bits32 n) = tag_type.Float
+tag_type_of (bits64 n) = tag_type.Double
+tag_type_of (byte_array s) = tag_type.ByteArray
+tag_type_of (text s) = tag_type.Text
+tag_type_of (list e ts) = tag_type.List
+tag_type_of (compound ms) = tag_type.Compound
+tag_type_of (int_array zs) = tag_type.IntArray
+tag_type_of (long_array zs) = tag_type.LongArray
 
 -- a list's items and a compound's members, as lists
 abbrev pub items_of : List Nbt → Items
@@ -68,19 +68,19 @@ abbrev pub names : Members → List (List ℕ)
 names no_members = []
 names (member n t ms) = n ∷ names ms
 
--- each item is of the kind
-abbrev pub AreOf : Kind → Items → Type 0
+-- each item is of the type
+abbrev pub AreOf : TagType → Items → Type 0
 AreOf e no_items = Unit {0}
-AreOf e (item t ts) = (kind_of t ≡ e) × AreOf e ts
+AreOf e (item t ts) = (tag_type_of t ≡ e) × AreOf e ts
 
 -- no name is there twice
-abbrev pub IsAbsent : List ℕ → Members → Type 0
-IsAbsent n no_members = Unit {0}
-IsAbsent n (member m t ms) = (n ≢ m) × IsAbsent n ms
+abbrev pub LacksMember : List ℕ → Members → Type 0
+LacksMember n no_members = Unit {0}
+LacksMember n (member m t ms) = (n ≢ m) × LacksMember n ms
 
-abbrev pub AreDistinct : Members → Type 0
-AreDistinct no_members = Unit {0}
-AreDistinct (member n t ms) = IsAbsent n ms × AreDistinct ms
+abbrev pub HaveDistinctNames : Members → Type 0
+HaveDistinctNames no_members = Unit {0}
+HaveDistinctNames (member n t ms) = LacksMember n ms × HaveDistinctNames ms
 
 -- how deep lists and compounds nest
 abbrev mutual

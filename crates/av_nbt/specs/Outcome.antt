@@ -10,7 +10,7 @@ abbrev pub SpellsNone : List ℕ → Type 0
 SpellsNone bytes = (d : Document) → ¬ SpellsDocument d bytes
 
 -- memory, or bytes that spell no document, and no other fault
-abbrev pub IsRefusal : Fault → List ℕ → Type 0
-IsRefusal OutOfMemory bytes = Unit {0}
-IsRefusal BadNbt bytes = SpellsNone bytes
-IsRefusal _ bytes = ⊥
+abbrev pub IsDecodeRefusal : Fault → List ℕ → Type 0
+IsDecodeRefusal OutOfMemory bytes = Unit {0}
+IsDecodeRefusal BadNbt bytes = SpellsNone bytes
+IsDecodeRefusal _ bytes = ⊥

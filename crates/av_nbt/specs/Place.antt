@@ -9,13 +9,13 @@ tag_of n [] = None
 tag_of n (m ∷ ms) = if bytes_eq n m.name then Some m.tag else tag_of n ms
 
 -- a tag put where one of its name stood, or last where there was none
-abbrev pub place : List ℕ → Nbt → List NamedTag → List NamedTag
-place n t [] = record { name = n; tag = t } ∷ []
-place n t (m ∷ ms) = if bytes_eq n m.name then record { name = n; tag = t } ∷ ms else m ∷ place n t ms
+abbrev pub with_tag : List ℕ → Nbt → List NamedTag → List NamedTag
+with_tag n t [] = record { name = n; tag = t } ∷ []
+with_tag n t (m ∷ ms) = if bytes_eq n m.name then record { name = n; tag = t } ∷ ms else m ∷ with_tag n t ms
 
 -- the tags after a named tag was placed among them
-abbrev pub IsPlaced : NamedTag → List NamedTag → List NamedTag → Type 0
-IsPlaced m old new = new ≡ place m.name m.tag old
+abbrev pub IsWithTag : NamedTag → List NamedTag → List NamedTag → Type 0
+IsWithTag m old new = new ≡ with_tag m.name m.tag old
 
 -- the tags of other names
 abbrev pub without : List ℕ → List NamedTag → List NamedTag
@@ -27,7 +27,7 @@ abbrev pub blank : Nbt
 blank = byte (pos 0)
 
 abbrev pub emptied : List ℕ → List NamedTag → List NamedTag
-emptied n ms = place n blank ms
+emptied n ms = with_tag n blank ms
 
 -- where the first tag of a name stands
 abbrev pub index_of_name : List ℕ → List NamedTag → Option ℕ

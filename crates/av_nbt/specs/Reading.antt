@@ -6,9 +6,9 @@ use Rattle.std.specs.Str.{bytes_eq}
 use Rattle.std.specs.Int.{Width, w8, w16, w32, w64, byte_len, from_be_bytes, cast_signed}
 use Rattle.av_types.specs.declared.fault.Fault.{Fault}
 use Rattle.av_types.specs.declared.fault.Fault.TheVariants.{OutOfMemory, BadNbt}
-use Rattle.av_nbt.specs.declared.tag.Kind.{Kind}
-use Rattle.av_nbt.specs.declared.tag.Kind.TheVariants as kind
-use Rattle.av_nbt.specs.Kinds.{kind_from, is_end, is_compound}
+use Rattle.av_nbt.specs.declared.tag.TagType.{TagType}
+use Rattle.av_nbt.specs.declared.tag.TagType.TheVariants as tag_type
+use Rattle.av_nbt.specs.TagTypes.{type_from, is_end, is_compound}
 use Rattle.av_nbt.specs.Nbt.{Nbt, byte, int16, int, int64, bits32, bits64, byte_array, text, list, compound, int_array, long_array, NamedTag, Document, items_of, members_of}
 use Rattle.av_nbt.specs.Shape.{◌>>=◌}
 use Rattle.av_nbt.specs.Spelling.{count_of}
@@ -44,10 +44,10 @@ signed_at w bytes = do
   n ← number_at w bytes
   Some (cast_signed w n.0, n.1)
 
-unfoldable pub kind_at : List ℕ → Field Kind
-kind_at [] = None
-kind_at (b ∷ rest) = do
-  k ← kind_from b
+unfoldable pub type_at : List ℕ → Field TagType
+type_at [] = None
+type_at (b ∷ rest) = do
+  k ← type_from b
   Some (k, rest)
 
 unfoldable pub text_at : List ℕ → Field (List ℕ)
@@ -85,17 +85,17 @@ numbers_at w bytes = do
   Some (signed_in w front.0, front.1)
 
 -- a tag that holds no tag
-unfoldable pub leaf_at : Kind → List ℕ → Field Nbt
-leaf_at kind.Byte bytes = as_field byte (signed_at w8 bytes)
-leaf_at kind.Short bytes = as_field int16 (signed_at w16 bytes)
-leaf_at kind.Int bytes = as_field int (signed_at w32 bytes)
-leaf_at kind.Long bytes = as_field int64 (signed_at w64 bytes)
-leaf_at kind.Float bytes = as_field bits32 (number_at w32 bytes)
-leaf_at kind.Double bytes = as_field bits64 (number_at w64 bytes)
-leaf_at kind.ByteArray bytes = as_field byte_array (bytes_at bytes)
-leaf_at kind.Text bytes = as_field text (text_at bytes)
-leaf_at kind.IntArray bytes = as_field int_array (numbers_at w32 bytes)
-leaf_at kind.LongArray bytes = as_field long_array (numbers_at w64 bytes)
+unfoldable pub leaf_at : TagType → List ℕ → Field Nbt
+leaf_at tag_type.Byte bytes = as_field byte (signed_at w8 bytes)
+leaf_at tag_type.Short bytes = as_field int16 (signed_at w16 bytes)
+leaf_at tag_type.Int bytes = as_field int (signed_at w32 bytes)
+leaf_at tag_type.Long bytes = as_field int64 (signed_at w64 bytes)
+leaf_at tag_type.Float bytes = as_field bits32 (number_at w32 bytes)
+leaf_at tag_type.Double bytes = as_field bits64 (number_at w64 bytes)
+leaf_at tag_type.ByteArray bytes = as_field byte_array (bytes_at bytes)
+leaf_at tag_type.Text bytes = as_field text (text_at bytes)
+leaf_at tag_type.IntArray bytes = as_field int_array (numbers_at w32 bytes)
+leaf_at tag_type.LongArray bytes = as_field long_array (numbers_at w64 bytes)
 leaf_at _ bytes = None
 
 -- so many fields, one after the other
@@ -112,17 +112,17 @@ with_front xs None = None
 with_front xs (Some field) = Some (xs ++ field.0, field.1)
 
 abbrev pub Reader : Type 0
-Reader = Kind → List ℕ → Field Nbt
+Reader = TagType → List ℕ → Field Nbt
 
 unfoldable pub list_at : Reader → List ℕ → Field Nbt
 list_at read bytes = do
-  e ← kind_at bytes
+  e ← type_at bytes
   n ← list_length_at e.1
   ts ← repeat_at (read e.0) n.0 n.1
   Some (list e.0 (items_of ts.0), ts.1)
 
--- a named tag of a kind
-unfoldable pub named_at : Reader → Kind → List ℕ → Field NamedTag
+-- a named tag of a type
+unfoldable pub named_at : Reader → TagType → List ℕ → Field NamedTag
 named_at read k bytes = do
   name ← text_at bytes
   tag ← read k name.1
@@ -132,7 +132,7 @@ named_at read k bytes = do
 abbrev pub until_end : Reader → ℕ → List ℕ → Field (List NamedTag)
 until_end read zero bytes = None
 until_end read (suc n) bytes = do
-  k ← kind_at bytes
+  k ← type_at bytes
   if is_end k.0 then Some ([], k.1) else (named_at read k.0 k.1 >>= λ first. until_end read n first.1 >>= λ others. Some (first.0 ∷ others.0, others.1))
 
 abbrev pub has_name : List ℕ → List NamedTag → Bool
@@ -156,12 +156,12 @@ compound_at read bytes = as_field (λ ms. compound (members_of ms)) (members_at 
 -- a tag in which lists and compounds nest at most so deep
 abbrev pub payload_at : ℕ → Reader
 payload_at zero k bytes = leaf_at k bytes
-payload_at (suc depth) kind.List bytes = list_at (payload_at depth) bytes
-payload_at (suc depth) kind.Compound bytes = compound_at (payload_at depth) bytes
+payload_at (suc depth) tag_type.List bytes = list_at (payload_at depth) bytes
+payload_at (suc depth) tag_type.Compound bytes = compound_at (payload_at depth) bytes
 payload_at (suc depth) k bytes = leaf_at k bytes
 
 -- all of the bytes
 unfoldable pub document_at : List ℕ → Option Document
 document_at bytes = do
-  k ← kind_at bytes
+  k ← type_at bytes
   if is_compound k.0 then (text_at k.1 >>= λ name. members_at (payload_at 511) name.1 >>= λ ms. if length ms.1 == 0 then Some (record { name = name.0; members = members_of ms.0 }) else None) else None

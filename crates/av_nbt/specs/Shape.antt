@@ -1,4 +1,4 @@
--- What a tag holds, where it is of the kind that is wanted.
+-- What a tag holds, where it is of the type that is wanted.
 use Rattle.std.specs.Prelude.{ℕ, ℤ, List, [], ◌∷◌, Option, Some, None, Bool, true, false}
 use Rattle.av_nbt.specs.Nbt.{Nbt, byte, int, text, list, compound, long_array, Items, no_items, item, Members, no_members, member, NamedTag}
 

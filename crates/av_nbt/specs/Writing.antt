@@ -2,9 +2,9 @@
 use Rattle.std.specs.Prelude.{ℕ, ◌<◌, ◌^◌, ℤ, List, [], ◌∷◌, ◌++◌, length}
 use Rattle.std.specs.List.{flat_map}
 use Rattle.std.specs.Int.{Width, w8, w16, w32, w64, to_be_bytes, cast_unsigned}
-use Rattle.av_nbt.specs.declared.tag.Kind.TheVariants as kind
-use Rattle.av_nbt.specs.Kinds.{kind_number}
-use Rattle.av_nbt.specs.Nbt.{Nbt, byte, int16, int, int64, bits32, bits64, byte_array, text, list, compound, int_array, long_array, Items, no_items, item, Members, no_members, member, NamedTag, Document, kind_of, item_count}
+use Rattle.av_nbt.specs.declared.tag.TagType.TheVariants as tag_type
+use Rattle.av_nbt.specs.TagTypes.{type_number}
+use Rattle.av_nbt.specs.Nbt.{Nbt, byte, int16, int, int64, bits32, bits64, byte_array, text, list, compound, int_array, long_array, Items, no_items, item, Members, no_members, member, NamedTag, Document, tag_type_of, item_count}
 use Rattle.av_nbt.specs.Spelling.{SpellsDocument}
 
 abbrev pub signed_bytes : Width → ℤ → List ℕ
@@ -23,7 +23,7 @@ abbrev mutual
   written (bits64 n) = to_be_bytes w64 n
   written (byte_array s) = to_be_bytes w32 (length s) ++ s
   written (text s) = text_bytes s
-  written (list e ts) = kind_number e ∷ (to_be_bytes w32 (item_count ts) ++ written_items ts)
+  written (list e ts) = type_number e ∷ (to_be_bytes w32 (item_count ts) ++ written_items ts)
   written (compound ms) = written_members ms
   written (int_array zs) = to_be_bytes w32 (length zs) ++ flat_map (signed_bytes w32) zs
   written (long_array zs) = to_be_bytes w32 (length zs) ++ flat_map (signed_bytes w64) zs
@@ -34,14 +34,14 @@ abbrev mutual
 
   pub written_members : Members → List ℕ
   written_members no_members = 0 ∷ []
-  written_members (member n t ms) = kind_number (kind_of t) ∷ (text_bytes n ++ (written t ++ written_members ms))
+  written_members (member n t ms) = type_number (tag_type_of t) ∷ (text_bytes n ++ (written t ++ written_members ms))
 
 -- a tag under a name
 abbrev pub written_named : NamedTag → List ℕ
-written_named m = kind_number (kind_of m.tag) ∷ (text_bytes m.name ++ written m.tag)
+written_named m = type_number (tag_type_of m.tag) ∷ (text_bytes m.name ++ written m.tag)
 
 abbrev pub written_document : Document → List ℕ
-written_document d = kind_number kind.Compound ∷ (text_bytes d.name ++ written_members d.members)
+written_document d = type_number tag_type.Compound ∷ (text_bytes d.name ++ written_members d.members)
 
 -- it has a spelling
 pub record IsWellFormed (d : Document) : Type 0 where

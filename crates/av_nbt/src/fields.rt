@@ -1,9 +1,9 @@
 //! The fields of the format: numbers, texts and arrays, each read from the front of the bytes that are left.
 ghost use Rattle.std.specs.Prelude.{◌≡◌, ◌<◌, ◌^◌, IfOk};
 ghost use Rattle.std.specs.Int.{w8, w16, w32, w64};
-ghost use Rattle.av_nbt.specs.Reading.{Gives, front_at, number_at, signed_at, kind_at, text_at, length_at, list_length_at, bytes_at, numbers_at, signed_in};
+ghost use Rattle.av_nbt.specs.Reading.{Gives, front_at, number_at, signed_at, type_at, text_at, length_at, list_length_at, bytes_at, numbers_at, signed_in};
 
-use crate::tag::Kind;
+use crate::tag::TagType;
 use av_types::Fault;
 use std::alloc::{AllocError, Global};
 
@@ -19,17 +19,17 @@ pub fn front(bytes: &[u8], count: usize) -> Result<(&[u8], &[u8]), Fault>
     Ok(bytes.split_at(count))
 }
 
-/// A kind's number.
+/// A type's number.
 #[inline]
-#[tactic(auto, unfolding(crate::specs::Reading::kind_at))]
-pub fn kind(bytes: &[u8]) -> Result<(Kind, &[u8]), Fault>
-    ensures { Gives (λ p. (p.0, p.1.now)) result (kind_at bytes.now) }
+#[tactic(auto, unfolding(crate::specs::Reading::type_at))]
+pub fn tag_type(bytes: &[u8]) -> Result<(TagType, &[u8]), Fault>
+    ensures { Gives (λ p. (p.0, p.1.now)) result (type_at bytes.now) }
 {
     let Some((number, rest)) = bytes.split_first() else {
         return Err(Fault::BadNbt);
     };
-    match Kind::from_number(*number) {
-        Some(kind) => Ok((kind, rest)),
+    match TagType::from_number(*number) {
+        Some(tag_type) => Ok((tag_type, rest)),
         None => Err(Fault::BadNbt),
     }
 }

@@ -10,7 +10,7 @@ pub mod tag;
 pub mod writer;
 
 pub use copy::copy_tags;
-pub use members::{exchange, find, place, remove};
+pub use members::{exchange, find, put, remove};
 pub use reader::{decode, spelling_is_unique};
-pub use tag::{Kind, Named, Root, Tag};
+pub use tag::{Named, Root, Tag, TagType};
 pub use writer::{encode, written_is_spelling};

@@ -4,7 +4,7 @@ ghost use Rattle.std.specs.Option.{option_copied};
 ghost use Rattle.std.specs.Vec.{vec_capacity};
 ghost use Rattle.av_types.specs.declared.fault.Fault.TheVariants.{OutOfMemory};
 ghost use Rattle.av_nbt.specs.View.{view, named_view, named_views};
-ghost use Rattle.av_nbt.specs.Place.{tag_of, IsPlaced, without, index_of_name};
+ghost use Rattle.av_nbt.specs.Place.{tag_of, IsWithTag, without, index_of_name};
 
 use crate::tag::{Named, Tag};
 use av_types::Fault;
@@ -38,7 +38,7 @@ pub fn find<'a>(tags: &'a [Named], name: &[u8]) -> Option<&'a Tag>
 /// Puts a tag where the first of its name stood, or last where there was none, and hands out the one that stood there.
 /// Refuses with `OutOfMemory` alone, and then the tags are as before. A tag that takes another's place takes no memory.
 pub fn exchange(tags: &mut Vec<Named>, named: Named) -> Result<Option<Tag>, Fault>
-    ensures placed { OnOk result (IsPlaced (named_view named) (named_views tags.old.items) (named_views tags.new.items)) }
+    ensures placed { OnOk result (IsWithTag (named_view named) (named_views tags.old.items) (named_views tags.new.items)) }
     ensures before { IfOk result (λ t. option_map view t ≡ tag_of (named_view named).name (named_views tags.old.items)) }
     ensures err { OnErr result (tags.new.items ≡ tags.old.items) }
     ensures fault { IfErr result (λ e. e ≡ OutOfMemory) }
@@ -59,8 +59,8 @@ pub fn exchange(tags: &mut Vec<Named>, named: Named) -> Result<Option<Tag>, Faul
 
 /// Puts a tag where the first of its name stood, or last where there was none.
 /// Refuses with `OutOfMemory` alone, and then the tags are as before. A tag that takes another's place takes no memory.
-pub fn place(tags: &mut Vec<Named>, named: Named) -> Result<(), Fault>
-    ensures placed { OnOk result (IsPlaced (named_view named) (named_views tags.old.items) (named_views tags.new.items)) }
+pub fn put(tags: &mut Vec<Named>, named: Named) -> Result<(), Fault>
+    ensures placed { OnOk result (IsWithTag (named_view named) (named_views tags.old.items) (named_views tags.new.items)) }
     ensures err { OnErr result (tags.new.items ≡ tags.old.items) }
     ensures fault { IfErr result (λ e. e ≡ OutOfMemory) }
     ensures absent { OnErr result (tag_of (named_view named).name (named_views tags.old.items) ≡ None) }

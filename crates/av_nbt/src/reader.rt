@@ -3,109 +3,109 @@ ghost use Rattle.std.specs.Prelude.{◌≡◌, IfErr, IfOk, length};
 ghost use Rattle.av_nbt.specs.View.{document, view, views, named_view, named_views};
 ghost use Rattle.av_nbt.specs.Spelling.{SpellsDocument};
 ghost use Rattle.av_nbt.specs.Laws.{OneTag, OneDocument};
-ghost use Rattle.av_nbt.specs.Outcome.{IsRefusal};
+ghost use Rattle.av_nbt.specs.Outcome.{IsDecodeRefusal};
 ghost use Rattle.av_nbt.specs.Reading.{Gives, leaf_at, list_at, named_at, compound_at, members_at, until_end, payload_at, repeat_at, document_at};
 
 use crate::distinct::are_distinct;
 use crate::fields;
-use crate::tag::{Kind, Named, Root, Tag};
+use crate::tag::{Named, Root, Tag, TagType};
 use av_types::Fault;
 use std::alloc::Global;
 
 /// How deep Lists and Compounds may nest, the root's own Compound among them.
 const DEPTH: u32 = 512;
 
-/// A tag of a kind that holds no tags.
+/// A tag of a type that holds no tags.
 #[tactic(auto, unfolding(crate::specs::Reading::leaf_at))]
-fn leaf(alloc: Global, kind: Kind, bytes: &[u8]) -> Result<(Tag, &[u8]), Fault>
-    ensures { Gives (λ p. (view p.0, p.1.now)) result (leaf_at kind bytes.now) }
+fn leaf(alloc: Global, tag_type: TagType, bytes: &[u8]) -> Result<(Tag, &[u8]), Fault>
+    ensures { Gives (λ p. (view p.0, p.1.now)) result (leaf_at tag_type bytes.now) }
 {
-    match kind {
-        Kind::Byte => {
+    match tag_type {
+        TagType::Byte => {
             let (value, rest) = fields::byte(bytes)?;
             Ok((Tag::Byte(value), rest))
         }
-        Kind::Short => {
+        TagType::Short => {
             let (value, rest) = fields::short(bytes)?;
             Ok((Tag::Short(value), rest))
         }
-        Kind::Int => {
+        TagType::Int => {
             let (value, rest) = fields::int(bytes)?;
             Ok((Tag::Int(value), rest))
         }
-        Kind::Long => {
+        TagType::Long => {
             let (value, rest) = fields::long(bytes)?;
             Ok((Tag::Long(value), rest))
         }
-        Kind::Float => {
+        TagType::Float => {
             let (value, rest) = fields::float(bytes)?;
             Ok((Tag::Float(value), rest))
         }
-        Kind::Double => {
+        TagType::Double => {
             let (value, rest) = fields::double(bytes)?;
             Ok((Tag::Double(value), rest))
         }
-        Kind::ByteArray => {
+        TagType::ByteArray => {
             let (array, rest) = fields::byte_array(alloc, bytes)?;
             Ok((Tag::ByteArray(array), rest))
         }
-        Kind::Text => {
+        TagType::Text => {
             let (text, rest) = fields::text(alloc, bytes)?;
             Ok((Tag::Text(text), rest))
         }
-        Kind::IntArray => {
+        TagType::IntArray => {
             let (array, rest) = fields::int_array(alloc, bytes)?;
             Ok((Tag::IntArray(array), rest))
         }
-        Kind::LongArray => {
+        TagType::LongArray => {
             let (array, rest) = fields::long_array(alloc, bytes)?;
             Ok((Tag::LongArray(array), rest))
         }
-        Kind::End | Kind::List | Kind::Compound => Err(Fault::BadNbt),
+        TagType::End | TagType::List | TagType::Compound => Err(Fault::BadNbt),
     }
 }
 
-/// So many tags of a kind, one after the other. They may nest so deep.
+/// So many tags of a type, one after the other. They may nest so deep.
 #[cycle(reading)]
 fn items(
     alloc: Global,
     depth: u32,
-    kind: Kind,
+    tag_type: TagType,
     count: usize,
     bytes: &[u8],
 ) -> Result<(Vec<Tag>, &[u8]), Fault>
-    ensures { Gives (λ p. (views p.0.items, p.1.now)) result (repeat_at (payload_at depth kind) count bytes.now) }
+    ensures { Gives (λ p. (views p.0.items, p.1.now)) result (repeat_at (payload_at depth tag_type) count bytes.now) }
 {
     let mut items = Vec::new(alloc);
     let mut rest = bytes;
     for _ in 0..count {
-        let (tag, after) = payload(alloc, depth, kind, rest)?;
+        let (tag, after) = payload(alloc, depth, tag_type, rest)?;
         items.push(tag)?;
         rest = after;
     }
     Ok((items, rest))
 }
 
-/// A List's kind, its length and its tags. A negative length is that of an empty List.
+/// A List's type, its length and its tags. A negative length is that of an empty List.
 #[cycle(reading)]
 #[tactic(auto, unfolding(crate::specs::Reading::list_at))]
 fn list(alloc: Global, depth: u32, bytes: &[u8]) -> Result<(Tag, &[u8]), Fault>
     ensures { Gives (λ p. (view p.0, p.1.now)) result (list_at (payload_at depth) bytes.now) }
 {
-    let (kind, rest) = fields::kind(bytes)?;
+    let (tag_type, rest) = fields::tag_type(bytes)?;
     let (count, rest) = fields::list_length(rest)?;
-    let (items, rest) = items(alloc, depth, kind, count, rest)?;
-    Ok((Tag::List(kind, items), rest))
+    let (items, rest) = items(alloc, depth, tag_type, count, rest)?;
+    Ok((Tag::List(tag_type, items), rest))
 }
 
-/// A name and a tag of a kind.
+/// A name and a tag of a type.
 #[cycle(reading)]
 #[tactic(auto, unfolding(crate::specs::Reading::named_at))]
-fn named(alloc: Global, depth: u32, kind: Kind, bytes: &[u8]) -> Result<(Named, &[u8]), Fault>
-    ensures { Gives (λ p. (named_view p.0, p.1.now)) result (named_at (payload_at depth) kind bytes.now) }
+fn named(alloc: Global, depth: u32, tag_type: TagType, bytes: &[u8]) -> Result<(Named, &[u8]), Fault>
+    ensures { Gives (λ p. (named_view p.0, p.1.now)) result (named_at (payload_at depth) tag_type bytes.now) }
 {
     let (name, rest) = fields::text(alloc, bytes)?;
-    let (tag, rest) = payload(alloc, depth, kind, rest)?;
+    let (tag, rest) = payload(alloc, depth, tag_type, rest)?;
     Ok((Named::new(name, tag), rest))
 }
 
@@ -117,11 +117,11 @@ fn named_tags(alloc: Global, depth: u32, bytes: &[u8]) -> Result<(Vec<Named>, &[
     let mut tags = Vec::new(alloc);
     let mut rest = bytes;
     for _ in 0..bytes.len() {
-        let (kind, after) = fields::kind(rest)?;
-        if kind.is_end() {
+        let (tag_type, after) = fields::tag_type(rest)?;
+        if tag_type.is_end() {
             return Ok((tags, after));
         }
-        let (tag, after) = named(alloc, depth, kind, after)?;
+        let (tag, after) = named(alloc, depth, tag_type, after)?;
         tags.push(tag)?;
         rest = after;
     }
@@ -152,18 +152,18 @@ fn compound(alloc: Global, depth: u32, bytes: &[u8]) -> Result<(Tag, &[u8]), Fau
     Ok((Tag::Compound(tags), rest))
 }
 
-/// A tag of a kind, in which Lists and Compounds nest at most so deep.
+/// A tag of a type, in which Lists and Compounds nest at most so deep.
 #[cycle(reading)]
-fn payload(alloc: Global, depth: u32, kind: Kind, bytes: &[u8]) -> Result<(Tag, &[u8]), Fault>
-    ensures { Gives (λ p. (view p.0, p.1.now)) result (payload_at depth kind bytes.now) }
+fn payload(alloc: Global, depth: u32, tag_type: TagType, bytes: &[u8]) -> Result<(Tag, &[u8]), Fault>
+    ensures { Gives (λ p. (view p.0, p.1.now)) result (payload_at depth tag_type bytes.now) }
 {
     if depth == 0 {
-        return leaf(alloc, kind, bytes);
+        return leaf(alloc, tag_type, bytes);
     }
-    match kind {
-        Kind::List => list(alloc, depth - 1, bytes),
-        Kind::Compound => compound(alloc, depth - 1, bytes),
-        _ => leaf(alloc, kind, bytes),
+    match tag_type {
+        TagType::List => list(alloc, depth - 1, bytes),
+        TagType::Compound => compound(alloc, depth - 1, bytes),
+        _ => leaf(alloc, tag_type, bytes),
     }
 }
 
@@ -172,8 +172,8 @@ fn payload(alloc: Global, depth: u32, kind: Kind, bytes: &[u8]) -> Result<(Tag, 
 fn root(alloc: Global, bytes: &[u8]) -> Result<Root, Fault>
     ensures { Gives document result (document_at bytes.now) }
 {
-    let (kind, rest) = fields::kind(bytes)?;
-    if !kind.is_compound() {
+    let (tag_type, rest) = fields::tag_type(bytes)?;
+    if !tag_type.is_compound() {
         return Err(Fault::BadNbt);
     }
     let (name, rest) = fields::text(alloc, rest)?;
@@ -190,12 +190,12 @@ fn root(alloc: Global, bytes: &[u8]) -> Result<Root, Fault>
 /// twice in one Compound, or bytes after the end. `OutOfMemory` where a growth was refused.
 pub fn decode(alloc: Global, bytes: &[u8]) -> Result<Root, Fault>
     ensures spelled { IfOk result (λ root. SpellsDocument (document root) bytes.now) }
-    ensures refused { IfErr result (λ e. IsRefusal e bytes.now) }
+    ensures refused { IfErr result (λ e. IsDecodeRefusal e bytes.now) }
 {
     root(alloc, bytes)
 }
 
-/// Bytes spell at most one tag of a kind and at most one document, and no spelling begins a longer one.
+/// Bytes spell at most one tag of a type and at most one document, and no spelling begins a longer one.
 /// A law of the format, which takes no value.
 pub fn spelling_is_unique()
     ensures tag { OneTag }

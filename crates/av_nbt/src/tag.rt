@@ -1,9 +1,9 @@
 //! A tag tree in memory (<https://minecraft.wiki/w/NBT_format>).
 
-/// The kinds of tags, by their numbers in a file.
+/// The types of tags, by their numbers in a file.
 #[derive(Clone, Copy, Debug, PartialEq, Eq)]
-pub enum Kind {
-    /// No tag: the end of a Compound, or the kind of the tags of an empty List.
+pub enum TagType {
+    /// No tag: the end of a Compound, or the type of the tags of an empty List.
     End = 0,
     Byte = 1,
     Short = 2,
@@ -34,8 +34,8 @@ pub enum Tag {
     ByteArray(Vec<u8>),
     /// The bytes of a text, which need not be UTF-8.
     Text(Vec<u8>),
-    /// Tags of one kind. An empty one keeps its kind.
-    List(Kind, Vec<Tag>),
+    /// Tags of one type. An empty one keeps its type.
+    List(TagType, Vec<Tag>),
     /// Tags under names, in the order of the file.
     Compound(Vec<Named>),
     IntArray(Vec<i32>),
@@ -61,63 +61,63 @@ pub struct Root {
     pub tags: Vec<Named>,
 }
 
-impl Kind {
+impl TagType {
     ghost use Rattle.std.specs.Prelude.{◌≡◌};
-    ghost use Rattle.av_nbt.specs.Kinds.{kind_number, kind_from};
+    ghost use Rattle.av_nbt.specs.TagTypes.{type_number, type_from};
 
-    /// The kind's number in a file.
+    /// The type's number in a file.
     pub fn number(self) -> u8
-        ensures { result ≡ kind_number self }
+        ensures { result ≡ type_number self }
     {
         self as u8
     }
 
-    /// The kind of a number, if there is one.
+    /// The type of a number, if there is one.
     pub fn from_number(number: u8) -> Option<Self>
-        ensures { result ≡ kind_from number }
+        ensures { result ≡ type_from number }
     {
         match number {
-            0 => Some(Kind::End),
-            1 => Some(Kind::Byte),
-            2 => Some(Kind::Short),
-            3 => Some(Kind::Int),
-            4 => Some(Kind::Long),
-            5 => Some(Kind::Float),
-            6 => Some(Kind::Double),
-            7 => Some(Kind::ByteArray),
-            8 => Some(Kind::Text),
-            9 => Some(Kind::List),
-            10 => Some(Kind::Compound),
-            11 => Some(Kind::IntArray),
-            12 => Some(Kind::LongArray),
+            0 => Some(TagType::End),
+            1 => Some(TagType::Byte),
+            2 => Some(TagType::Short),
+            3 => Some(TagType::Int),
+            4 => Some(TagType::Long),
+            5 => Some(TagType::Float),
+            6 => Some(TagType::Double),
+            7 => Some(TagType::ByteArray),
+            8 => Some(TagType::Text),
+            9 => Some(TagType::List),
+            10 => Some(TagType::Compound),
+            11 => Some(TagType::IntArray),
+            12 => Some(TagType::LongArray),
             _ => None,
         }
     }
 }
 
-impl Kind {
+impl TagType {
     ghost use Rattle.std.specs.Prelude.{◌≡◌};
-    ghost use Rattle.av_nbt.specs.Kinds.{is_end, is_compound};
+    ghost use Rattle.av_nbt.specs.TagTypes.{is_end, is_compound};
 
     /// Whether it is `End`.
     pub fn is_end(self) -> bool
         ensures { result ≡ is_end self }
     {
-        matches!(self, Kind::End)
+        matches!(self, TagType::End)
     }
 
     /// Whether it is `Compound`.
     pub fn is_compound(self) -> bool
         ensures { result ≡ is_compound self }
     {
-        matches!(self, Kind::Compound)
+        matches!(self, TagType::Compound)
     }
 }
 
 impl Tag {
     ghost use Rattle.std.specs.Prelude.{◌≡◌, option_map};
     ghost use Rattle.std.specs.Option.{option_copied};
-    ghost use Rattle.av_nbt.specs.Nbt.{byte, int, text, list, compound, byte_array, long_array, items_of, members_of, kind_of};
+    ghost use Rattle.av_nbt.specs.Nbt.{byte, int, text, list, compound, byte_array, long_array, items_of, members_of, tag_type_of};
     ghost use Rattle.av_nbt.specs.View.{view, views, named_views};
     ghost use Rattle.av_nbt.specs.Shape.{byte_of, int_of, text_of, longs_of, compound_of, items_of_list};
 
@@ -142,11 +142,11 @@ impl Tag {
         Tag::Text(characters)
     }
 
-    /// A List of tags of that kind. Only one whose tags all are of it has a spelling.
-    pub fn list(kind: Kind, items: Vec<Tag>) -> Self
-        ensures { view result ≡ list kind (items_of (views items.items)) }
+    /// A List of tags of that type. Only one whose tags all are of it has a spelling.
+    pub fn list(tag_type: TagType, items: Vec<Tag>) -> Self
+        ensures { view result ≡ list tag_type (items_of (views items.items)) }
     {
-        Tag::List(kind, items)
+        Tag::List(tag_type, items)
     }
 
     /// A Compound. Only one in which no name stands twice has a spelling.
@@ -170,27 +170,27 @@ impl Tag {
         Tag::LongArray(numbers)
     }
 
-    /// The tag's kind, which is never `End`.
-    pub fn kind(&self) -> Kind
-        ensures { result ≡ kind_of (view self.now) }
+    /// The tag's type, which is never `End`.
+    pub fn tag_type(&self) -> TagType
+        ensures { result ≡ tag_type_of (view self.now) }
     {
         match self {
-            Tag::Byte(_) => Kind::Byte,
-            Tag::Short(_) => Kind::Short,
-            Tag::Int(_) => Kind::Int,
-            Tag::Long(_) => Kind::Long,
-            Tag::Float(_) => Kind::Float,
-            Tag::Double(_) => Kind::Double,
-            Tag::ByteArray(_) => Kind::ByteArray,
-            Tag::Text(_) => Kind::Text,
-            Tag::List(_, _) => Kind::List,
-            Tag::Compound(_) => Kind::Compound,
-            Tag::IntArray(_) => Kind::IntArray,
-            Tag::LongArray(_) => Kind::LongArray,
+            Tag::Byte(_) => TagType::Byte,
+            Tag::Short(_) => TagType::Short,
+            Tag::Int(_) => TagType::Int,
+            Tag::Long(_) => TagType::Long,
+            Tag::Float(_) => TagType::Float,
+            Tag::Double(_) => TagType::Double,
+            Tag::ByteArray(_) => TagType::ByteArray,
+            Tag::Text(_) => TagType::Text,
+            Tag::List(_, _) => TagType::List,
+            Tag::Compound(_) => TagType::Compound,
+            Tag::IntArray(_) => TagType::IntArray,
+            Tag::LongArray(_) => TagType::LongArray,
         }
     }
 
-    /// The number of a Byte, or `None` of a tag of another kind.
+    /// The number of a Byte, or `None` of a tag of another type.
     pub fn as_byte(&self) -> Option<i8>
         ensures { result ≡ byte_of (view self.now) }
     {
@@ -200,7 +200,7 @@ impl Tag {
         }
     }
 
-    /// The number of an Int, or `None` of a tag of another kind.
+    /// The number of an Int, or `None` of a tag of another type.
     pub fn as_int(&self) -> Option<i32>
         ensures { result ≡ int_of (view self.now) }
     {
@@ -210,7 +210,7 @@ impl Tag {
         }
     }
 
-    /// The bytes of a Text, or `None` of a tag of another kind.
+    /// The bytes of a Text, or `None` of a tag of another type.
     pub fn as_text(&self) -> Option<&[u8]>
         ensures { option_copied result ≡ text_of (view self.now) }
     {
@@ -220,7 +220,7 @@ impl Tag {
         }
     }
 
-    /// The longs of a Long Array, or `None` of a tag of another kind.
+    /// The longs of a Long Array, or `None` of a tag of another type.
     pub fn as_longs(&self) -> Option<&[i64]>
         ensures { option_copied result ≡ longs_of (view self.now) }
     {
@@ -230,7 +230,7 @@ impl Tag {
         }
     }
 
-    /// The tags of a Compound, or `None` of a tag of another kind.
+    /// The tags of a Compound, or `None` of a tag of another type.
     pub fn as_members(&self) -> Option<&[Named]>
         ensures { option_map named_views (option_copied result) ≡ compound_of (view self.now) }
     {
@@ -240,7 +240,7 @@ impl Tag {
         }
     }
 
-    /// The tags of a List, or `None` of a tag of another kind.
+    /// The tags of a List, or `None` of a tag of another type.
     pub fn as_items(&self) -> Option<&[Tag]>
         ensures { option_map views (option_copied result) ≡ items_of_list (view self.now) }
     {
@@ -250,7 +250,7 @@ impl Tag {
         }
     }
 
-    /// The bytes of a Text, taken out of it, or `None` of a tag of another kind, which is dropped.
+    /// The bytes of a Text, taken out of it, or `None` of a tag of another type, which is dropped.
     pub fn into_text(self) -> Option<Vec<u8>>
         ensures { option_map (λ s. s.items) result ≡ text_of (view self) }
     {
@@ -260,7 +260,7 @@ impl Tag {
         }
     }
 
-    /// The longs of a Long Array, taken out of it, or `None` of a tag of another kind, which is dropped.
+    /// The longs of a Long Array, taken out of it, or `None` of a tag of another type, which is dropped.
     pub fn into_longs(self) -> Option<Vec<i64>>
         ensures { option_map (λ zs. zs.items) result ≡ longs_of (view self) }
     {
@@ -270,7 +270,7 @@ impl Tag {
         }
     }
 
-    /// The tags of a Compound, taken out of it, or `None` of a tag of another kind, which is dropped.
+    /// The tags of a Compound, taken out of it, or `None` of a tag of another type, which is dropped.
     pub fn into_members(self) -> Option<Vec<Named>>
         ensures { option_map (λ ms. named_views ms.items) result ≡ compound_of (view self) }
     {
@@ -280,7 +280,7 @@ impl Tag {
         }
     }
 
-    /// The tags of a List, taken out of it, or `None` of a tag of another kind, which is dropped.
+    /// The tags of a List, taken out of it, or `None` of a tag of another type, which is dropped.
     pub fn into_items(self) -> Option<Vec<Tag>>
         ensures { option_map (λ ts. views ts.items) result ≡ items_of_list (view self) }
     {

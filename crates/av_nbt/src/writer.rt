@@ -3,14 +3,14 @@ ghost use Rattle.std.specs.Prelude.{◌≡◌, ◌<◌, ◌^◌, ◌∷◌, ◌+
 ghost use Rattle.std.specs.List.{flat_map};
 ghost use Rattle.std.specs.Int.{w32, w64, to_be_bytes};
 ghost use Rattle.av_types.specs.declared.fault.Fault.TheVariants.{OutOfMemory};
-ghost use Rattle.av_nbt.specs.Nbt.{list, items_of, members_of, kind_of};
-ghost use Rattle.av_nbt.specs.Kinds.{kind_number};
+ghost use Rattle.av_nbt.specs.Nbt.{list, items_of, members_of, tag_type_of};
+ghost use Rattle.av_nbt.specs.TagTypes.{type_number};
 ghost use Rattle.av_nbt.specs.View.{document, view, views, named_view, named_views};
 ghost use Rattle.av_nbt.specs.Laws.{WrittenSpells, WrittenReadsBack};
 ghost use Rattle.av_nbt.specs.Appending.{Writes};
 ghost use Rattle.av_nbt.specs.Writing.{signed_bytes, text_bytes, written, written_items, written_members, written_named, written_document, IsWellFormed, Fits, FitItems, FitMembers};
 
-use crate::tag::{Kind, Named, Root, Tag};
+use crate::tag::{Named, Root, Tag, TagType};
 use av_types::Fault;
 use std::alloc::{AllocError, Global};
 
@@ -100,26 +100,26 @@ fn write_items(out: &mut Vec<u8>, items: &[Tag]) -> Result<(), AllocError>
     Ok(())
 }
 
-/// A List's kind, its length and its tags.
+/// A List's type, its length and its tags.
 #[cycle(writing)]
 #[tactic(auto, using(crate::proofs::Written::item_count_views))]
-fn write_list(out: &mut Vec<u8>, kind: Kind, items: &[Tag]) -> Result<(), AllocError>
-    requires { Fits (list kind (items_of (views items.now))) }
-    ensures { Writes result (written (list kind (items_of (views items.now)))) out.old.items out.new.items }
+fn write_list(out: &mut Vec<u8>, tag_type: TagType, items: &[Tag]) -> Result<(), AllocError>
+    requires { Fits (list tag_type (items_of (views items.now))) }
+    ensures { Writes result (written (list tag_type (items_of (views items.now)))) out.old.items out.new.items }
 {
-    out.push(kind.number())?;
+    out.push(tag_type.number())?;
     write_length(out, items.len())?;
     write_items(out, items)
 }
 
-/// A tag's kind, its name and the tag.
+/// A tag's type, its name and the tag.
 #[cycle(writing)]
 fn write_named(out: &mut Vec<u8>, named: &Named) -> Result<(), AllocError>
     requires name { length (named_view named.now).name < 2 ^ 16 }
     requires tag { Fits (named_view named.now).tag }
     ensures { Writes result (written_named (named_view named.now)) out.old.items out.new.items }
 {
-    out.push(named.tag.kind().number())?;
+    out.push(named.tag.tag_type().number())?;
     write_text(out, named.name.as_slice())?;
     write_tag(out, &named.tag)
 }
@@ -133,7 +133,7 @@ fn write_members(out: &mut Vec<u8>, members: &[Named]) -> Result<(), AllocError>
     for named in members {
         write_named(out, named)?;
     }
-    out.push(Kind::End.number())?;
+    out.push(TagType::End.number())?;
     Ok(())
 }
 
@@ -152,7 +152,7 @@ fn write_tag(out: &mut Vec<u8>, tag: &Tag) -> Result<(), AllocError>
         Tag::Double(value) => write_bytes(out, &value.to_be_bytes()),
         Tag::ByteArray(bytes) => write_byte_array(out, bytes.as_slice()),
         Tag::Text(text) => write_text(out, text.as_slice()),
-        Tag::List(kind, items) => write_list(out, *kind, items.as_slice()),
+        Tag::List(tag_type, items) => write_list(out, *tag_type, items.as_slice()),
         Tag::Compound(members) => write_members(out, members.as_slice()),
         Tag::IntArray(ints) => write_int_array(out, ints.as_slice()),
         Tag::LongArray(longs) => write_long_array(out, longs.as_slice()),
@@ -165,15 +165,15 @@ fn write_root(out: &mut Vec<u8>, root: &Root) -> Result<(), AllocError>
     requires tags { FitMembers (members_of (named_views root.now.tags.items)) }
     ensures { Writes result (written_document (document root.now)) out.old.items out.new.items }
 {
-    out.push(Kind::Compound.number())?;
+    out.push(TagType::Compound.number())?;
     write_text(out, root.name.as_slice())?;
     write_members(out, root.tags.as_slice())
 }
 
 /// The written spelling of a document that has one: of its spellings, the one in which empty Lists have length 0.
-/// Their kinds stay. The only fault is `OutOfMemory`, where a growth was refused.
+/// Their types stay. The only fault is `OutOfMemory`, where a growth was refused.
 ///
-/// A document has a spelling where each List's tags are of its kind, no name stands twice in a Compound, names and
+/// A document has a spelling where each List's tags are of its type, no name stands twice in a Compound, names and
 /// Texts have at most 65,535 bytes, Lists and arrays fewer than 2^31 tags or numbers, and Lists and Compounds nest at
 /// most 512 deep, the root's own Compound among them. What `decode` answered has one.
 pub fn encode(alloc: Global, root: &Root) -> Result<Vec<u8>, Fault>

@@ -1,13 +1,13 @@
 //! Documents by hand.
 use av_nbt::{
-    Kind, Named, Tag, copy_tags, decode, encode, exchange, find, place, remove, spelling_is_unique,
+    Named, Tag, TagType, copy_tags, decode, encode, exchange, find, put, remove, spelling_is_unique,
     written_is_spelling,
 };
 use av_types::Fault;
 use std::alloc::{AllocError, Global};
 use std::test::Fail;
 
-/// A document that holds a tag of each kind, with the bytes `01 02 ..` as its values. The List has two Bytes.
+/// A document that holds a tag of each type, with the bytes `01 02 ..` as its values. The List has two Bytes.
 const ALL_KINDS: [u8; 124] = [
     10, 0, 2, b'h', b'i', // the root
     1, 0, 1, b'a', 255, // Byte
@@ -90,7 +90,7 @@ fn documents_are_read_and_written(rt: HostRuntime) -> Result<(), Fail> {
 fn other_bytes_are_refused(rt: HostRuntime) -> Result<(), Fail> {
     let cases: [&[u8]; 16] = [
         &[],
-        // roots of another kind, and one without an end
+        // roots of another type, and one without an end
         &[9, 0, 0, 0, 0, 0, 0, 0],
         &[9, 0, 0, 0],
         &[10, 0, 0, 9, 0, 1, 97, 0, 255, 255, 255, 255],
@@ -99,7 +99,7 @@ fn other_bytes_are_refused(rt: HostRuntime) -> Result<(), Fail> {
         &[10, 0, 0, 7, 0, 1, 97, 255, 255, 255, 255, 0],
         &[10, 0, 0, 11, 0, 1, 97, 255, 255, 255, 255, 0],
         &[10, 0, 0, 12, 0, 1, 97, 255, 255, 255, 255, 0],
-        // a List of one tag of no kind, and of a kind that there is not
+        // a List of one tag of no type, and of a type that there is not
         &[10, 0, 0, 9, 0, 1, 97, 0, 0, 0, 0, 1, 0],
         &[10, 0, 0, 9, 0, 1, 97, 13, 0, 0, 0, 0, 0],
         // a name twice, also with another one between
@@ -179,7 +179,7 @@ fn tags_by_name(rt: HostRuntime) -> Result<(), Fail> {
     let alloc = rt.alloc();
     let mut tags = Vec::new(alloc);
     for (name, value) in [(b'a', 1), (b'b', 2), (b'c', 3)] {
-        place(&mut tags, byte(alloc, name, value)?)?;
+        put(&mut tags, byte(alloc, name, value)?)?;
     }
     assert_eq!(rt; find(&tags, b"b"), Some(&Tag::Byte(2)));
     assert_eq!(rt; find(&tags, b"d"), None);
@@ -214,38 +214,38 @@ fn an_empty_list_of_a_negative_length(rt: HostRuntime) -> Result<(), Fail> {
     assert_eq!(rt; root.tags.len(), 1);
     assert_eq!(rt;
         find(&root.tags, b"a"),
-        Some(&Tag::List(Kind::End, Vec::new(rt.alloc())))
+        Some(&Tag::List(TagType::End, Vec::new(rt.alloc())))
     );
     Ok(())
 }
 
-/// Numbers and names of kinds, from the table of minecraft.wiki, "NBT format".
+/// Numbers and names of types, from the table of minecraft.wiki, "NBT format".
 #[test]
 fn kinds_by_number(rt: HostRuntime) {
-    let kinds = [
-        Kind::End,
-        Kind::Byte,
-        Kind::Short,
-        Kind::Int,
-        Kind::Long,
-        Kind::Float,
-        Kind::Double,
-        Kind::ByteArray,
-        Kind::Text,
-        Kind::List,
-        Kind::Compound,
-        Kind::IntArray,
-        Kind::LongArray,
+    let tag_types = [
+        TagType::End,
+        TagType::Byte,
+        TagType::Short,
+        TagType::Int,
+        TagType::Long,
+        TagType::Float,
+        TagType::Double,
+        TagType::ByteArray,
+        TagType::Text,
+        TagType::List,
+        TagType::Compound,
+        TagType::IntArray,
+        TagType::LongArray,
     ];
     for number in 0..13u8 {
-        let kind = kinds[usize::from(number)];
-        assert_eq!(rt; kind.number(), number);
-        assert_eq!(rt; Kind::from_number(number), Some(kind));
-        assert_eq!(rt; kind.is_end(), number == 0);
-        assert_eq!(rt; kind.is_compound(), number == 10);
+        let tag_type = tag_types[usize::from(number)];
+        assert_eq!(rt; tag_type.number(), number);
+        assert_eq!(rt; TagType::from_number(number), Some(tag_type));
+        assert_eq!(rt; tag_type.is_end(), number == 0);
+        assert_eq!(rt; tag_type.is_compound(), number == 10);
     }
-    assert_eq!(rt; Kind::from_number(13), None);
-    assert_eq!(rt; Kind::from_number(255), None);
+    assert_eq!(rt; TagType::from_number(13), None);
+    assert_eq!(rt; TagType::from_number(255), None);
 }
 
 #[test]
@@ -256,13 +256,13 @@ fn tags_that_are_made(rt: HostRuntime) -> Result<(), Fail> {
     let text = Tag::text(Vec::from_slice(alloc, b"stone")?);
     assert_eq!(rt; text.as_text(), Some(b"stone".as_slice()));
     let bytes = Tag::byte_array(Vec::from_slice(alloc, &[1, 255])?);
-    assert_eq!(rt; bytes.kind(), Kind::ByteArray);
+    assert_eq!(rt; bytes.tag_type(), TagType::ByteArray);
     assert_eq!(rt; bytes.as_text(), None);
     let longs = Tag::long_array(Vec::from_slice(alloc, &[-1, 2])?);
     assert_eq!(rt; longs.as_longs(), Some([-1, 2].as_slice()));
     let items = vec![in alloc; Tag::byte(1), Tag::byte(2)]?;
-    let list = Tag::list(Kind::Byte, items);
-    assert_eq!(rt; list.kind(), Kind::List);
+    let list = Tag::list(TagType::Byte, items);
+    assert_eq!(rt; list.tag_type(), TagType::List);
     assert_eq!(rt;
         list.as_items(),
         Some([Tag::Byte(1), Tag::Byte(2)].as_slice())
@@ -286,7 +286,7 @@ fn values_that_are_taken_out(rt: HostRuntime) -> Result<(), Fail> {
     assert_eq!(rt; longs.into_longs(), Some(Vec::from_slice(alloc, &[3])?));
     let items = vec![in alloc; Tag::int(4)]?;
     assert_eq!(rt;
-        Tag::list(Kind::Int, items).into_items(),
+        Tag::list(TagType::Int, items).into_items(),
         Some(vec![in alloc; Tag::int(4)]?)
     );
     let tags = vec![in alloc; byte(alloc, b'x', 5)?]?;
@@ -302,7 +302,7 @@ fn values_that_are_taken_out(rt: HostRuntime) -> Result<(), Fail> {
 }
 
 #[test]
-fn values_by_kind(rt: HostRuntime) -> Result<(), Fail> {
+fn values_by_type(rt: HostRuntime) -> Result<(), Fail> {
     let alloc = rt.alloc();
     let root = decode(alloc, &ALL_KINDS)?;
     let tag = |name: &[u8]| find(&root.tags, name).ok_or("missing");
@@ -322,7 +322,7 @@ fn values_by_kind(rt: HostRuntime) -> Result<(), Fail> {
         tag(b"j")?.as_members().map(|members| members.len()),
         Some(1)
     );
-    assert_eq!(rt; tag(b"d")?.kind(), Kind::Long);
+    assert_eq!(rt; tag(b"d")?.tag_type(), TagType::Long);
     // each number has its highest byte first
     assert_eq!(rt; tag(b"b")?, &Tag::Short(0x0102));
     assert_eq!(rt; tag(b"d")?, &Tag::Long(0x0102030405060708));
@@ -336,10 +336,10 @@ fn values_by_kind(rt: HostRuntime) -> Result<(), Fail> {
     Ok(())
 }
 
-/// A value is read of a tag of its own kind alone: of an Int and not of a Byte or a Short, of a Long Array and not of an
+/// A value is read of a tag of its own type alone: of an Int and not of a Byte or a Short, of a Long Array and not of an
 /// Int Array.
 #[test]
-fn values_of_other_kinds(rt: HostRuntime) -> Result<(), Fail> {
+fn values_of_other_types(rt: HostRuntime) -> Result<(), Fail> {
     let root = decode(rt.alloc(), &ALL_KINDS)?;
     for named in &root.tags {
         let (name, tag) = (named.name(), named.tag());

@@ -9,7 +9,7 @@ use Rattle.av_play.specs.declared.event.Stage.TheVariants.{Waits, Held, Ended}
 use Rattle.av_play.specs.declared.event.Event.{Event}
 use Rattle.av_play.specs.declared.event.Event.TheVariants.{Take, Turn, Back}
 use Rattle.av_play.specs.Parts.{part_at, count_of}
-use Rattle.av_play.specs.Play.{State, start, all_wait, moved, HoldsEntry, IsLawful, turned, turned_if_held, after, CanEnd}
+use Rattle.av_play.specs.Play.{State, start, all_wait, moved, HoldsEntry, IsLawfulEvent, turned, turned_if_held, after, CanEnd}
 use Rattle.av_play.proofs.Lists.{at_set}
 
 set_same : {X : Type 0} (xs : List X) (n : ℕ) (old new : X) → slice_get xs n ≡ Some old → slice_get (slice_set xs n new) n ≡ Some new
@@ -33,7 +33,7 @@ length_one_more [] x = refl
 length_one_more (y ∷ ys) x = ap suc (length_one_more ys x)
 
 module _ (k : ℕ → Kind) (now : ℕ) (parts : List (List Placed)) where
-  one_event : (s : State) (e : Event) → IsLawful parts s e → CanEnd k now parts (after k now parts s e) → CanEnd k now parts s
+  one_event : (s : State) (e : Event) → IsLawfulEvent parts s e → CanEnd k now parts (after k now parts s e) → CanEnd k now parts s
   one_event s e h c = record { events = e ∷ c.events; lawful = (h, c.lawful); back = c.back }
 
   -- part n ended, and the others where they were

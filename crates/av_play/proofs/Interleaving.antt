@@ -26,7 +26,7 @@ use Rattle.av_play.specs.declared.event.Event.{Event}
 use Rattle.av_play.specs.declared.event.Stage.TheVariants.{Ended}
 use Rattle.av_play.specs.Partition.{numbered, InTerritory, ShareSection, IsPlan, IsOfPart, part_at}
 use Rattle.av_play.specs.Play.{in_order, labelled, world_after, made_after, State, start, AreLawful, play, AllBack, entries_of, gathered, outcome}
-use Rattle.av_play.specs.Laws.{IsAfter, EntriesCommute, done_of, done_in, IsAsAlone}
+use Rattle.av_play.specs.Laws.{IsAfterEvents, EntriesCommute, done_of, done_in, IsAsAlone}
 use Rattle.av_play.specs.Ticks.{opened, due_in, outcome_of}
 use Rattle.av_play.proofs.LandTurns.{turned_in_order}
 use Rattle.av_play.proofs.Lists.{kept, each_chosen, chosen_twice, none_chosen, take_whole, same_number, itself, search_each}
@@ -215,7 +215,7 @@ module _ {S : Type 0} (division : Pos → S) (w : World) (entries : List Entry) 
 
   -- what holds after every lawful list
   pub as_alone : (k : ℕ → Kind) (now : ℕ) (lists : Lists) (events : List Event) → AreLawful k now parts (start w lists parts) events
-      → IsAfter division k now w lists parts plan.part_of (play k now parts (start w lists parts) events)
+      → IsAfterEvents division k now w lists parts plan.part_of (play k now parts (start w lists parts) events)
   as_alone k now lists events lawful =
       let traced = play_traced k now w lists all parts plan.part_of plan.each events (start w lists parts) [] (start_traced k now w lists all parts plan.part_of plan.each) lawful in
       let s : State = play k now parts (start w lists parts) events in
@@ -226,7 +226,7 @@ module _ {S : Type 0} (division : Pos → S) (w : World) (entries : List Entry) 
         lists_same = traced.1.lists_same;
       }
 
-  ended : (k : ℕ → Kind) (now : ℕ) (lists : Lists) (s : State) → IsAfter division k now w lists parts plan.part_of s → AllBack s → outcome s ≡ in_order k now entries w lists
+  ended : (k : ℕ → Kind) (now : ℕ) (lists : Lists) (s : State) → IsAfterEvents division k now w lists parts plan.part_of s → AllBack s → outcome s ≡ in_order k now entries w lists
   ended k now lists s h back =
       let all_done : done_in parts s ≡ part_at parts = λ i n. whole (part_at parts n) (slice_get s.stages n) (back n) i in
       ap (λ l. gathered s.world l s.made) h.lists_same ∙ gathers_whole k now s.world s.made (subst (λ d. IsAsAlone division k now w parts plan.part_of d s.world s.made) all_done h.alone) lists

@@ -11,7 +11,7 @@ use Rattle.av_play.specs.declared.event.Event.{Event}
 use Rattle.av_play.specs.declared.event.Stage.TheVariants.{Waits, Held, Ended}
 use Rattle.av_play.specs.declared.event.Event.TheVariants.{Take, Turn, Back}
 use Rattle.av_play.specs.Parts.{part_at}
-use Rattle.av_play.specs.Play.{turn_of, made_by, world_after, made_after, State, start, all_wait, moved, HoldsEntry, IsLawful, turned, turned_if_held, after, AreLawful, play}
+use Rattle.av_play.specs.Play.{turn_of, made_by, world_after, made_after, State, start, all_wait, moved, HoldsEntry, IsLawfulEvent, turned, turned_if_held, after, AreLawful, play}
 use Rattle.av_play.specs.Laws.{done_of, done_in}
 use Rattle.av_play.proofs.Lists.{each_push, each_chosen, each_at, take_one_more, at_set, other_number}
 
@@ -96,7 +96,7 @@ module _ (k : ℕ → Kind) (now : ℕ) (w : World) (lists : Lists) (all : List 
           ∙ append-nil _
           ∙ ap (λ o. take (done_of (part_at parts m) o) (part_at parts m)) (sym g.1)
 
-  step_traced : (s : State) (es : List Placed) (e : Event) → Traced s es → IsLawful parts s e → (fs : List Placed) × Traced (after k now parts s e) fs
+  step_traced : (s : State) (es : List Placed) (e : Event) → Traced s es → IsLawfulEvent parts s e → (fs : List Placed) × Traced (after k now parts s e) fs
   step_traced s es (Take worker n) t h = (es, moved_traced s es n Waits (Held worker 0) t h refl)
   step_traced s es (Turn worker n) t h = (es ++ h.next ∷ [], subst (λ u. Traced u (es ++ h.next ∷ [])) (sym (after_turn s worker n h)) (turn_traced s es worker n t h))
   step_traced s es (Back worker n) t h = (es, moved_traced s es n (Held worker (length (part_at parts n))) Ended t h refl)

@@ -50,7 +50,7 @@ pub record IsHeld (s : State) (n : ℕ) : Type 0 where
 
 -- A state after lawful events: no section lies in the territories of two held parts, each part's sections are as its own first turned
 -- entries alone leave them, and the chunks' lists are as they were.
-pub record IsAfter {S : Type 0} (division : Pos → S) (k : ℕ → Kind) (now : ℕ) (w : World) (lists : Lists) (parts : List (List Placed)) (part_of : ℕ → ℕ) (s : State) : Type 0 where
+pub record IsAfterEvents {S : Type 0} (division : Pos → S) (k : ℕ → Kind) (now : ℕ) (w : World) (lists : Lists) (parts : List (List Placed)) (part_of : ℕ → ℕ) (s : State) : Type 0 where
   pub apart : (m n : ℕ) (x : S) → ¬ (m ≡ n) → IsHeld s m → IsHeld s n → divided.IsOfPart division s.world (part_at parts m) x → ¬ divided.IsOfPart division s.world (part_at parts n) x
   pub alone : IsAsAlone division k now w parts part_of (done_in parts s) s.world s.made
   pub lists_same : s.lists ≡ lists

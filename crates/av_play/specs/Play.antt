@@ -72,10 +72,10 @@ pub record HoldsEntry (parts : List (List Placed)) (s : State) (worker n : ℕ) 
   pub held : slice_get s.stages n ≡ Some (Held worker done)
   pub left : slice_get (part_at parts n) done ≡ Some next
 
-abbrev pub IsLawful : List (List Placed) → State → Event → Type 0
-IsLawful parts s (Take worker n) = slice_get s.stages n ≡ Some Waits
-IsLawful parts s (Turn worker n) = HoldsEntry parts s worker n
-IsLawful parts s (Back worker n) = slice_get s.stages n ≡ Some (Held worker (length (part_at parts n)))
+abbrev pub IsLawfulEvent : List (List Placed) → State → Event → Type 0
+IsLawfulEvent parts s (Take worker n) = slice_get s.stages n ≡ Some Waits
+IsLawfulEvent parts s (Turn worker n) = HoldsEntry parts s worker n
+IsLawfulEvent parts s (Back worker n) = slice_get s.stages n ≡ Some (Held worker (length (part_at parts n)))
 
 abbrev pub turned : (ℕ → Kind) → ℕ → State → (worker n done : ℕ) → Option Placed → State
 turned k now s worker n done (Some x) =
@@ -94,7 +94,7 @@ after k now parts s (Back worker n) = moved s n Ended
 
 abbrev pub AreLawful : (ℕ → Kind) → ℕ → List (List Placed) → State → List Event → Type 0
 AreLawful k now parts s [] = Unit {0}
-AreLawful k now parts s (e ∷ es) = IsLawful parts s e × AreLawful k now parts (after k now parts s e) es
+AreLawful k now parts s (e ∷ es) = IsLawfulEvent parts s e × AreLawful k now parts (after k now parts s e) es
 
 abbrev pub play : (ℕ → Kind) → ℕ → List (List Placed) → State → List Event → State
 play k now parts s [] = s

@@ -20,7 +20,7 @@ ghost use Rattle.av_play.specs.Corners.{HasCorner};
 ghost use Rattle.av_play.specs.Joined.{joined, empty, AreCarved, IsTurned};
 ghost use Rattle.av_play.specs.Labels.{AreLabelled};
 ghost use Rattle.av_play.specs.Groups.{AreFirst, rank, grouped};
-ghost use Rattle.av_play.specs.Laws.{IsOfPart, EntriesCommute, IsAsAlone, IsAfter};
+ghost use Rattle.av_play.specs.Laws.{IsOfPart, EntriesCommute, IsAsAlone, IsAfterEvents};
 ghost use Rattle.av_play.specs.Parcels.{AreMended, AreSettled, IsPutBack};
 ghost use Rattle.av_play.specs.Waiting.{is_among, AreNew, appended};
 ghost use Rattle.av_cells.specs.Turn.{turn};
@@ -51,7 +51,7 @@ pub fn parts_are_as_alone<S>()
     ensures { (division : Pos → S) (w : World) (entries : List Entry) (parts : List (List Placed)) (plan : divided.IsPlan division w entries parts)
         → (k : ℕ → Kind) (now : ℕ) (lists : Lists) (events : List Event)
         → AreLawful k now parts (start w lists parts) events
-        → IsAfter division k now w lists parts plan.part_of (play k now parts (start w lists parts) events) }
+        → IsAfterEvents division k now w lists parts plan.part_of (play k now parts (start w lists parts) events) }
 {}
 
 /// Where each part's sections are as all its entries alone leave them, the world is the one that the entries leave

@@ -63,17 +63,17 @@ pub record IsTruncated (file : List ℕ) (index : ℕ) : Type 0 where
   pub located : IsLocated file index
   pub cause : length file < end_of file index
 
-pub record IsWhole (file : List ℕ) (index : ℕ) : Type 0 where
+pub record IsWithinFile (file : List ℕ) (index : ℕ) : Type 0 where
   pub located : IsLocated file index
   pub within : end_of file index ≤ length file
 
 -- not even a type, or more than the chunk's sectors hold
 pub record IsBadLength (file : List ℕ) (index : ℕ) : Type 0 where
-  pub whole : IsWhole file index
+  pub whole : IsWithinFile file index
   pub cause : (length_of file index ≡ 0) ⊎ (4096 * count_of file index < length_of file index + 4)
 
 pub record IsMeasured (file : List ℕ) (index : ℕ) : Type 0 where
-  pub whole : IsWhole file index
+  pub whole : IsWithinFile file index
   pub nonempty : 1 ≤ length_of file index
   pub fits : length_of file index + 4 ≤ 4096 * count_of file index
 

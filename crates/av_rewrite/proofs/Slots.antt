@@ -6,7 +6,7 @@ use Rattle.av_types.specs.declared.place.Height.{Height}
 use Rattle.av_state.specs.BlockState.{BlockState}
 use Rattle.av_rewrite.specs.declared.rewriting.Slot.{Slot}
 use Rattle.av_rewrite.specs.Regions.{AreMadeOf, IsMadeOf}
-use Rattle.av_rewrite.specs.Rewriting.{AreSlots, IsSlot, SlotWasRead, SlotsWereRead}
+use Rattle.av_rewrite.specs.Rewriting.{AreSlots, IsSlotRead, SlotWasRead, SlotsWereRead}
 use Rattle.av_rewrite.proofs.Growing.{one_more_seen}
 
 at_seam : {X : Type 0} (xs : List X) (x : X) (ys : List X) → slice_get (xs ++ x ∷ ys) (length xs) ≡ Some x
@@ -15,7 +15,7 @@ at_seam (z ∷ xs) x ys = at_seam xs x ys
 
 -- the slot behind those that are done
 pub slot_here : (h : Height) (region : List ℕ) (table : List BlockState) (count : ℕ) (slots done : List Slot) (slot : Slot) (left : List Slot)
-    → done ++ slot ∷ left ≡ slots → AreSlots h region table count slots → IsSlot h region table (length done) slot
+    → done ++ slot ∷ left ≡ slots → AreSlots h region table count slots → IsSlotRead h region table (length done) slot
 slot_here h region table count slots done slot left split s =
     s.each (length done) slot (subst (λ (xs : List Slot). slice_get xs (length done) ≡ Some slot) split (at_seam done slot left))
 

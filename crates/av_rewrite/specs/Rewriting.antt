@@ -49,21 +49,21 @@ pub record IsReadAt (h : Height) (region : List ℕ) (table : List BlockState) (
   pub grown : OnlyGrows new table
 
 -- what was read at an index
-abbrev pub IsSlot : Height → List ℕ → List BlockState → ℕ → Slot → Type 0
-IsSlot h region table index Absent = IsAbsent region index
-IsSlot h region table index (Kept payload) = IsKeptAt region index payload.now
-IsSlot h region table index (Full chunk rest) = IsReadAt h region table index chunk rest
+abbrev pub IsSlotRead : Height → List ℕ → List BlockState → ℕ → Slot → Type 0
+IsSlotRead h region table index Absent = IsAbsent region index
+IsSlotRead h region table index (Kept payload) = IsKeptAt region index payload.now
+IsSlotRead h region table index (Full chunk rest) = IsReadAt h region table index chunk rest
 
 pub record AreSlots (h : Height) (region : List ℕ) (table : List BlockState) (count : ℕ) (slots : List Slot) : Type 0 where
   pub many : length slots ≡ count
-  pub each : (index : ℕ) (slot : Slot) → slice_get slots index ≡ Some slot → IsSlot h region table index slot
+  pub each : (index : ℕ) (slot : Slot) → slice_get slots index ≡ Some slot → IsSlotRead h region table index slot
 
 -- a slot that was read somewhere, of a height with so many sections
 pub record SlotWasRead (table : List BlockState) (sections : ℕ) (slot : Slot) : Type 0 where
   pub height : Height
   pub region : List ℕ
   pub index : ℕ
-  pub is_slot : IsSlot height region table index slot
+  pub is_slot : IsSlotRead height region table index slot
   pub lit : sections ≡ height.sections
 
 pub record SlotsWereRead (table : List BlockState) (sections : ℕ) (slots : List Slot) : Type 0 where

@@ -7,7 +7,7 @@ ghost use Rattle.av_region.specs.Region.{Holds};
 ghost use Rattle.av_chunk.specs.Light.{section_count};
 ghost use Rattle.av_chunk.specs.Writing.{states_of_kinds};
 ghost use Rattle.av_rewrite.specs.Regions.{AreMadeOf, IsMadeOf, IsRegionMadeOf};
-ghost use Rattle.av_rewrite.specs.Rewriting.{AreSlots, IsRewritten, IsSlot, SlotWasRead, SlotsWereRead};
+ghost use Rattle.av_rewrite.specs.Rewriting.{AreSlots, IsRewritten, IsSlotRead, SlotWasRead, SlotsWereRead};
 
 use crate::recoding::stamps_of;
 use av_chunk::{Chunk, ChunkLight, ChunkRest, Reading};
@@ -41,7 +41,7 @@ fn read_payload<'a>(
 ) -> Result<Slot<'a>, Fault>
     requires index { index ≤ 1023 }
     requires small { length payload.now ≤ 1044475 }
-    ensures slot { (region : List ℕ) → Holds region index payload.now → IfOk result (IsSlot height region (states table.new) index) }
+    ensures slot { (region : List ℕ) → Holds region index payload.now → IfOk result (IsSlotRead height region (states table.new) index) }
     ensures table { OnlyGrows (states table.old) (states table.new) }
 {
     let root = decode(alloc, payload)?;
@@ -60,7 +60,7 @@ fn read_slot<'a>(
     table: &mut StateTable,
 ) -> Result<Slot<'a>, Fault>
     requires { index ≤ 1023 }
-    ensures slot { IfOk result (IsSlot height region.now.bytes.now (states table.new) index) }
+    ensures slot { IfOk result (IsSlotRead height region.now.bytes.now (states table.new) index) }
     ensures table { OnlyGrows (states table.old) (states table.new) }
 {
     match region.payload(index)? {
@@ -93,7 +93,7 @@ fn write_chunk(
     light: &ChunkLight,
 ) -> Result<Vec<u8>, Fault>
     requires { SlotWasRead (states_of_kinds kinds.now) (section_count light.now) (Slot.Full chunk rest) }
-    ensures { (h : Height) (region : List ℕ) (index : ℕ) → IsSlot h region (states_of_kinds kinds.now) index (Slot.Full chunk rest)
+    ensures { (h : Height) (region : List ℕ) (index : ℕ) → IsSlotRead h region (states_of_kinds kinds.now) index (Slot.Full chunk rest)
         → IfOk result (λ bytes. IsMadeOf (IsRewritten h) region index (Some bytes.items)) }
 {
     let root = chunk.write(alloc, &rest, kinds, light, 0)?;
@@ -108,7 +108,7 @@ fn write_slot(
     light: &ChunkLight,
 ) -> Result<Option<Vec<u8>>, Fault>
     requires { SlotWasRead (states_of_kinds kinds.now) (section_count light.now) slot }
-    ensures { (h : Height) (region : List ℕ) (index : ℕ) → IsSlot h region (states_of_kinds kinds.now) index slot.entry
+    ensures { (h : Height) (region : List ℕ) (index : ℕ) → IsSlotRead h region (states_of_kinds kinds.now) index slot.entry
         → IfOk result (λ made. IsMadeOf (IsRewritten h) region index (option_map (λ v. v.items) made)) }
 {
     match slot {

@@ -3,5 +3,5 @@ use Rattle.std.specs.Prelude.{ℕ, nat_eq, List, map}
 use Rattle.std.specs.List.{IsDistinct}
 
 -- no two of these jobs have the same number
-abbrev pub AreDistinct : {J : Type 0} → (J → ℕ) → List J → Type 0
-AreDistinct number jobs = IsDistinct nat_eq (map number jobs)
+abbrev pub HaveDistinctNumbers : {J : Type 0} → (J → ℕ) → List J → Type 0
+HaveDistinctNumbers number jobs = IsDistinct nat_eq (map number jobs)

@@ -4,7 +4,7 @@ ghost use Rattle.std.specs.List.{flat_map, list_any};
 ghost use Rattle.std.specs.List.Sorted.{IsPermutation};
 ghost use Rattle.crossbeam_queue.specs.Passes.{view as known, IsPassOf, ruled_capacity};
 ghost use Rattle.av_types.specs.declared.fault.Fault.TheVariants.{OutOfMemory};
-ghost use Rattle.av_ring.specs.Numbers.{AreDistinct};
+ghost use Rattle.av_ring.specs.Numbers.{HaveDistinctNumbers};
 ghost use Rattle.av_ring.specs.Ring.{view_of, filler, put, IsPart};
 ghost use Rattle.av_ring.specs.Shown.{RingShown, SeatShown, ring_shown, seat_shown, seat_view, IsSeatOf};
 
@@ -47,7 +47,7 @@ impl<J: Numbered> Model for Seat<J> {
     ghost view = { λ s. seat_shown s.pass.table_id (known s.pass).all (known s.pass).told (known s.pass).taken s.dry };
 
     ghost invariant = { λ s. (s.pass.me.1 ≡ []) × (known s.pass ≡ seat_view (known s.pass).all (known s.pass).told (known s.pass).taken s.dry)
-        × AreDistinct J.number_of (known s.pass).told };
+        × HaveDistinctNumbers J.number_of (known s.pass).told };
 }
 
 impl<J: Numbered + Drop + Send> JobRing<J> {
@@ -62,7 +62,7 @@ impl<J: Numbered + Drop + Send> JobRing<J> {
         seats: usize,
     ) -> Result<(JobRing<J>, Vec<Seat<J>>), (Fault, Vec<J>)>
         requires seats { (0 < seats) × (seats ≤ 8) }
-        requires numbers { AreDistinct J.number_of jobs.items }
+        requires numbers { HaveDistinctNumbers J.number_of jobs.items }
         ensures ring { IfOk result (λ r. (r.0.jobs ≡ vec_len jobs) × (r.0.seats ≡ seats)) }
         ensures seats { IfOk result (λ r. (vec_len r.1 ≡ seats) × All (λ s. s ≡ seat_shown r.0.ring seats jobs.items [] false) r.1.items) }
         ensures of_ring { IfOk result (λ r. All (IsSeatOf r.0) r.1.items) }
@@ -209,7 +209,7 @@ fn hand_out<J: Numbered + Drop + Send>(
 ) -> Vec<Seat<J>>
     requires seats { 0 < seats }
     requires pass { IsPassOf queue.now pass × (known pass ≡ view_of seats seats seats (known pass).told [] false) }
-    requires numbers { AreDistinct J.number_of (known pass).told }
+    requires numbers { HaveDistinctNumbers J.number_of (known pass).told }
     requires room { (handed.items ≡ []) × (seats ≤ vec_capacity handed) }
     ensures { (vec_len result ≡ seats) × All (λ s. s ≡ seat_shown queue.now.table.shared.table_id seats (known pass).told [] false) result.items }
 {

@@ -1,6 +1,6 @@
 //! Jobs that are their own numbers, taken by one worker and by eight in threads of their own.
 ghost use Rattle.std.specs.Prelude.{◌≡◌, ◌+◌, ◌<◌, ◌≤◌, IfOk, All, vec_len};
-ghost use Rattle.av_ring.specs.Numbers.{AreDistinct};
+ghost use Rattle.av_ring.specs.Numbers.{HaveDistinctNumbers};
 ghost use Rattle.av_ring.specs.Shown.{IsSeatOf};
 
 use crate::{JobRing, Numbered, Seat};
@@ -95,7 +95,7 @@ fn exchange<R: Threads + Wait + Sync>(
     most: usize,
 ) -> Result<(Vec<u32>, Vec<u32>), Fault>
     requires seats { (0 < seats) × (seats ≤ 8) }
-    requires numbers { AreDistinct (λ n. n) jobs.items }
+    requires numbers { HaveDistinctNumbers (λ n. n) jobs.items }
 {
     let Ok((ring, seats)) = JobRing::fill(rt, alloc, jobs, seats) else {
         return Err(Fault::OutOfMemory);
@@ -112,7 +112,7 @@ fn exchange<R: Threads + Wait + Sync>(
 
 /// Jobs 7, 3 and 9.
 fn three(alloc: Global) -> Result<Vec<u32>, AllocError>
-    ensures { IfOk result (λ jobs. AreDistinct (λ n. n) jobs.items) }
+    ensures { IfOk result (λ jobs. HaveDistinctNumbers (λ n. n) jobs.items) }
 {
     let jobs = vec![in alloc; 7, 3, 9]?;
     Ok(jobs)
@@ -120,7 +120,7 @@ fn three(alloc: Global) -> Result<Vec<u32>, AllocError>
 
 /// Jobs 0 to 999.
 fn thousand(alloc: Global) -> Result<Vec<u32>, AllocError>
-    ensures { IfOk result (λ jobs. AreDistinct (λ n. n) jobs.items) }
+    ensures { IfOk result (λ jobs. HaveDistinctNumbers (λ n. n) jobs.items) }
 {
     let mut jobs = Vec::new(alloc);
     for number in 0..1_000 {

@@ -21,7 +21,7 @@ use Rattle.av_world.proofs.Whole.{height_of as same_height}
 use Rattle.av_serial.specs.Ready.{IsSamePlace}
 use Rattle.av_files.specs.Files.{File}
 use Rattle.av_files.specs.FirstFault.{AreCountsGood}
-use Rattle.av_files.specs.Headline.{Headline, IsRefused, output}
+use Rattle.av_files.specs.Headline.{Headline, IsRunRefused, output}
 use Rattle.av_files.specs.Run.{stated, kinds_in}
 use Rattle.av_files.proofs.Composed.{reaches, headline}
 use Rattle.av_image.specs.declared.rest.Rest.{Rest}
@@ -29,7 +29,7 @@ use Rattle.av_image.specs.Views.{rest_in}
 use Rattle.av_image.specs.Loading.{file_in}
 use Rattle.av_image.specs.Saving.{IsRestOf}
 use Rattle.av_headline.proofs.Alike.{one_refusal, answer_or_refusal}
-use Rattle.av_run.specs.Answer.{IsAnswer}
+use Rattle.av_run.specs.Answer.{IsRunAnswer}
 use Rattle.av_run.specs.Written.{AreKindsBy, AreFilesOf, IsNotWritten}
 use Rattle.av_run.specs.Input.{IsInput, CanRun}
 use Rattle.av_run.specs.Finished.{reached_from, IsFinished}
@@ -69,7 +69,7 @@ run_answers files table edits n k i o counts s f =
     subst (λ m. Headline files table edits n k out o.turns m) (sym f.chunks) (subst (λ m. Headline files table edits n k out m (length w.chunks)) turns all)
 
 pub run_refused : (files : List File) (table edits : List ℕ) (n k : ℕ) (i : Input) (e : Fault) → AreCountsGood files n k → IsInput files table edits n i
-    → ((t : BlockTable) → AreKindsBy t i.kinds → IsNotWritten t (reached_from n i) (rest_in i.rest) n e) → IsRefused files table edits n k e
+    → ((t : BlockTable) → AreKindsBy t i.kinds → IsNotWritten t (reached_from n i) (rest_in i.rest) n e) → IsRunRefused files table edits n k e
 run_refused files table edits n k i e counts s f =
     let w = land_of i.world in
     let r = rest_in i.rest in
@@ -98,18 +98,18 @@ memory_or : (e : Fault) → (e ≡ OutOfMemory) ⊎ (e ≢ OutOfMemory)
 memory_or OutOfMemory = inl refl
 memory_or _ = inr (λ q. cc)
 
-pub is_refusal : (files : List File) (table edits : List ℕ) (n k : ℕ) (e : Fault) → (e ≢ OutOfMemory → IsRefused files table edits n k e) → IsAnswer files table edits n k (Err e)
+pub is_refusal : (files : List File) (table edits : List ℕ) (n k : ℕ) (e : Fault) → (e ≢ OutOfMemory → IsRunRefused files table edits n k e) → IsRunAnswer files table edits n k (Err e)
 is_refusal files table edits n k e refused = record {
   ok = tt;
   refused = refused;
   at_cause = λ f cause. by f cause (memory_or e);
 } where
-  by : (f : Fault) → IsRefused files table edits n k f → (e ≡ OutOfMemory) ⊎ (e ≢ OutOfMemory) → (failed e ≡ failed f) ⊎ (failed e ≡ failed OutOfMemory)
+  by : (f : Fault) → IsRunRefused files table edits n k f → (e ≡ OutOfMemory) ⊎ (e ≢ OutOfMemory) → (failed e ≡ failed f) ⊎ (failed e ≡ failed OutOfMemory)
   by f cause (inl memory) = inr (ap failed memory)
   by f cause (inr other) = inl (ap failed (one_refusal files table edits n k e f (refused other) cause))
 
 pub is_answer : (files : List File) (table edits : List ℕ) (n k : ℕ) (i : Input) (r : Result Outcome Fault) → AreCountsGood files n k → IsInput files table edits n i → IfOk r (IsFinished n i)
-    → IfErr r (λ e. e ≢ OutOfMemory → (t : BlockTable) → AreKindsBy t i.kinds → IsNotWritten t (reached_from n i) (rest_in i.rest) n e) → IsAnswer files table edits n k r
+    → IfErr r (λ e. e ≢ OutOfMemory → (t : BlockTable) → AreKindsBy t i.kinds → IsNotWritten t (reached_from n i) (rest_in i.rest) n e) → IsRunAnswer files table edits n k r
 is_answer files table edits n k i (Ok o) counts s ok err =
     let all = run_answers files table edits n k i o counts s ok in
     record { ok = all; refused = tt; at_cause = λ f cause. absurd (answer_or_refusal files table edits n k (map file_in o.files.items) o.turns o.chunks f all cause) }

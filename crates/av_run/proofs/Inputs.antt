@@ -19,7 +19,7 @@ use Rattle.av_land.specs.Good.{Good, IsTimely, IsSetOf}
 use Rattle.av_edits.specs.declared.edit.Edit.{Edit}
 use Rattle.av_edits.specs.Edits.{first_in_edits}
 use Rattle.av_edits.specs.Numbered.{number_sets}
-use Rattle.av_world.specs.Lands.{land_of, IsWhole}
+use Rattle.av_world.specs.Lands.{land_of, IsUncarved}
 use Rattle.av_world.specs.Views.{positions_of}
 use Rattle.av_world.specs.declared.worlds.World.{World}
 use Rattle.av_serial.specs.Ready.{CanApply}
@@ -90,9 +90,9 @@ can_run files table edits n i few s =
     }
 
 -- each edit can be applied
-can_apply_each : (count : ℕ) (w : World) (es : List Edit) → IsWhole w → AllByRecursion (IsSetOf count (land_of w)) (number_sets es) → AllByRecursion (CanApply count w) es
+can_apply_each : (count : ℕ) (w : World) (es : List Edit) → IsUncarved w → AllByRecursion (IsSetOf count (land_of w)) (number_sets es) → AllByRecursion (CanApply count w) es
 can_apply_each count w [] whole h = tt
 can_apply_each count w (e ∷ es) whole h = (record { loaded = ap (λ (l : Pos → Bool). l e.pos) whole ∙ h.0.there; number = h.0.number }, can_apply_each count w es whole h.1)
 
-pub can_apply_all : (count : ℕ) (w : World) (es : List Edit) → IsWhole w → AllByRecursion (IsSetOf count (land_of w)) (number_sets es) → All (CanApply count w) es
+pub can_apply_all : (count : ℕ) (w : World) (es : List Edit) → IsUncarved w → AllByRecursion (IsSetOf count (land_of w)) (number_sets es) → All (CanApply count w) es
 can_apply_all count w es whole h = All-from_recursion (CanApply count w) es (can_apply_each count w es whole h)

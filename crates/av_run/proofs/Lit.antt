@@ -30,7 +30,7 @@ use Rattle.av_flood.specs.Light.{Terrain, IsLight}
 use Rattle.av_land.specs.Land.{has_chunk, is_loaded}
 use Rattle.av_land.specs.Good.{Good, IsTimely}
 use Rattle.av_world.specs.Index.{slot}
-use Rattle.av_world.specs.Lands.{land_of, IsWhole}
+use Rattle.av_world.specs.Lands.{land_of, IsUncarved}
 use Rattle.av_world.specs.Views.{blocks, height_of, positions_of, is_broken}
 use Rattle.av_world.specs.declared.worlds.World.{World}
 use Rattle.av_files.specs.Files.{File}
@@ -87,7 +87,7 @@ counts_all k w [] (x ∷ xs) z = absurd z
 counts_all k w (c ∷ cs) [] z = absurd z
 counts_all k w (c ∷ cs) (x ∷ xs) z = (z.0.sections, counts_all k w cs xs z.1)
 
-module _ (t : BlockTable) (k : Kinds) (w : World) (made : AreKindsBy t k) (whole : IsWhole w) (numbers : (p : Pos) → (land_of w).at p < kind_count k) where
+module _ (t : BlockTable) (k : Kinds) (w : World) (made : AreKindsBy t k) (whole : IsUncarved w) (numbers : (p : Pos) → (land_of w).at p < kind_count k) where
   row_is : (p : Pos) → row_at k ((land_of w).at p) ≡ row_of t ((states_in k w).at p)
   row_is p =
       ap (λ (xs : List Row). slice_index_or xs ((land_of w).at p) shut_row) made.rows
@@ -132,7 +132,7 @@ module _ (t : BlockTable) (k : Kinds) (w : World) (made : AreKindsBy t k) (whole
       first = ap (λ s. too_large_by s (states_in k w) (rest_in r) (lights_in w ls) n) (sym (sources_are t k w made.wets numbers)) ∙ first;
     }
 
-pub can_be_saved : (k : Kinds) (w : World) (ls : List ChunkLight) (n : ℕ) → IsWhole w → Good (kind_count k) (IsTimely n) (land_of w) → AllZip (IsChunkLight k (blocks w) (height_of w)) (positions_of w) ls → CanSave w k ls n
+pub can_be_saved : (k : Kinds) (w : World) (ls : List ChunkLight) (n : ℕ) → IsUncarved w → Good (kind_count k) (IsTimely n) (land_of w) → AllZip (IsChunkLight k (blocks w) (height_of w)) (positions_of w) ls → CanSave w k ls n
 can_be_saved k w ls n whole good zip =
     can_save w k ls n whole good (AllZip-long (IsChunkLight k (blocks w) (height_of w)) (positions_of w) ls zip)
     (All-from_recursion (λ l. section_count l ≡ (height_of w).sections) ls (counts_all k w (positions_of w) ls zip))

@@ -8,9 +8,9 @@ use Rattle.av_state.specs.Table.{states}
 use Rattle.av_rules.specs.Rows.{BlockTable}
 use Rattle.av_rules.specs.Kinds.{table_in, kind_count}
 use Rattle.av_land.specs.Land.{is_loaded}
-use Rattle.av_land.specs.Good.{Good, IsTimely, HasInts, IsSetOf}
+use Rattle.av_land.specs.Good.{Good, IsTimely, HasIntCoordinates, IsSetOf}
 use Rattle.av_edits.specs.Numbered.{number_sets}
-use Rattle.av_world.specs.Lands.{land_of, IsWhole}
+use Rattle.av_world.specs.Lands.{land_of, IsUncarved}
 use Rattle.av_world.specs.Views.{height_of, positions_of, is_broken}
 use Rattle.av_files.specs.Files.{File}
 use Rattle.av_files.specs.FirstFault.{AreCountsGood, IsTable, IsFirstFault}
@@ -22,9 +22,9 @@ use Rattle.av_run.specs.declared.input.Loaded.{Loaded}
 use Rattle.av_run.specs.declared.input.Input.{Input}
 
 -- the world and the rest of files, by a new table of states
-pub record IsLoaded (h : Height) (files : List File) (l : Loaded) : Type 0 where
+pub record IsLoadedFrom (h : Height) (files : List File) (l : Loaded) : Type 0 where
   pub load : IsLoad h files (states l.table) (land_of l.world) (rest_in l.rest)
-  pub whole : IsWhole l.world
+  pub whole : IsUncarved l.world
   pub sound : is_broken l.world ≡ false
   pub rest_of : IsRestOf h (positions_of l.world) l.rest
 
@@ -37,7 +37,7 @@ pub record IsInput (files : List File) (table edits : List ℕ) (n : ℕ) (i : I
   pub kinds : AreKindsBy rules i.kinds
   pub load : IsLoad height files known (land_of i.world) (rest_in i.rest)
   pub read : AreEdits (is_loaded (land_of i.world)) n edits known (states (table_in i.kinds)) (number_sets i.edits.items)
-  pub whole : IsWhole i.world
+  pub whole : IsUncarved i.world
   pub sound : is_broken i.world ≡ false
   pub rest_of : IsRestOf height (positions_of i.world) i.rest
 
@@ -48,9 +48,9 @@ IsInputFault files table edits n e = (k : ℕ) → AreCountsGood files n k → I
 -- what ticks and writing ask of it
 pub record CanRun (n : ℕ) (i : Input) : Type 0 where
   pub few_ticks : n ≤ 1000000
-  pub whole : IsWhole i.world
+  pub whole : IsUncarved i.world
   pub sound : is_broken i.world ≡ false
   pub good : Good (kind_count i.kinds) (IsTimely 0) (land_of i.world)
-  pub ints : HasInts (land_of i.world)
+  pub ints : HasIntCoordinates (land_of i.world)
   pub edits : AllByRecursion (IsSetOf (kind_count i.kinds) (land_of i.world)) (number_sets i.edits.items)
   pub rest_of : IsRestOf (height_of i.world) (positions_of i.world) i.rest

@@ -6,11 +6,11 @@ ghost use Rattle.av_rules.specs.Tables.{table_of};
 ghost use Rattle.av_land.specs.Land.{is_loaded};
 ghost use Rattle.av_edits.specs.Edits.{first_in_edits};
 ghost use Rattle.av_edits.specs.Numbered.{number_sets};
-ghost use Rattle.av_world.specs.Lands.{land_of, IsWhole};
+ghost use Rattle.av_world.specs.Lands.{land_of, IsUncarved};
 ghost use Rattle.av_files.specs.FirstFault.{IsTable, IsBadTable, IsFilesFault};
 ghost use Rattle.av_files.specs.Layers.{AreEdits};
 ghost use Rattle.av_image.specs.Loading.{file_in};
-ghost use Rattle.av_run.specs.Input.{IsLoaded, IsInput, IsInputFault};
+ghost use Rattle.av_run.specs.Input.{IsLoadedFrom, IsInput, IsInputFault};
 
 use av_edits::Edit;
 use av_image::{Rest, load};
@@ -50,7 +50,7 @@ fn read_rules(alloc: Global, text: &[u8]) -> Result<Rules, Fault>
 
 /// What files say, by a new table of states.
 fn load_new(alloc: Global, files: Vec<RegionFile>, rules: &Rules) -> Result<Loaded, Fault>
-    ensures ok { IfOk result (IsLoaded rules.now.height (map file_in files.items)) }
+    ensures ok { IfOk result (IsLoadedFrom rules.now.height (map file_in files.items)) }
     ensures err { IfErr result (λ e. e ≢ OutOfMemory → IsFilesFault rules.now.height (map file_in files.items) e) }
 {
     let mut table = StateTable::new(alloc)?;
@@ -66,7 +66,7 @@ fn read_edits(
     world: &World,
     table: &mut StateTable,
 ) -> Result<Vec<Edit>, Fault>
-    requires { IsWhole world.now }
+    requires { IsUncarved world.now }
     ensures ok { IfOk result (λ es. AreEdits (is_loaded (land_of world.now)) ticks text.now (states table.old) (states table.new) (number_sets es.items)) }
     ensures err { IfErr result (λ e. e ≢ OutOfMemory → first_in_edits (is_loaded (land_of world.now)) ticks (states table.old) text.now ≡ Some e) }
 {

@@ -5,7 +5,7 @@ ghost use Rattle.av_rules.specs.Rows.{BlockTable};
 ghost use Rattle.av_crew.specs.Counts.{is_count_of_workers};
 ghost use Rattle.av_image.specs.Loading.{file_in};
 ghost use Rattle.av_image.specs.Views.{rest_in};
-ghost use Rattle.av_run.specs.Answer.{IsAnswer};
+ghost use Rattle.av_run.specs.Answer.{IsRunAnswer};
 ghost use Rattle.av_run.specs.Written.{AreKindsBy, IsNotWritten};
 ghost use Rattle.av_run.specs.Input.{CanRun};
 ghost use Rattle.av_run.specs.Finished.{reached_from, IsFinished};
@@ -88,7 +88,7 @@ pub fn run<R: Threads + Wait + Sync, G: Gate + Sync>(
     workers: u32,
     gate: &G,
 ) -> Result<Outcome, Fault>
-    ensures { IsAnswer (map file_in files.items) table.now edits.now ticks workers result }
+    ensures { IsRunAnswer (map file_in files.items) table.now edits.now ticks workers result }
 {
     if !are_counts_good(files.as_slice(), ticks, workers) {
         return Err(Fault::BadCount);

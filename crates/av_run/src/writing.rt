@@ -4,7 +4,7 @@ ghost use Rattle.av_types.specs.declared.fault.Fault.TheVariants.{OutOfMemory};
 ghost use Rattle.av_rules.specs.Rows.{BlockTable};
 ghost use Rattle.av_rules.specs.Kinds.{kind_count};
 ghost use Rattle.av_land.specs.Good.{Good, IsTimely};
-ghost use Rattle.av_world.specs.Lands.{land_of, IsWhole};
+ghost use Rattle.av_world.specs.Lands.{land_of, IsUncarved};
 ghost use Rattle.av_world.specs.Views.{height_of, positions_of, is_broken};
 ghost use Rattle.av_image.specs.Loading.{file_in};
 ghost use Rattle.av_image.specs.Views.{rest_in};
@@ -29,7 +29,7 @@ pub fn written(
     kinds: &Kinds,
     ticks: u32,
 ) -> Result<Vec<RegionFile>, Fault>
-    requires whole { IsWhole world.now }
+    requires whole { IsUncarved world.now }
     requires sound { is_broken world.now ≡ false }
     requires good { Good (kind_count kinds.now) (IsTimely ticks) (land_of world.now) }
     requires rest { IsRestOf (height_of world.now) (positions_of world.now) rest.now }

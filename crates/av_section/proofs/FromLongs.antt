@@ -6,7 +6,7 @@ use Rattle.av_pack.specs.Packing.{bits_for, longs_for, packed_at, unpacked}
 use Rattle.av_pack.specs.Packing as pack
 use Rattle.av_pack.proofs.Laws.{bits_for-low, bits_for-high, bits_for-enough, length-unpacked, get_or-unpacked}
 use Rattle.av_section.specs.BlockStates.{packed_indices, indices_if, are_below}
-use Rattle.av_section.specs.Distinct.{AreDistinct, ArePlaces}
+use Rattle.av_section.specs.Distinct.{AreEachOnce, ArePlaces}
 use Rattle.av_section.specs.Packed.{IsPackedSection}
 use Rattle.av_section.proofs.PackedLemmas.{none_is_not_many}
 
@@ -39,7 +39,7 @@ from_longs count longs indices h =
     }
 
 -- the longs as they are, where no number is there twice
-pub packed_as_is : (numbers palette indices : List ℕ) (longs : List ℤ) (bits : ℕ) → AreDistinct numbers palette → length palette ≡ length numbers → length numbers ≤ 4096
+pub packed_as_is : (numbers palette indices : List ℕ) (longs : List ℤ) (bits : ℕ) → AreEachOnce numbers palette → length palette ≡ length numbers → length numbers ≤ 4096
     → bits ≡ bits_for (length numbers) → FromLongs (length numbers) longs indices → IsPackedSection palette longs bits
 packed_as_is numbers palette indices longs bits a same few needed f =
     let is : bits ≡ bits_for (length palette) = needed ∙ ap bits_for (sym same) in
@@ -71,7 +71,7 @@ placed_below palette numbers places indices p below k d low =
     subst (λ v. v < length palette) (sym (get_or-map (λ i. get_or places i 0) indices k 0 d within)) (p.below (get_or indices k 0) 0 there)
 
 -- the places packed, of a palette that has each number
-pub packed_places : (numbers palette places indices : List ℕ) (longs : List ℤ) (bits : ℕ) → AreDistinct numbers palette → length numbers ≤ 4096 → bits ≡ bits_for (length palette)
+pub packed_places : (numbers palette places indices : List ℕ) (longs : List ℤ) (bits : ℕ) → AreEachOnce numbers palette → length numbers ≤ 4096 → bits ≡ bits_for (length palette)
     → ArePlaces palette numbers places → length indices ≡ 4096 → All (λ i. i < length numbers) indices → pack.IsPacked bits (map (λ i. get_or places i 0) indices) longs → IsPackedSection palette longs bits
 packed_places numbers palette places indices longs bits a few needed p long below q =
     let short : length palette ≤ 65536 = omega (arith, a.short) in

@@ -6,7 +6,7 @@ use Rattle.std.proofs.lemmas.List.{take_more}
 use Rattle.std.proofs.lemmas.List.Elements.{All-push, All-weaker, Contains-push, Contains-append_left}
 use Rattle.indexmap.proofs.CallerLemmas.{Contains-list_any}
 use Rattle.indexmap.specs.IndexSet.{insert_key}
-use Rattle.av_section.specs.Distinct.{AreDistinct}
+use Rattle.av_section.specs.Distinct.{AreEachOnce}
 use Rattle.av_section.proofs.Distinct.{Distinct-push}
 
 or_true : (b : Bool) → b || true ≡ true
@@ -21,7 +21,7 @@ any_at (x ∷ ks) n (suc k) low e = rw (any_at ks n k (omega arith) e) (or_true 
 pub not_among : (ks : List ℕ) (n : ℕ) → list_any (nat_eq n) ks ≡ false → Contains ks n → ⊥
 not_among ks n h c = true≢false (sym (any_at ks n c.0 c.1 c.2) ∙ h)
 
-once_or_not : (numbers once : List ℕ) (n : ℕ) (b : Bool) → list_any (nat_eq n) once ≡ b → n < 65536 → AreDistinct numbers once → AreDistinct (numbers ++ n ∷ []) (if b then once else once ++ n ∷ [])
+once_or_not : (numbers once : List ℕ) (n : ℕ) (b : Bool) → list_any (nat_eq n) once ≡ b → n < 65536 → AreEachOnce numbers once → AreEachOnce (numbers ++ n ∷ []) (if b then once else once ++ n ∷ [])
 once_or_not numbers once n true e small a = record {
   distinct = a.distinct;
   small = a.small;
@@ -37,7 +37,7 @@ once_or_not numbers once n false e small a = record {
   same = λ q. ap (λ l. l ++ n ∷ []) (a.same (omega (arith, length-append numbers (n ∷ []), length-append once (n ∷ []), q)));
 }
 
-pub once_more : (numbers once next : List ℕ) (i n : ℕ) → i < length numbers → n ≡ get_or numbers i 0 → n < 65536 → next ≡ insert_key nat_eq once n → AreDistinct (take i numbers) once → AreDistinct (take (i + 1) numbers) next
+pub once_more : (numbers once next : List ℕ) (i n : ℕ) → i < length numbers → n ≡ get_or numbers i 0 → n < 65536 → next ≡ insert_key nat_eq once n → AreEachOnce (take i numbers) once → AreEachOnce (take (i + 1) numbers) next
 once_more numbers once next i n low at small e a =
     let longer : take (i + 1) numbers ≡ take i numbers ++ n ∷ [] = take_more numbers i 0 low ∙ ap (λ x. take i numbers ++ x ∷ []) (sym at) in
     rw (longer, e) (once_or_not (take i numbers) once n (list_any (nat_eq n) once) refl small a)

@@ -6,7 +6,7 @@ use Rattle.std.specs.Cmp.Derive.{both_true}
 use Rattle.std.proofs.lemmas.Bool.{lt-ltb}
 use Rattle.std.proofs.lemmas.Option.{none-some, same_Some, cond_some}
 use Rattle.std.proofs.lemmas.Slice.Eq.{bytes_eq-Decides}
-use Rattle.av_nbt.specs.Nbt.{Nbt, byte, int16, int, int64, bits32, bits64, byte_array, text, list, compound, int_array, long_array, Members, no_members, member, NamedTag, IsAbsent, AreDistinct}
+use Rattle.av_nbt.specs.Nbt.{Nbt, byte, int16, int, int64, bits32, bits64, byte_array, text, list, compound, int_array, long_array, Members, no_members, member, NamedTag, LacksMember, HaveDistinctNames}
 use Rattle.av_nbt.specs.Shape.{◌>>=◌, members_in, text_of, each}
 use Rattle.av_nbt.specs.Place.{tag_of}
 use Rattle.av_nbt.specs.Spelling.{Spells, SpellsMembers}
@@ -62,7 +62,7 @@ differs : (b : Bool) (n k : List ℕ) → n ≢ k → bytes_eq k n ≡ b → not
 differs true n k h e = absurd (h (sym ((bytes_eq-Decides k n).0 e)))
 differs false n k h e = refl
 
-other_keys : (n : List ℕ) (ms : Members) (ps : List Property) → IsAbsent n ms → each property_in (members_in ms) ≡ Some ps → list_all (has_other_key n) ps ≡ true
+other_keys : (n : List ℕ) (ms : Members) (ps : List Property) → LacksMember n ms → each property_in (members_in ms) ≡ Some ps → list_all (has_other_key n) ps ≡ true
 other_keys n no_members ps h e = subst (λ l. list_all (has_other_key n) l ≡ true) (same_Some _ _ e) refl
 other_keys n (member k t ms) ps h e =
     let m : NamedTag = record { name = k; tag = t } in
@@ -71,7 +71,7 @@ other_keys n (member k t ms) ps h e =
     let other : has_other_key n p.first ≡ true = subst (λ s. not (bytes_eq s n) ≡ true) (sym q.key) (differs (bytes_eq k n) n k h.0 refl) in
     subst (λ l. list_all (has_other_key n) l ≡ true) (sym p.all_are) (both_true other (other_keys n ms p.others h.1 p.others_are))
 
-keys_apart : (ms : Members) (ps : List Property) → AreDistinct ms → each property_in (members_in ms) ≡ Some ps → AreApart ps
+keys_apart : (ms : Members) (ps : List Property) → HaveDistinctNames ms → each property_in (members_in ms) ≡ Some ps → AreApart ps
 keys_apart no_members ps h e = subst AreApart (same_Some _ _ e) tt
 keys_apart (member n t ms) ps h e =
     let m : NamedTag = record { name = n; tag = t } in

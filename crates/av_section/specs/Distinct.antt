@@ -3,7 +3,7 @@
 use Rattle.std.specs.Prelude.{◌≡◌, ◌≢◌, ℕ, ◌<◌, ◌≤◌, List, length, All, AllPairs, Contains, slice_index}
 
 -- none of them is there twice, all of the list are there, and where they are as many they are the list
-pub record AreDistinct (numbers once : List ℕ) : Type 0 where
+pub record AreEachOnce (numbers once : List ℕ) : Type 0 where
   pub distinct : AllPairs (λ x y. x ≢ y) once
   pub small : All (λ x. x < 65536) once
   pub there : All (Contains once) numbers

@@ -26,7 +26,7 @@ pub record IsNumberedSection (entries : List BlockState) (indices : Option (List
   pub pending : (i : ℕ) → is_pending s i ≡ false
 
 -- indices that are there, and entries that are refused
-pub record AreRefused (indices : Option (List ℕ)) (why : Type 0) : Type 0 where
+pub record AreEntriesRefused (indices : Option (List ℕ)) (why : Type 0) : Type 0 where
   pub places : List ℕ
   pub places_are : indices ≡ Some places
   pub because : why
@@ -35,6 +35,6 @@ pub record AreRefused (indices : Option (List ℕ)) (why : Type 0) : Type 0 wher
 abbrev pub IsNoSection : List BlockState → Option (List ℕ) → List BlockState → Fault → Type 0
 IsNoSection entries indices old OutOfMemory = Unit {0}
 IsNoSection entries indices old BadPacked = indices ≡ None
-IsNoSection entries indices old BadWaterLevel = AreRefused indices (each meant entries ≡ None)
-IsNoSection entries indices old TooManyStates = AreRefused indices (AreTooMany entries old)
+IsNoSection entries indices old BadWaterLevel = AreEntriesRefused indices (each meant entries ≡ None)
+IsNoSection entries indices old TooManyStates = AreEntriesRefused indices (AreTooMany entries old)
 IsNoSection entries indices old _ = ⊥

@@ -2,7 +2,7 @@
 use Rattle.std.specs.Prelude.{ℕ, nat_lt, length, List, [], ◌∷◌, Option, Some, None, Bool, ◌&&◌, ◌||◌, if◌then◌else◌, option_map, codes, map}
 use Rattle.std.specs.List.{list_all}
 use Rattle.std.specs.Str.{bytes_eq}
-use Rattle.av_nbt.specs.declared.tag.Kind.TheVariants as kind
+use Rattle.av_nbt.specs.declared.tag.TagType.TheVariants as tag_type
 use Rattle.av_nbt.specs.Nbt.{Nbt, text, list, compound, NamedTag, members_of, items_of}
 use Rattle.av_nbt.specs.Place.{tag_of}
 use Rattle.av_nbt.specs.Shape.{◌>>=◌, text_of, compound_of, items_of_list, each}
@@ -68,4 +68,4 @@ abbrev pub state_tag : BlockState → Nbt
 state_tag s = compound (members_of (record { name = name_key; tag = text s.name } ∷ properties_tags s.properties))
 
 abbrev pub states_tag : List BlockState → Nbt
-states_tag palette = list kind.Compound (items_of (map state_tag palette))
+states_tag palette = list tag_type.Compound (items_of (map state_tag palette))

@@ -21,10 +21,10 @@ pub record IsRead (palette longs : Option Nbt) (old new : List BlockState) (s : 
 
 -- too many states only where no other fault holds and they pass the number that there may be, and another fault exactly as
 -- the least that holds
-abbrev pub IsRefused : Option Nbt → Option Nbt → List BlockState → Fault → Type 0
-IsRefused palette longs old OutOfMemory = Unit {0}
-IsRefused palette longs old TooManyStates = (states_faults palette longs ≡ []) × (most_states < length (with_states old (read_states palette)))
-IsRefused palette longs old fault = least (states_faults palette longs) ≡ Some (fault_number fault)
+abbrev pub IsStatesRefusal : Option Nbt → Option Nbt → List BlockState → Fault → Type 0
+IsStatesRefusal palette longs old OutOfMemory = Unit {0}
+IsStatesRefusal palette longs old TooManyStates = (states_faults palette longs ≡ []) × (most_states < length (with_states old (read_states palette)))
+IsStatesRefusal palette longs old fault = least (states_faults palette longs) ≡ Some (fault_number fault)
 
 -- older numbers keep their states
 pub record OnlyGrows (old new : List BlockState) : Type 0 where

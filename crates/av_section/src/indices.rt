@@ -5,7 +5,7 @@ ghost use Rattle.std.specs.Option.{option_copied};
 ghost use Rattle.av_nbt.specs.View.{view};
 ghost use Rattle.av_pack.specs.Packing.{longs_for, packed_at, unpacked};
 ghost use Rattle.av_section.specs.BlockStates.{data_of, packed_indices, are_below};
-ghost use Rattle.av_section.specs.Distinct.{AreDistinct, ArePlaces};
+ghost use Rattle.av_section.specs.Distinct.{AreEachOnce, ArePlaces};
 ghost use Rattle.av_section.specs.Judged.{AreNoIndices};
 ghost use Rattle.av_section.specs.Packed.{HasAllBelow, IsRepacked};
 
@@ -98,7 +98,7 @@ fn add_new(once: &mut Vec<u16>, number: u16) -> Result<(), AllocError>
 
 /// The numbers of a list, each once, in the order in which they come first: each is compared with those before it.
 fn distinct_by_pairs(alloc: Global, numbers: &[u16]) -> Result<Vec<u16>, AllocError>
-    ensures { IfOk result (λ once. AreDistinct numbers.now once.items) }
+    ensures { IfOk result (λ once. AreEachOnce numbers.now once.items) }
 {
     let mut once = Vec::with_capacity(alloc, numbers.len())?;
     for number in numbers {
@@ -109,7 +109,7 @@ fn distinct_by_pairs(alloc: Global, numbers: &[u16]) -> Result<Vec<u16>, AllocEr
 
 /// The numbers of a list, each once, in the order in which they come first.
 pub(crate) fn distinct(alloc: Global, numbers: &[u16]) -> Result<Vec<u16>, AllocError>
-    ensures { IfOk result (λ once. AreDistinct numbers.now once.items) }
+    ensures { IfOk result (λ once. AreEachOnce numbers.now once.items) }
 {
     if numbers.len() <= FEW {
         return distinct_by_pairs(alloc, numbers);

@@ -59,10 +59,10 @@ impl Section {
     ghost use Rattle.av_state.specs.Table.{states};
     ghost use Rattle.av_state.specs.States.{state_of};
     ghost use Rattle.av_section.specs.BlockStates.{palette_tag, data_tag, indices_if, packed_indices, all_zero};
-    ghost use Rattle.av_section.specs.Distinct.{AreDistinct};
+    ghost use Rattle.av_section.specs.Distinct.{AreEachOnce};
     ghost use Rattle.av_section.specs.Indexed.{IsNumberedSection, IsNoSection, HasNumbers};
     ghost use Rattle.av_section.specs.Section.{number_at, is_pending, CanSet, KeepsPlaces, SetsNumber, SetsPending, IsFilled, AreParts, HasNumbersBelow, section_states};
-    ghost use Rattle.av_section.specs.Reading.{IsRead, IsRefused, OnlyGrows};
+    ghost use Rattle.av_section.specs.Reading.{IsRead, IsStatesRefusal, OnlyGrows};
 
     /// The section of a palette tag and a data tag. The palette's states are numbered after those of the table.
     ///
@@ -76,7 +76,7 @@ impl Section {
         table: &mut StateTable,
     ) -> Result<Self, Fault>
         ensures ok { IfOk result (IsRead (option_map view (option_copied palette.entry)) (option_map view (option_copied longs.entry)) (states table.old) (states table.new)) }
-        ensures err { IfErr result (IsRefused (option_map view (option_copied palette.entry)) (option_map view (option_copied longs.entry)) (states table.old)) }
+        ensures err { IfErr result (IsStatesRefusal (option_map view (option_copied palette.entry)) (option_map view (option_copied longs.entry)) (states table.old)) }
         ensures table { OnlyGrows (states table.old) (states table.new) }
     {
         let entries = palette_states(alloc, palette)?;
@@ -157,7 +157,7 @@ impl Section {
         numbers: &[u16],
         indices: &[u16],
     ) -> Result<Self, AllocError>
-        requires palette { AreDistinct numbers.now palette.items }
+        requires palette { AreEachOnce numbers.now palette.items }
         requires few { length numbers.now ≤ 4096 }
         requires count { length indices.now ≡ 4096 }
         requires below { All (λ index. index < length numbers.now) indices.now }

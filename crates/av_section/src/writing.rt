@@ -10,7 +10,7 @@ ghost use Rattle.av_section.specs.BlockStates.{indices_tag};
 ghost use Rattle.av_section.specs.Palette.{name_key, properties_key, property_tag, properties_tags, state_tag, states_tag};
 
 use crate::palette::{NAME, PROPERTIES};
-use av_nbt::{Kind, Named, Tag};
+use av_nbt::{Named, Tag, TagType};
 use av_pack::{bits_for, pack};
 use av_state::{Property, State, StateTable};
 use std::alloc::{AllocError, Global};
@@ -99,7 +99,7 @@ pub(crate) fn palette_tag(
     ensures { IfOk result (λ tag. view tag ≡ states_tag (map (λ n. slice_index_or (states table.now) n air) numbers.now)) }
 {
     let tags = state_tags(alloc, table, numbers)?;
-    Ok(Tag::list(Kind::Compound, tags))
+    Ok(Tag::list(TagType::Compound, tags))
 }
 
 /// The data tag of indices into a palette of so many entries: none where there is one entry.

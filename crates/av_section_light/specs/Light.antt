@@ -1,11 +1,9 @@
 -- Block light over a world of blocks: which of them are loaded, and what the rows of their states say.
-use Rattle.std.specs.Prelude.{◌≡◌, true, Result, MatchResult}
+use Rattle.std.specs.Prelude.{◌≡◌, true}
 use Rattle.av_types.specs.Places.{chunk_of, is_block_of}
 use Rattle.av_types.specs.declared.place.Pos.{Pos}
 use Rattle.av_types.specs.declared.place.ChunkPos.{ChunkPos}
 use Rattle.av_types.specs.declared.place.Height.{Height}
-use Rattle.av_types.specs.declared.fault.Fault.{Fault}
-use Rattle.av_types.specs.declared.fault.Fault.TheVariants.{OutOfMemory}
 use Rattle.av_rules.specs.declared.kinds.Kinds.{Kinds}
 use Rattle.av_rules.specs.Kinds.{row_at}
 use Rattle.av_chunk.specs.Light.{section_count}
@@ -22,7 +20,3 @@ terrain_of k w = record { loaded = w.loaded; emission = λ p. (row_at k (w.numbe
 pub record IsChunkLight (k : Kinds) (w : World) (h : Height) (c : ChunkPos) (l : ChunkLight) : Type 0 where
   pub sections : section_count l ≡ h.sections
   pub blocks : (p : Pos) → chunk_of p ≡ c → is_block_of h p.y ≡ true → IsLight (terrain_of k w) p (half_byte h l p)
-
--- what a call for the light of a chunk answers
-abbrev pub IsAnswer : Kinds → World → Height → ChunkPos → Result ChunkLight Fault → Type 0
-IsAnswer k w h c r = MatchResult r (IsChunkLight k w h c) (λ e. e ≡ OutOfMemory)

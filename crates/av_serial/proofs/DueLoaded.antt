@@ -21,7 +21,7 @@ use Rattle.av_cells.specs.Positions.{same_chunk}
 use Rattle.av_land.specs.Land.{has_chunk, is_loaded}
 use Rattle.av_land.specs.Tick.{due_entries}
 use Rattle.av_world.specs.Views.{blocks, lists}
-use Rattle.av_world.specs.Lands.{land_of, IsWhole}
+use Rattle.av_world.specs.Lands.{land_of, IsUncarved}
 use Rattle.av_world.specs.declared.worlds.World.{World}
 
 all_inserted : {X : Type 0} (q : X → Bool) (cmp : X → X → Ordering) (x : X) (ys : List X) → q x ≡ true → list_all q ys ≡ true → list_all q (inserted cmp x ys) ≡ true
@@ -67,7 +67,7 @@ all_loaded h ps c [] has all = refl
 all_loaded h ps c (e ∷ es) has all =
     and_from _ _ (one_loaded h ps c e.pos has (All-head (λ e. lies_in c h e.pos ≡ true) e es all)) (all_loaded h ps c es has (All-tail (λ e. lies_in c h e.pos ≡ true) e es all))
 
-pub due_loaded : (now : ℕ) (w : World) → IsWhole w → list_all (λ e. (blocks w).loaded e.pos) (due_entries now (land_of w)) ≡ true
+pub due_loaded : (now : ℕ) (w : World) → IsUncarved w → list_all (λ e. (blocks w).loaded e.pos) (due_entries now (land_of w)) ≡ true
 due_loaded now w whole =
     let ps = w.positions.items in
     let q : Entry → Bool = λ e. is_loaded (land_of w) e.pos in

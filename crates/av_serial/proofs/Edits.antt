@@ -10,7 +10,7 @@ use Rattle.std.specs.List.Sorted.{IsNonDecreasingBy, IsStableByKey, ties}
 use Rattle.av_land.specs.Idle.{edits_at}
 use Rattle.av_edits.specs.declared.edit.Edit.{Edit}
 use Rattle.av_edits.specs.Numbered.{number_set, number_sets}
-use Rattle.av_serial.specs.Schedule.{tick_of, AreUpTo, IsAfter, SameByTick}
+use Rattle.av_serial.specs.Schedule.{tick_of, AreUpTo, IsOfLaterTick, SameByTick}
 
 below_is_other : (x t : ℕ) → x < t → nat_eq x t ≡ false
 below_is_other x t h = grind (arith, nat_tests)
@@ -43,7 +43,7 @@ between t (suc a) (suc b) (e ∷ es) le p q =
     ∙ sym (ap (λ c. cond c (number_set e ∷ edits_at t (number_sets es)) (edits_at t (number_sets es))) (p 0 e (omega arith) (omega arith))))
 
 -- the edits of tick now stand between where those of earlier ticks end and where those of this tick end
-pub own_edits : (done now from to : ℕ) (es : List Edit) → now ≡ done + 1 → from ≤ to → AreUpTo done 0 from es → IsNonDecreasingBy tick_of es → IsAfter now to es
+pub own_edits : (done now from to : ℕ) (es : List Edit) → now ≡ done + 1 → from ≤ to → AreUpTo done 0 from es → IsNonDecreasingBy tick_of es → IsOfLaterTick now to es
     → edits_at now (number_sets (take (to - from) (drop from es))) ≡ edits_at now (number_sets es)
 own_edits done now from to es next le passed sorted after =
     between now from to es le

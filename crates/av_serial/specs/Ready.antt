@@ -9,14 +9,14 @@ use Rattle.av_cells.specs.Kinds.{kinds_of}
 use Rattle.av_cells.specs.Rule.{HasKinds}
 use Rattle.av_land.specs.Tick.{ticked, tick_count}
 use Rattle.av_world.specs.Views.{blocks, site, is_broken}
-use Rattle.av_world.specs.Lands.{IsWhole, land_of}
+use Rattle.av_world.specs.Lands.{IsUncarved, land_of}
 use Rattle.av_world.specs.declared.worlds.World.{World}
 use Rattle.av_edits.specs.declared.edit.Edit.{Edit}
 use Rattle.av_edits.specs.Numbered.{number_sets}
 
 -- no section is out, and each block's number has a kind
 pub record IsReady (kinds : ℕ) (w : World) : Type 0 where
-  pub whole : IsWhole w
+  pub whole : IsUncarved w
   pub numbers : HasKinds kinds (blocks w)
 
 -- the same chunks are there and the same blocks are loaded

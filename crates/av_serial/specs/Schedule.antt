@@ -13,8 +13,8 @@ abbrev pub AreUpTo : ℕ → ℕ → ℕ → List Edit → Type 0
 AreUpTo now a b es = (i : ℕ) (d : Edit) → a ≤ i → i < b → tick_of (slice_index_or es i d) ≤ now
 
 -- the edit at a place, if there is one, is of a tick after now
-abbrev pub IsAfter : ℕ → ℕ → List Edit → Type 0
-IsAfter now i es = (d : Edit) → i < length es → now < tick_of (slice_index_or es i d)
+abbrev pub IsOfLaterTick : ℕ → ℕ → List Edit → Type 0
+IsOfLaterTick now i es = (d : Edit) → i < length es → now < tick_of (slice_index_or es i d)
 
 -- the same edits of each tick, in the same order
 abbrev pub SameByTick : List Edit → List Edit → Type 0

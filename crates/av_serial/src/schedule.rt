@@ -1,7 +1,7 @@
 //! The edits of a run by their ticks.
 ghost use Rattle.std.specs.Prelude.{◌≡◌, ◌≤◌, ◌<◌, IfOk, length};
 ghost use Rattle.std.specs.List.Sorted.{IsNonDecreasingBy, IsPermutation};
-ghost use Rattle.av_serial.specs.Schedule.{tick_of, AreUpTo, IsAfter, SameByTick};
+ghost use Rattle.av_serial.specs.Schedule.{tick_of, AreUpTo, IsOfLaterTick, SameByTick};
 
 use av_edits::Edit;
 use std::alloc::{AllocError, Global};
@@ -23,7 +23,7 @@ pub(crate) fn end_of(edits: &[Edit], from: usize, now: u32) -> usize
     ensures from { from ≤ result }
     ensures within { result ≤ length edits.now }
     ensures passed { AreUpTo now from result edits.now }
-    ensures next { IsAfter now result edits.now }
+    ensures next { IsOfLaterTick now result edits.now }
 {
     let mut to = from;
     while to < edits.len() && edits[to].tick <= now {

@@ -8,7 +8,7 @@ use Rattle.av_types.specs.declared.place.Height.{Height}
 use Rattle.av_types.specs.declared.fault.Fault.{Fault}
 use Rattle.av_types.specs.declared.fault.Fault.TheVariants.{OutOfMemory, BadNbt}
 use Rattle.av_nbt.specs.Nbt.{Document}
-use Rattle.av_nbt.specs.Outcome.{IsRefusal, SpellsNone}
+use Rattle.av_nbt.specs.Outcome.{IsDecodeRefusal, SpellsNone}
 use Rattle.av_region.specs.Region.{Holds}
 use Rattle.av_state.specs.BlockState.{BlockState}
 use Rattle.av_state.specs.StateList.{first_states}
@@ -22,7 +22,7 @@ use Rattle.av_survey.specs.Survey.{FindsInAll, FindsInFile, FindsUpTo, IsFirstAt
 use Rattle.av_chunk.specs.Payload.{IsPayloadFault, no_document, bad_document}
 
 -- bytes that were refused, but not for want of memory, spell no document
-pub no_root : (e : Fault) (bytes : List ℕ) → IsRefusal e bytes → e ≢ OutOfMemory → (e ≡ BadNbt) × SpellsNone bytes
+pub no_root : (e : Fault) (bytes : List ℕ) → IsDecodeRefusal e bytes → e ≢ OutOfMemory → (e ≡ BadNbt) × SpellsNone bytes
 no_root OutOfMemory bytes h other = absurd (other refl)
 no_root BadNbt bytes h other = (refl, h)
 no_root _ bytes h other = absurd h

@@ -8,15 +8,15 @@ use Rattle.av_ticks.specs.Keys.{key_of}
 use Rattle.av_ticks.proofs.Lookup.{Keyed}
 
 -- the entries of a map that pass a test of the entry
-pub record IsKept (test : Entry → Bool) (es new : List Keyed) : Type 0 where
+pub record IsFiltered (test : Entry → Bool) (es new : List Keyed) : Type 0 where
   pub keyed : keys_of new ≡ map key_of (values_of new)
   pub values : values_of new ≡ filter test (values_of es)
 
-keep_more : (test : Entry → Bool) (e : Keyed) (es new : List Keyed) (b : Bool) → test e.1 ≡ b → e.0 ≡ key_of e.1 → IsKept test es new → IsKept test (e ∷ es) (cond b (e ∷ new) new)
+keep_more : (test : Entry → Bool) (e : Keyed) (es new : List Keyed) (b : Bool) → test e.1 ≡ b → e.0 ≡ key_of e.1 → IsFiltered test es new → IsFiltered test (e ∷ es) (cond b (e ∷ new) new)
 keep_more test e es new true t k h = record { keyed = let a = h.keyed in cc; values = rw t (ap (λ l. e.1 ∷ l) h.values) }
 keep_more test e es new false t k h = record { keyed = h.keyed; values = rw t h.values }
 
-pub kept : (test : Entry → Bool) (es : List Keyed) → keys_of es ≡ map key_of (values_of es) → IsKept test es (filter (λ p. test p.1) es)
+pub kept : (test : Entry → Bool) (es : List Keyed) → keys_of es ≡ map key_of (values_of es) → IsFiltered test es (filter (λ p. test p.1) es)
 kept test [] k = record { keyed = refl; values = refl }
 kept test (e ∷ es) k =
     let head : e.0 ≡ key_of e.1 = cc in

@@ -8,7 +8,7 @@ use Rattle.av_types.specs.declared.water.Direction.TheVariants.{North, South, We
 use Rattle.av_cells.specs.Positions.{InReach, ForAround, step, below, above}
 use Rattle.av_cells.specs.Wakes.{HasRoom}
 use Rattle.av_cells.specs.World.{World}
-use Rattle.av_water.specs.Ready.{IsReady}
+use Rattle.av_water.specs.Ready.{IsReadyForTurn}
 use Rattle.av_rules.specs.declared.kinds.Kinds.{Kinds}
 use Rattle.av_rules.specs.Kinds.{kind_count}
 use Rattle.av_rules.proofs.KindFacts.{are_kinds}
@@ -64,7 +64,7 @@ around_below p = around_close p (below p) (close_below p)
 pub around_side : (p : Pos) (d : Direction) → ForAround (InReach p) (step p d)
 around_side p d = around_close p (step p d) (close_side p d)
 
-pub room_around : (count : ℕ) (w : World) (room : Pos → ℕ) (can : Pos → ℕ → Type 0) (made : List Entry) (p q : Pos) → IsReady count w room can made p 7 → ForAround (InReach p) q → ForAround (HasRoom w room 7) q
+pub room_around : (count : ℕ) (w : World) (room : Pos → ℕ) (can : Pos → ℕ → Type 0) (made : List Entry) (p q : Pos) → IsReadyForTurn count w room can made p 7 → ForAround (InReach p) q → ForAround (HasRoom w room 7) q
 room_around count w room can made p q r i =
     record { itself = r.has_room q i.itself; beneath = r.has_room (below q) i.beneath; overhead = r.has_room (above q) i.overhead; beside = λ d. r.has_room (step q d) (i.beside d) }
 
@@ -73,6 +73,6 @@ pub water_has_kind : (kinds : Kinds) (n : ℕ) → n < 10 → n < kind_count kin
 water_has_kind kinds n h = let a = (are_kinds kinds).at_least_ten in omega arith
 
 -- room for more is room for less
-pub ready_less : (count : ℕ) (w : World) (room : Pos → ℕ) (can : Pos → ℕ → Type 0) (made : List Entry) (p : Pos) (more adds : ℕ) → adds ≤ more → IsReady count w room can made p more → IsReady count w room can made p adds
+pub ready_less : (count : ℕ) (w : World) (room : Pos → ℕ) (can : Pos → ℕ → Type 0) (made : List Entry) (p : Pos) (more adds : ℕ) → adds ≤ more → IsReadyForTurn count w room can made p more → IsReadyForTurn count w room can made p adds
 ready_less count w room can made p more adds h r =
     record { loaded = r.loaded; kinds = r.kinds; has_room = λ q i l. let a = r.has_room q i l in omega arith; prepared = r.prepared; capacity = let a = r.capacity in omega arith }

@@ -10,7 +10,7 @@ use Rattle.av_cells.specs.World.{World}
 abbrev pub CanBeWet : World → (Pos → ℕ → Type 0) → Pos → Type 0
 CanBeWet w can_set q = IsTrue (w.loaded q) → (n : ℕ) → n < 10 → can_set q n
 
-pub record IsReady (count : ℕ) (w : World) (room : Pos → ℕ) (can_set : Pos → ℕ → Type 0) (made : List Entry) (p : Pos) (adds : ℕ) : Type 0 where
+pub record IsReadyForTurn (count : ℕ) (w : World) (room : Pos → ℕ) (can_set : Pos → ℕ → Type 0) (made : List Entry) (p : Pos) (adds : ℕ) : Type 0 where
   pub loaded : IsTrue (w.loaded p)
   pub kinds : HasKinds count w
   pub has_room : (q : Pos) → InReach p q → IsTrue (w.loaded q) → adds ≤ room q

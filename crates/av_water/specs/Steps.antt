@@ -7,7 +7,7 @@ use Rattle.av_cells.specs.Positions.{step, below}
 use Rattle.av_cells.specs.Turn.{Change, change}
 use Rattle.av_cells.specs.Wakes.{Appends}
 use Rattle.av_cells.specs.World.{World, Lists, Site}
-use Rattle.av_water.specs.Ready.{IsReady}
+use Rattle.av_water.specs.Ready.{IsReadyForTurn}
 
 -- a turn of p may set q
 pub data MaySet (p q : Pos) : Type 0 where
@@ -23,5 +23,5 @@ pub record IsTurnStep {S : Type 0} (world : S → World) (lists : S → Lists) (
   pub listed : Appends old_made new_made (lists old) (lists new)
   pub same_site : site new ≡ site old
   pub same_loaded : (world new).loaded ≡ (world old).loaded
-  pub still_ready : (adds : ℕ) → IsReady count (world old) (room old) (can_set old) old_made p (adds + n)
-      → IsReady count (world new) (room new) (can_set new) new_made p adds
+  pub still_ready : (adds : ℕ) → IsReadyForTurn count (world old) (room old) (can_set old) old_made p (adds + n)
+      → IsReadyForTurn count (world new) (room new) (can_set new) new_made p adds

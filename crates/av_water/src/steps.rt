@@ -4,7 +4,7 @@ ghost use Rattle.av_rules.specs.Kinds.{kind_count};
 ghost use Rattle.av_cells.specs.Kinds.{kinds_of};
 ghost use Rattle.av_cells.specs.Positions.{step};
 ghost use Rattle.av_cells.specs.Turn.{set_awake, set_planned};
-ghost use Rattle.av_water.specs.Ready.{IsReady};
+ghost use Rattle.av_water.specs.Ready.{IsReadyForTurn};
 ghost use Rattle.av_water.specs.Sides.{ForSides, IsPlanFor};
 ghost use Rattle.av_water.specs.Steps.{IsTurnStep, MaySet};
 ghost use Rattle.av_types.specs.declared.water.Direction.TheVariants.{North, South, West, East};
@@ -25,7 +25,7 @@ pub(crate) fn set_number<C: Cells>(
     number: u16,
     made: &mut ArrayVec<Entry, 42>,
 )
-    requires ready { IsReady (kind_count kinds.now) (C.world cells.old) (C.room cells.old)
+    requires ready { IsReadyForTurn (kind_count kinds.now) (C.world cells.old) (C.room cells.old)
         (C.can_set cells.old) made.old.items pos 7 }
     requires target { MaySet pos target }
     requires there { IsTrue ((C.world cells.old).loaded target) }
@@ -47,7 +47,7 @@ fn set_planned_side<C: Cells>(
     plan: Option<u16>,
     made: &mut ArrayVec<Entry, 42>,
 )
-    requires ready { IsReady (kind_count kinds.now) (C.world cells.old) (C.room cells.old)
+    requires ready { IsReadyForTurn (kind_count kinds.now) (C.world cells.old) (C.room cells.old)
         (C.can_set cells.old) made.old.items pos 7 }
     requires there { (n : ℕ) → plan ≡ Some n → IsTrue ((C.world cells.old).loaded (step pos direction)) }
     requires water { (n : ℕ) → plan ≡ Some n → n < 10 }
@@ -69,7 +69,7 @@ pub(crate) fn set_sides<C: Cells>(
     plan: Plan,
     made: &mut ArrayVec<Entry, 42>,
 )
-    requires ready { IsReady (kind_count kinds.now) (C.world cells.old) (C.room cells.old)
+    requires ready { IsReadyForTurn (kind_count kinds.now) (C.world cells.old) (C.room cells.old)
         (C.can_set cells.old) made.old.items pos 28 }
     requires planned { ForSides (IsPlanFor (kinds_of kinds.now) (C.world cells.old) pos)
         plan.north plan.south plan.west plan.east }

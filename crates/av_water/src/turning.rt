@@ -7,7 +7,7 @@ ghost use Rattle.av_cells.specs.Positions.{ForTurned, InReach, below};
 ghost use Rattle.av_cells.specs.Rule.{HasKinds, can_enter, wet_at};
 ghost use Rattle.av_cells.specs.Turn.{change, same_wet, spread, onward, renewed, turn};
 ghost use Rattle.av_cells.specs.World.{listed_all};
-ghost use Rattle.av_water.specs.Ready.{IsReady};
+ghost use Rattle.av_water.specs.Ready.{IsReadyForTurn};
 ghost use Rattle.av_water.specs.Steps.{IsTurnStep};
 
 use crate::coming::{incoming, sources_beside};
@@ -28,7 +28,7 @@ fn spread<C: Cells>(
     wet: Wet,
     made: &mut ArrayVec<Entry, 42>,
 )
-    requires ready { IsReady (kind_count kinds.now) (C.world cells.old) (C.room cells.old)
+    requires ready { IsReadyForTurn (kind_count kinds.now) (C.world cells.old) (C.room cells.old)
         (C.can_set cells.old) made.old.items pos 28 }
     requires wet { wet ≡ wet_at (kinds_of kinds.now) (C.world cells.old) pos }
     ensures { IsTurnStep C.world C.lists C.site C.room C.can_set (kind_count kinds.now) pos 28
@@ -51,7 +51,7 @@ fn fall<C: Cells>(
     wet: Wet,
     made: &mut ArrayVec<Entry, 42>,
 )
-    requires ready { IsReady (kind_count kinds.now) (C.world cells.old) (C.room cells.old)
+    requires ready { IsReadyForTurn (kind_count kinds.now) (C.world cells.old) (C.room cells.old)
         (C.can_set cells.old) made.old.items pos 35 }
     requires wet { wet ≡ wet_at (kinds_of kinds.now) (C.world cells.old) pos }
     requires open { IsTrue (can_enter (kinds_of kinds.now) (C.world cells.old) (below pos)) }
@@ -77,7 +77,7 @@ fn go_on<C: Cells>(
     wet: Wet,
     made: &mut ArrayVec<Entry, 42>,
 )
-    requires ready { IsReady (kind_count kinds.now) (C.world cells.old) (C.room cells.old)
+    requires ready { IsReadyForTurn (kind_count kinds.now) (C.world cells.old) (C.room cells.old)
         (C.can_set cells.old) made.old.items pos 35 }
     requires wet { wet ≡ wet_at (kinds_of kinds.now) (C.world cells.old) pos }
     ensures { IsTurnStep C.world C.lists C.site C.room C.can_set (kind_count kinds.now) pos 35
@@ -108,7 +108,7 @@ fn renew<C: Cells>(
     wet: Wet,
     made: &mut ArrayVec<Entry, 42>,
 )
-    requires ready { IsReady (kind_count kinds.now) (C.world cells.old) (C.room cells.old)
+    requires ready { IsReadyForTurn (kind_count kinds.now) (C.world cells.old) (C.room cells.old)
         (C.can_set cells.old) made.old.items pos 42 }
     requires wet { wet ≡ wet_at (kinds_of kinds.now) (C.world cells.old) pos }
     ensures { IsTurnStep C.world C.lists C.site C.room C.can_set (kind_count kinds.now) pos 42

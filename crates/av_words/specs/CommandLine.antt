@@ -140,7 +140,7 @@ pub record IsReadFrom (words : List Text) (command : Words) : Type 0 where
   pub values : HasValues rows command
 
 -- Why words are refused: `clap` does not take them, or memory runs out, or they give no command with all its values.
-pub record IsRefusal (words : List Text) (e : Error) : Type 0 where
+pub record IsWordsRefusal (words : List Text) (e : Error) : Type 0 where
   pub cause : takes anvilwater words ≡ true → (kind_of e ≡ OutOfMemory) ⊎ ((command : Words) → IsReadFrom words command → ⊥)
 
 -- ---- working definitions: the words of a command lack one of its values

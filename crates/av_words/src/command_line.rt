@@ -4,7 +4,7 @@ ghost use Rattle.std.specs.Borrow.{Bor};
 ghost use Rattle.clap.specs.declared.builder.command.Command.TheViews.{out-Command};
 ghost use Rattle.clap.specs.Words.{app_of, found_of, kind_of, new_app, rows_of, rule_of, subcommand_rows_of, Row};
 ghost use Rattle.av_words.specs.declared.command_line.commands.Words.{Words};
-ghost use Rattle.av_words.specs.CommandLine.{HasCount, HasFlag, HasNumber, HasText, HasValues, IsReadFrom, IsRefusal, LacksBlock, LacksCheck, LacksRun, MayHaveText};
+ghost use Rattle.av_words.specs.CommandLine.{HasCount, HasFlag, HasNumber, HasText, HasValues, IsReadFrom, IsWordsRefusal, LacksBlock, LacksCheck, LacksRun, MayHaveText};
 ghost use Rattle.av_words.specs.CommandLine.{anvilwater, block_app, check_app, count_rule, file_rule, name_of, bare_app, number_rule, option_rule, progress_rule, run_app, with_files};
 
 use av_types::Pos;
@@ -289,7 +289,7 @@ fn command_of<'a>(matches: &ArgMatches<'a>) -> Option<Words<'a>>
 /// are refused only where they give no command all its values.
 pub fn words<'a>(alloc: Global, given: &'a [&'a str]) -> Result<Words<'a>, Error>
     ensures read { IfOk result (IsReadFrom (map (λ s. s.now) given.now)) }
-    ensures refused { IfErr result (IsRefusal (map (λ s. s.now) given.now)) }
+    ensures refused { IfErr result (IsWordsRefusal (map (λ s. s.now) given.now)) }
 {
     let matches = program(alloc)?.try_get_matches_from(given)?;
     if let Some(command) = command_of(&matches) {

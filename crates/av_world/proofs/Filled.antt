@@ -20,7 +20,7 @@ use Rattle.av_world.specs.Sections.{filling_in}
 use Rattle.av_world.specs.Inserted.{Inserts, IsFull, chunk_grid, with_chunk}
 use Rattle.av_world.specs.Views.{grid}
 use Rattle.av_world.specs.Chunks.{IsChunkOf}
-use Rattle.av_world.specs.Lands.{IsWhole}
+use Rattle.av_world.specs.Lands.{IsUncarved}
 use Rattle.av_world.specs.declared.worlds.World.{World}
 use Rattle.av_world.proofs.ChunkReads.{slot_of_index, has_chunk_there}
 use Rattle.av_world.proofs.Putting.{block_of, block_in}
@@ -82,14 +82,14 @@ both_true : (a b : Bool) → a ≡ true → b ≡ true → a && b ≡ true
 both_true a b h g = ap (λ x. x && b) h ∙ g
 
 -- where a chunk and the number are there, a whole world has the section
-section_there : (w : World) → IsWhole w → (s : SectionPos) → lands.has_chunk w.positions.items (chunk_of_section s) ≡ true → is_section_of w.height s.y ≡ true → is_here (grid w s) ≡ true
+section_there : (w : World) → IsUncarved w → (s : SectionPos) → lands.has_chunk w.positions.items (chunk_of_section s) ≡ true → is_section_of w.height s.y ≡ true → is_here (grid w s) ≡ true
 section_there w whole s has high =
     ap (λ t. is_here (grid w t)) (block_in s)
     ∙ ((λ i. whole i (block_of s))
     ∙ (ap (λ t. lands.has_chunk w.positions.items (chunk_of_section t) && is_section_of w.height t.y) (sym (block_in s))
     ∙ both_true (lands.has_chunk w.positions.items (chunk_of_section s)) (is_section_of w.height s.y) has high))
 
-pub chunk_is_full : (w : World) (c : ChunkPos) (x : Chunk) → IsWhole w → IsChunkOf w c x → lands.has_chunk w.positions.items c ≡ true → IsFull x
+pub chunk_is_full : (w : World) (c : ChunkPos) (x : Chunk) → IsUncarved w → IsChunkOf w c x → lands.has_chunk w.positions.items c ≡ true → IsFull x
 chunk_is_full w c x whole of has = λ k d below.
     let low : k < w.height.sections = rw (← of.count) below in
     let high = section_high w.height k low in
@@ -100,7 +100,7 @@ chunk_is_full w c x whole of has = λ k d below.
     here_is_some (get_or x.sections.items k d) (subst (λ o. is_here (filling_in o) ≡ true) (sym (get_or_default x.sections.items k d None below)) at)
 
 -- and so has the chunk at an index
-pub full_at_index : (w : World) (i : ℕ) (x : Chunk) (d : ChunkPos) → i < length w.positions.items → ((c : ChunkPos) → slice_get w.positions.items i ≡ Some c → IsChunkOf w c x) → IsWhole w → IsFull x
+pub full_at_index : (w : World) (i : ℕ) (x : Chunk) (d : ChunkPos) → i < length w.positions.items → ((c : ChunkPos) → slice_get w.positions.items i ≡ Some c → IsChunkOf w c x) → IsUncarved w → IsFull x
 full_at_index w i x d below of whole =
     let c = get_or w.positions.items i d in
     let at : slice_get w.positions.items i ≡ Some c = slice_get-get_or w.positions.items i d below in

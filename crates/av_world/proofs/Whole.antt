@@ -8,14 +8,14 @@ use Rattle.av_land.specs.Land as lands
 use Rattle.av_world.specs.Views.{blocks, lists, grid, site}
 use Rattle.av_types.specs.declared.place.Height.{Height}
 use Rattle.av_cells.specs.World.{Site, Lists}
-use Rattle.av_world.specs.Lands.{land_of, IsWhole}
+use Rattle.av_world.specs.Lands.{land_of, IsUncarved}
 use Rattle.av_world.specs.declared.worlds.World.{World}
 
 waits_here : (o : Option Filling) (i : ℕ) (b : Bool) → (IsTrue (is_here o) → pending_in o i ≡ b) → is_here o && b ≡ pending_in o i
 waits_here None i b h = refl
 waits_here (Some f) i b h = sym (h refl)
 
-pub cells_of_land : (w : World) → IsWhole w → lands.cells_of (land_of w) ≡ blocks w
+pub cells_of_land : (w : World) → IsUncarved w → lands.cells_of (land_of w) ≡ blocks w
 cells_of_land w whole = λ i. record { loaded = sym whole i; number = (blocks w).number; pending = λ p. pending p i } where
   pending : (p : Pos) → lands.waits (land_of w) p ≡ (blocks w).pending p
   pending p = ap (λ (l : Pos → Bool). l p && is_pending p (lists w (chunk_of p))) (sym whole) ∙ waits_here (grid w (section_of p)) (place_of p) (is_pending p (lists w (chunk_of p))) (w.lawful.tied p)
@@ -28,7 +28,7 @@ pub height_of : (old new : World) → site new ≡ site old → new.height ≡ o
 height_of old new s = ap (λ (x : Site). height_or old.height x.height) s
 
 -- a world whose site and loaded blocks are as they were is as whole as it was
-pub whole_kept : (old new : World) → site new ≡ site old → (blocks new).loaded ≡ (blocks old).loaded → IsWhole old → IsWhole new
+pub whole_kept : (old new : World) → site new ≡ site old → (blocks new).loaded ≡ (blocks old).loaded → IsUncarved old → IsUncarved new
 whole_kept old new s l whole = l ∙ (whole ∙ sym (λ i p. lands.is_loaded (record { height = height_of old new s i; chunks = (s i).chunks; at = (blocks old).number; lists = lists old }) p))
 
 -- a world that is a change of a whole one

@@ -8,5 +8,5 @@ abbrev pub land_of : World → Land ℕ
 land_of w = record { height = w.height; chunks = w.positions.items; at = (blocks w).number; lists = lists w }
 
 -- no section is out
-abbrev pub IsWhole : World → Type 0
-IsWhole w = (blocks w).loaded ≡ is_loaded (land_of w)
+abbrev pub IsUncarved : World → Type 0
+IsUncarved w = (blocks w).loaded ≡ is_loaded (land_of w)

@@ -9,7 +9,7 @@ ghost use Rattle.av_ticks.specs.Ticks.{entries};
 ghost use Rattle.av_land.specs.Tick.{due_entries, without_due};
 ghost use Rattle.av_world.specs.Changes.{SameNumbers};
 ghost use Rattle.av_world.specs.Due.{at_least, is_reached, tick_of};
-ghost use Rattle.av_world.specs.Lands.{land_of, IsWhole};
+ghost use Rattle.av_world.specs.Lands.{land_of, IsUncarved};
 ghost use Rattle.av_world.specs.Views.{sections, blocks, lists, site, is_broken, chunks_of};
 
 use crate::chunks::leave_in;
@@ -149,7 +149,7 @@ impl World {
         ensures loaded { (blocks self.new).loaded ≡ (blocks self.old).loaded }
         ensures site { site self.new ≡ site self.old }
         ensures unbroken { OnOk result (is_broken self.old ≡ false) }
-        ensures whole { IsWhole self.old → IsWhole self.new }
+        ensures whole { IsUncarved self.old → IsUncarved self.new }
         ensures unchanged_land { OnErr result (land_of self.new ≡ land_of self.old) }
         ensures unchanged { OnErr result (blocks self.new ≡ blocks self.old) }
         ensures fault { IfErr result (λ e. e ≡ (if is_broken self.old then Broken else OutOfMemory)) }

@@ -6,7 +6,7 @@ ghost use Rattle.av_land.specs.Land.{has_chunk};
 ghost use Rattle.av_world.specs.Chunks.{IsChunkOf};
 ghost use Rattle.av_world.specs.Index.{slot};
 ghost use Rattle.av_world.specs.Inserted.{IsFull};
-ghost use Rattle.av_world.specs.Lands.{IsWhole};
+ghost use Rattle.av_world.specs.Lands.{IsUncarved};
 ghost use Rattle.av_world.specs.Views.{height_of, positions_of, chunks_of, sections, IsWorldKept};
 
 use crate::chunks::layer;
@@ -85,7 +85,7 @@ impl World {
         requires { index < length (positions_of self.now) }
         ensures value { slice_get (chunks_of self.now) index ≡ Some result.now }
         ensures contents { (c : ChunkPos) → slice_get (positions_of self.now) index ≡ Some c → IsChunkOf self.now c result.now }
-        ensures full { IsWhole self.now → IsFull result.now }
+        ensures full { IsUncarved self.now → IsFull result.now }
     {
         &self.chunks[index]
     }

@@ -30,7 +30,7 @@ impl World {
     ghost use Rattle.av_types.specs.Places.{region_of, IsInLimits};
     ghost use Rattle.av_world.specs.Index.{slot};
     ghost use Rattle.av_world.specs.Inserted.{IsNewChunk, IsFull, Inserts, chunk_grid, with_chunk, with_list};
-    ghost use Rattle.av_world.specs.Lands.{land_of, IsWhole};
+    ghost use Rattle.av_world.specs.Lands.{land_of, IsUncarved};
     ghost use Rattle.av_world.specs.Views.{height_of, positions_of, is_broken, grid, lists};
 
     /// A world without chunks.
@@ -40,7 +40,7 @@ impl World {
         ensures broken { is_broken result ≡ false }
         ensures positions { positions_of result ≡ [] }
         ensures lists { (c : ChunkPos) → lists result c ≡ [] }
-        ensures whole { IsWhole result }
+        ensures whole { IsUncarved result }
     {
         World {
             height,
@@ -64,7 +64,7 @@ impl World {
         ensures positions { OnOk result (Inserts (positions_of self.old) at (positions_of self.new)) }
         ensures height { height_of self.new ≡ height_of self.old }
         ensures broken { is_broken self.new ≡ is_broken self.old }
-        ensures whole { OnOk result (IsWhole self.old → IsFull chunk → IsWhole self.new) }
+        ensures whole { OnOk result (IsUncarved self.old → IsFull chunk → IsUncarved self.new) }
         ensures same_grid { OnErr result (grid self.new ≡ grid self.old) }
         ensures same_lists { OnErr result (lists self.new ≡ lists self.old) }
         ensures same_positions { OnErr result (positions_of self.new ≡ positions_of self.old) }

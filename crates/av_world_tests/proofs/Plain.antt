@@ -21,7 +21,7 @@ use Rattle.av_cells.specs.World as cells
 use Rattle.av_cells.specs.World.{with_number, with_entry}
 use Rattle.av_world.specs.Sections.{layer_at, filling_in}
 use Rattle.av_world.specs.Inserted.{IsNewChunk, IsFull, chunk_grid, with_chunk}
-use Rattle.av_world.specs.Lands.{IsWhole}
+use Rattle.av_world.specs.Lands.{IsUncarved}
 use Rattle.av_world.specs.ParcelViews.{kept_grid, blocks as parcel_blocks}
 use Rattle.av_world.specs.Views.{grid, blocks, site, height_of}
 use Rattle.av_world.specs.declared.parcels.Parcel.{Parcel}
@@ -89,10 +89,10 @@ flat_is_full h x f = All-weaker IsCalmSlot (λ o. IsTrue (is_some o)) there x.se
 
 -- ---- worlds
 
-pub plain_new : (w : World) → ((s : SectionPos) → grid w s ≡ None) → IsWhole w → IsPlain w
+pub plain_new : (w : World) → ((s : SectionPos) → grid w s ≡ None) → IsUncarved w → IsPlain w
 plain_new w none whole = record { whole = whole; numbers = λ p t. absurd (true≢false (sym t ∙ ap is_here (none (section_of p)))) }
 
-pub plain_inserted : (old new : World) (c : ChunkPos) (x : Chunk) → IsPlain old → IsFlat (height_of old) x → grid new ≡ with_chunk (grid old) c (chunk_grid (height_of old) x) → (IsWhole old → IsFull x → IsWhole new) → IsPlain new
+pub plain_inserted : (old new : World) (c : ChunkPos) (x : Chunk) → IsPlain old → IsFlat (height_of old) x → grid new ≡ with_chunk (grid old) c (chunk_grid (height_of old) x) → (IsUncarved old → IsFull x → IsUncarved new) → IsPlain new
 plain_inserted old new c x p f is whole = record {
   whole = whole p.whole (flat_is_full (height_of old) x f);
   numbers = subst (λ (g : Grid). HasKinds 11 (cells_of g)) (sym is) (λ q. by q (same_chunk c (chunk_of q)));

@@ -11,7 +11,7 @@ use Rattle.av_types.specs.declared.place.ChunkPos.{ChunkPos}
 use Rattle.av_world.specs.OutOf.{IsPartOf}
 use Rattle.av_world.specs.ParcelViews.{blocks as parcel_blocks, lists as parcel_lists}
 use Rattle.av_world.specs.Views.{blocks}
-use Rattle.av_world.specs.Lands.{IsWhole}
+use Rattle.av_world.specs.Lands.{IsUncarved}
 use Rattle.av_world.specs.declared.parcels.Parcel.{Parcel}
 use Rattle.av_world.specs.declared.worlds.World.{World}
 
@@ -33,7 +33,7 @@ pub record IsFlat (h : Height) (x : Chunk) : Type 0 where
 
 -- no section is out, and each block is air, water or stone
 pub record IsPlain (w : World) : Type 0 where
-  pub whole : IsWhole w
+  pub whole : IsUncarved w
   pub numbers : HasKinds 11 (blocks w)
 
 -- what is a part of a world stays one

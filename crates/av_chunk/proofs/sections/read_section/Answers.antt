@@ -6,7 +6,7 @@ use Rattle.av_nbt.specs.View.{view, named_views}
 use Rattle.av_state.specs.Table.{states}
 use Rattle.av_document.specs.Chunk.{section_number, block_states_of}
 use Rattle.av_chunk.specs.Working.{checked_number, tags_in}
-use Rattle.av_chunk.specs.SectionsRead.{AreRefused, IsSectionRefused}
+use Rattle.av_chunk.specs.SectionsRead.{AreStatesRefused, IsSectionRefused}
 use Rattle.av_chunk.proofs.OneSection.{good_states, outside_read, inside_read, inside_refused}
 use Rattle.av_chunk.proofs.sections.read_section.Goals as goal
 
@@ -41,7 +41,7 @@ returns-in_err-section-clause-err c =
     let number : section_number ms ≡ Some y = rw (c.deref.ensures.value, c.unwrap-y.ensures) at (sym c.byte_at.ensures) in
     let within : is_section_of c.args.height y ≡ true = rw (to_z-of_z fits) at (sym c.is_inside.ensures ∙ c.if-not-is_inside.false) in
     let e = c.in_err-section.field-0.0 in
-    let refused : AreRefused (block_states_of ms) (states c.args.table.now) e = rw c.in_ok-block_states.ensures.taken at c.in_err-section.ensures.err in
+    let refused : AreStatesRefused (block_states_of ms) (states c.args.table.now) e = rw c.in_ok-block_states.ensures.taken at c.in_err-section.ensures.err in
     let fact : IsSectionRefused c.args.height (tags_in (view c.args.section)) (states c.args.table.now) e = rw is (inside_refused c.args.height ms (states c.args.table.now) y e number within refused) in
     search (rules, fact)
 

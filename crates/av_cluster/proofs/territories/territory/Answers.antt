@@ -3,7 +3,7 @@ use Rattle.std.specs.List.{Contains}
 use Rattle.av_world.specs.Near.{cells_near}
 use Rattle.av_world.specs.Views.{blocks, grid}
 use Rattle.av_play.specs.Parts.{InTerritory}
-use Rattle.av_cluster.specs.Territory.{IsRising, territory_list, sections_there}
+use Rattle.av_cluster.specs.Territory.{AreRising, territory_list, sections_there}
 use Rattle.av_cluster.proofs.Orders.{territory_rises}
 use Rattle.av_cluster.proofs.Sides.{territory_exact}
 use Rattle.av_cluster.proofs.Joinings.{taken_all}
@@ -34,7 +34,7 @@ returns-clause-order c =
     c.loop-corner.invariant.items
     ∙ ap (sections_there g) (taken_all c.as_slice-corner-items.result.now c.loop-corner.corner-index (let a = c.loop-corner-test.false in let b = c.loop-corner.auto.corner-index-end in omega arith) ∙ c.as_slice-corner-items.ensures.value ∙ c.corners-corners.ensures)
     ∙ there_list g c.args.at in
-    subst IsRising (sym e) (territory_rises g c.args.at)
+    subst AreRising (sym e) (territory_rises g c.args.at)
 
 pub returns-clause-exact : goal.returns-clause-exact
 returns-clause-exact c = λ s.

@@ -1,6 +1,6 @@
 use Rattle.std.proofs.Common.{◌≡◌, List, [], ◌∷◌, ◌++◌, Option, get_or, subst, All}
 use Rattle.av_world.specs.declared.parcels.Parcel.{Parcel}
-use Rattle.av_inter.specs.Cut.{AreCut, IsSlotOf}
+use Rattle.av_inter.specs.Cut.{AreCut, HoldsPartOf}
 use Rattle.av_inter.proofs.Cutting.{cut_less, same_trans, slot_same, all_front}
 use Rattle.av_inter.proofs.parcels.mend_all.Goals as goal
 
@@ -10,7 +10,7 @@ loop-slot-preserved c =
     let was : c.loop-slot.parcels.items ≡ c.pop.new.self.items ++ c.in-Some.slot ∷ [] = c.in-Some.ensures.items in
     record {
       parts = λ k d l. slot_same c.loop-slot.world c.mend_one.new.world (get_or c.pop.new.self.items k d) e.same
-          (all_front (IsSlotOf c.loop-slot.world) c.pop.new.self.items c.in-Some.slot (subst (λ (l : List (Option Parcel)). All (IsSlotOf c.loop-slot.world) l) was i.parts) k d l);
+          (all_front (HoldsPartOf c.loop-slot.world) c.pop.new.self.items c.in-Some.slot (subst (λ (l : List (Option Parcel)). All (HoldsPartOf c.loop-slot.world) l) was i.parts) k d l);
       cut = λ g secs can cut. cut_less g secs can c.loop-slot.world c.mend_one.new.world c.pop.new.self.items c.in-Some.slot
           (subst (λ (l : List (Option Parcel)). AreCut g secs c.loop-slot.world l) was (i.cut g secs can cut)) e.same e.grid;
       same = same_trans c.args.world.now c.loop-slot.world c.mend_one.new.world i.same e.same;

@@ -6,14 +6,14 @@ use Rattle.av_sink.specs.Saving.{IsStopped, named_file}
 use Rattle.av_sink.specs.declared.files.RegionFile.{RegionFile}
 use Rattle.av_files.specs.Files.{File}
 use Rattle.av_image.specs.Loading.{file_in}
-use Rattle.av_run.specs.Answer.{IsAnswer}
+use Rattle.av_run.specs.Answer.{IsRunAnswer}
 use Rattle.av_run.specs.declared.runs.Outcome.{Outcome}
 use Rattle.av_main.specs.RunCommand.{HasRunInto, ran, refused, stopped}
 use Rattle.av_main.proofs.running.run_into.Goals as goal
 
 -- of the texts that were read
-by_items : (files : List File) (a b x y : List ℕ) (n k : ℕ) (r : Result Outcome Fault) → a ≡ x → b ≡ y → IsAnswer files a b n k r → IsAnswer files x y n k r
-by_items files a b x y n k r p q h = subst (λ (t : List ℕ). IsAnswer files t y n k r) p (subst (λ (t : List ℕ). IsAnswer files a t n k r) q h)
+by_items : (files : List File) (a b x y : List ℕ) (n k : ℕ) (r : Result Outcome Fault) → a ≡ x → b ≡ y → IsRunAnswer files a b n k r → IsRunAnswer files x y n k r
+by_items files a b x y n k r p q h = subst (λ (t : List ℕ). IsRunAnswer files t y n k r) p (subst (λ (t : List ℕ). IsRunAnswer files a t n k r) q h)
 
 pub returns-in_err-outcome : goal.returns-in_err-outcome
 returns-in_err-outcome g c =

@@ -26,7 +26,7 @@ abbrev pub decreases-compound : goal.decreases-compound
 decreases-compound l = 5 * l.depth + 4
 
 abbrev pub invariant-items-loop : goal.invariant-items-loop
-invariant-items-loop l = with_front (views l.items.items) (repeat_at (payload_at l.depth l.kind) (l.count - l.counter) l.rest) ≡ repeat_at (payload_at l.depth l.kind) l.count l.bytes
+invariant-items-loop l = with_front (views l.items.items) (repeat_at (payload_at l.depth l.tag_type) (l.count - l.counter) l.rest) ≡ repeat_at (payload_at l.depth l.tag_type) l.count l.bytes
 
 abbrev pub invariant-named_tags-loop : goal.invariant-named_tags-loop
 invariant-named_tags-loop l = with_front (named_views l.tags.items) (until_end (payload_at l.depth) (length l.bytes - l.counter) l.rest) ≡ until_end (payload_at l.depth) (length l.bytes) l.bytes

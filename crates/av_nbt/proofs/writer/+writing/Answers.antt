@@ -1,6 +1,6 @@
 use Rattle.std.proofs.Common.{◌∷◌, ◌++◌, [], length, ap, ◌∙◌, append_assoc}
 use Rattle.std.specs.Int.{w32, to_be_bytes}
-use Rattle.av_nbt.specs.Kinds.{kind_number}
+use Rattle.av_nbt.specs.TagTypes.{type_number}
 use Rattle.av_nbt.specs.Nbt.{items_of}
 use Rattle.av_nbt.specs.View.{views}
 use Rattle.av_nbt.specs.Writing.{written_items}
@@ -10,7 +10,7 @@ use Rattle.av_nbt.proofs.writer.+writing.Goals as goal
 
 pub write_list-returns : goal.write_list-returns
 write_list-returns t c =
-    let k = kind_number c.args.kind in
+    let k = type_number c.args.tag_type in
     let size = to_be_bytes w32 (length c.args.items.now) in
     let old = c.args.out.now.items in
     let pushed = c.in_ok-push.ensures.items ∙ ap (λ n. old ++ n ∷ []) c.number.ensures in

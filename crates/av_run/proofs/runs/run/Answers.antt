@@ -3,7 +3,7 @@ use Rattle.std.proofs.lemmas.Result.{err_from_is_err_and}
 use Rattle.av_files.specs.FirstFault.{AreCountsGood}
 use Rattle.av_files.specs.Headline.{input}
 use Rattle.av_image.specs.Loading.{file_in}
-use Rattle.av_run.specs.Answer.{IsAnswer}
+use Rattle.av_run.specs.Answer.{IsRunAnswer}
 use Rattle.av_run.proofs.Inputs.{can_run}
 use Rattle.av_run.proofs.Answered.{is_refusal, is_answer}
 use Rattle.av_run.proofs.runs.run.Goals as goal
@@ -13,7 +13,7 @@ returns-in_err-input g c =
     let e = c.in_err-input.field-0.0 in
     let files = map file_in c.args.files.items in
     let counts : AreCountsGood files c.args.ticks c.args.workers = search rules in
-    let h : IsAnswer files c.args.table.now c.args.edits.now c.args.ticks c.args.workers (Err e) =
+    let h : IsRunAnswer files c.args.table.now c.args.edits.now c.args.ticks c.args.workers (Err e) =
     is_refusal files c.args.table.now c.args.edits.now c.args.ticks c.args.workers e (λ other. input (c.in_err-input.ensures.err other c.args.workers counts)) in
     let p = err_from_is_err_and c.from_residual.result c.from_residual.ensures.1 in rw (p.1, p.2) h
 

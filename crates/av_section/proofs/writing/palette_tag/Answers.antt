@@ -1,7 +1,7 @@
 -- The entries, as a List of Compounds.
 use Rattle.std.proofs.Common.{◌∙◌, sym, ap}
 use Rattle.std.specs.Prelude.{slice_index_or}
-use Rattle.av_nbt.specs.declared.tag.Kind.TheVariants as kind
+use Rattle.av_nbt.specs.declared.tag.TagType.TheVariants as tag_type
 use Rattle.av_nbt.specs.Nbt.{list, items_of}
 use Rattle.av_state.specs.BlockState.{air}
 use Rattle.av_state.specs.Table.{states}
@@ -11,4 +11,4 @@ use Rattle.av_section.proofs.writing.palette_tag.Goals as goal
 
 pub returns : goal.returns
 returns c =
-    c.list.ensures ∙ ap (λ ts. list kind.Compound (items_of ts)) (c.in_ok-tags.ensures ∙ sym (map_map state_tag (λ n. slice_index_or (states c.args.table.now) n air) c.args.numbers.now))
+    c.list.ensures ∙ ap (λ ts. list tag_type.Compound (items_of ts)) (c.in_ok-tags.ensures ∙ sym (map_map state_tag (λ n. slice_index_or (states c.args.table.now) n air) c.args.numbers.now))

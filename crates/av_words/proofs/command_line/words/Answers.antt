@@ -3,7 +3,7 @@ use Rattle.std.specs.Prelude.{IsErrAnd}
 use Rattle.clap.specs.declared.error.Error.{Error}
 use Rattle.clap.specs.declared.error.kind.ErrorKind.TheVariants.{OutOfMemory}
 use Rattle.clap.specs.Words.{App, Text, kind_of, is_simple, subcommand_of, takes}
-use Rattle.av_words.specs.CommandLine.{IsRefusal}
+use Rattle.av_words.specs.CommandLine.{IsWordsRefusal}
 use Rattle.av_words.proofs.command_line.words.Goals as goal
 
 texts : List (Bor Text) → List Text
@@ -14,7 +14,7 @@ if_err (Ok v) e P is p = absurd is
 if_err (Err x) e P is p = subst P (sym is) p
 
 -- want of memory is a cause by itself
-of_memory : {T : Type 0} (r : Result T Error) (words : List Text) → IsErrAnd r (λ x. kind_of x ≡ OutOfMemory) → IfErr r (IsRefusal words)
+of_memory : {T : Type 0} (r : Result T Error) (words : List Text) → IsErrAnd r (λ x. kind_of x ≡ OutOfMemory) → IfErr r (IsWordsRefusal words)
 of_memory (Ok v) words is = absurd is
 of_memory (Err x) words is = record { cause = λ taken. inl is }
 
@@ -26,10 +26,10 @@ pub returns-in_err-matches-clause-refused : goal.returns-in_err-matches-clause-r
 unfolding texts
 returns-in_err-matches-clause-refused c =
     let words = texts c.args.given.now in
-    let refusal : IsRefusal words c.in_err-matches.field-0.0 = record {
+    let refusal : IsWordsRefusal words c.in_err-matches.field-0.0 = record {
       cause = λ taken. inl (c.in_err-matches.ensures.passes (ap (λ (a : App). takes a words) c.in_ok-program.ensures.app ∙ taken));
     } in
-    if_err c.from_residual-in_err-matches.result c.in_err-matches.field-0.0 (IsRefusal words) c.from_residual-in_err-matches.ensures.1 refusal
+    if_err c.from_residual-in_err-matches.result c.in_err-matches.field-0.0 (IsWordsRefusal words) c.from_residual-in_err-matches.ensures.1 refusal
 
 pub returns-clause-refused : goal.returns-clause-refused
 unfolding texts

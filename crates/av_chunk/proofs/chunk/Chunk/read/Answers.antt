@@ -10,9 +10,9 @@ use Rattle.av_chunk.specs.declared.chunk.Chunk.{Chunk}
 use Rattle.av_chunk.specs.Rest.{opened}
 use Rattle.av_chunk.specs.Views.{cells_of}
 use Rattle.av_types.specs.declared.fault.Fault.TheVariants.{OutOfMemory}
-use Rattle.av_chunk.specs.Reading.{IsRefusal, IsAdmitted}
+use Rattle.av_chunk.specs.Reading.{IsChunkRefusal, IsAdmitted}
 use Rattle.av_chunk.specs.TicksRead.{AreTicks}
-use Rattle.av_chunk.specs.SectionsRead.{AreRead}
+use Rattle.av_chunk.specs.SectionsRead.{AreSectionsRead}
 use Rattle.av_chunk.proofs.Rows.{items_good}
 use Rattle.av_chunk.proofs.WaterIn.{in_height, water_in}
 use Rattle.av_chunk.proofs.Assembly.{Parts, denotes, loaded, members_in-of}
@@ -24,7 +24,7 @@ returns-in_err-admitted-clause-err c =
     let root = named_views c.args.root.tags.items in
     let e = c.in_err-admitted.field-0.0 in
     let is : admitted c.args.height c.args.place root ≡ Err e = rw c.deref.ensures.value at (sym c.admitted.ensures) ∙ c.in_err-admitted.was in
-    let fact : IsRefusal c.args.place c.args.height (document c.args.root) (states c.args.table.now) e =
+    let fact : IsChunkRefusal c.args.place c.args.height (document c.args.root) (states c.args.table.now) e =
     record { first = λ ne. rw (members_in-of root) (admitted_fault c.args.height c.args.place root (states c.args.table.now) e is) } in
     search (rules, fact)
 
@@ -86,7 +86,7 @@ returns-in_err-read-clause-err c =
     rw c.in_ok-sections.ensures.place at c.in_ok-ticks.ensures.taken ∙ tag_of-place_other (codes "fluid_ticks") (codes "sections") blank root refl in
     let water : opened (views c.items-2.result.items) ≡ ticks root = rw taken at c.items-2.ensures.rows in
     let refused = rw (rows, water) at c.in_err-read.ensures.err in
-    let fact : IsRefusal c.args.place c.args.height (document c.args.root) (states c.args.table.now) e =
+    let fact : IsChunkRefusal c.args.place c.args.height (document c.args.root) (states c.args.table.now) e =
     record { first = λ ne. rw (members_in-of root) (first_loaded c.args.height c.args.place root (states c.args.table.now) a ∙ refused.first ne) } in
     search (rules, fact)
 
@@ -125,7 +125,7 @@ returns-clause-ok c =
     let taken : option_map view c.in_ok-ticks.ticks ≡ tag_of (codes "fluid_ticks") root =
     rw c.in_ok-sections.ensures.place at c.in_ok-ticks.ensures.taken ∙ tag_of-place_other (codes "fluid_ticks") (codes "sections") blank root refl in
     let water : opened (views c.items-2.result.items) ≡ ticks root = rw taken at c.items-2.ensures.rows in
-    let read : AreRead c.args.height (sections root) (states c.args.table.now) (states c.read_parts.new.table) c.in_ok-read.read = rw rows at c.in_ok-read.ensures.sections in
+    let read : AreSectionsRead c.args.height (sections root) (states c.args.table.now) (states c.read_parts.new.table) c.in_ok-read.read = rw rows at c.in_ok-read.ensures.sections in
     let turns : AreTicks c.args.place c.args.height (ticks root) c.in_ok-read.ticks = rw water at c.in_ok-read.ensures.ticks in
     let tags : named_views c.emptied-2.new.tags.items ≡ emptied (codes "fluid_ticks") (emptied (codes "sections") root) = rw c.in_ok-sections.ensures.place at c.in_ok-ticks.ensures.place in
     loaded c.args.place c.args.height (document c.args.root) root (states c.args.table.now) (states c.read_parts.new.table) c.in_ok-read.read c.in_ok-read.ticks
@@ -151,7 +151,7 @@ invariant_of-result c =
     let taken : option_map view c.in_ok-ticks.ticks ≡ tag_of (codes "fluid_ticks") root =
     rw c.in_ok-sections.ensures.place at c.in_ok-ticks.ensures.taken ∙ tag_of-place_other (codes "fluid_ticks") (codes "sections") blank root refl in
     let water : opened (views c.items-2.result.items) ≡ ticks root = rw taken at c.items-2.ensures.rows in
-    let read : AreRead c.args.height (sections root) (states c.args.table.now) (states c.read_parts.new.table) c.in_ok-read.read = rw rows at c.in_ok-read.ensures.sections in
+    let read : AreSectionsRead c.args.height (sections root) (states c.args.table.now) (states c.read_parts.new.table) c.in_ok-read.read = rw rows at c.in_ok-read.ensures.sections in
     let turns : AreTicks c.args.place c.args.height (ticks root) c.in_ok-read.ticks = rw water at c.in_ok-read.ensures.ticks in
     let tags : named_views c.emptied-2.new.tags.items ≡ emptied (codes "fluid_ticks") (emptied (codes "sections") root) = rw c.in_ok-sections.ensures.place at c.in_ok-ticks.ensures.place in
     let chunk : Chunk = record { sections = c.mark_pending.new.sections; ticks = c.in_ok-read.ticks.water } in
