@@ -55,7 +55,10 @@ fn copy_tag(alloc: Global, tag: &Tag) -> Result<Tag, AllocError>
         Tag::Double(value) => Ok(Tag::Double(*value)),
         Tag::ByteArray(bytes) => Ok(Tag::ByteArray(Vec::from_slice(alloc, bytes.as_slice())?)),
         Tag::Text(bytes) => Ok(Tag::Text(Vec::from_slice(alloc, bytes.as_slice())?)),
-        Tag::List(tag_type, items) => Ok(Tag::List(*tag_type, copy_items(alloc, items.as_slice())?)),
+        Tag::List(tag_type, items) => Ok(Tag::List(
+            *tag_type,
+            copy_items(alloc, items.as_slice())?,
+        )),
         Tag::Compound(tags) => Ok(Tag::Compound(copy_members(alloc, tags.as_slice())?)),
         Tag::IntArray(ints) => Ok(Tag::IntArray(Vec::from_slice(alloc, ints.as_slice())?)),
         Tag::LongArray(longs) => Ok(Tag::LongArray(Vec::from_slice(alloc, longs.as_slice())?)),

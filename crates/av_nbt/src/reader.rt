@@ -101,7 +101,12 @@ fn list(alloc: Global, depth: u32, bytes: &[u8]) -> Result<(Tag, &[u8]), Fault>
 /// A name and a tag of a type.
 #[cycle(reading)]
 #[tactic(auto, unfolding(crate::specs::Reading::named_at))]
-fn named(alloc: Global, depth: u32, tag_type: TagType, bytes: &[u8]) -> Result<(Named, &[u8]), Fault>
+fn named(
+    alloc: Global,
+    depth: u32,
+    tag_type: TagType,
+    bytes: &[u8],
+) -> Result<(Named, &[u8]), Fault>
     ensures { Gives (λ p. (named_view p.0, p.1.now)) result (named_at (payload_at depth) tag_type bytes.now) }
 {
     let (name, rest) = fields::text(alloc, bytes)?;
@@ -154,7 +159,12 @@ fn compound(alloc: Global, depth: u32, bytes: &[u8]) -> Result<(Tag, &[u8]), Fau
 
 /// A tag of a type, in which Lists and Compounds nest at most so deep.
 #[cycle(reading)]
-fn payload(alloc: Global, depth: u32, tag_type: TagType, bytes: &[u8]) -> Result<(Tag, &[u8]), Fault>
+fn payload(
+    alloc: Global,
+    depth: u32,
+    tag_type: TagType,
+    bytes: &[u8],
+) -> Result<(Tag, &[u8]), Fault>
     ensures { Gives (λ p. (view p.0, p.1.now)) result (payload_at depth tag_type bytes.now) }
 {
     if depth == 0 {

@@ -1,7 +1,7 @@
 //! Documents by hand.
 use av_nbt::{
-    Named, Tag, TagType, copy_tags, decode, encode, exchange, find, put, remove, spelling_is_unique,
-    written_is_spelling,
+    Named, Tag, TagType, copy_tags, decode, encode, exchange, find, put, remove,
+    spelling_is_unique, written_is_spelling,
 };
 use av_types::Fault;
 use std::alloc::{AllocError, Global};
