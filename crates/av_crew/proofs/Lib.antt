@@ -1,5 +1,4 @@
 pub mod MoreTurned
-pub mod OneDone
 pub mod Zips
 pub mod Threads
 pub mod Totals

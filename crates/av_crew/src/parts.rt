@@ -14,18 +14,18 @@ use crate::jobs::{Done, Job};
 use av_cluster::Cluster;
 use av_types::{Fault, Made};
 use av_world::World;
+use std::alloc::AllocError;
 
 /// Carves a part's sections out, as a job of that number.
-fn carve_one(world: &mut World, cluster: Cluster, number: u32) -> Result<Job, Fault>
+fn carve_one(world: &mut World, cluster: Cluster, number: u32) -> Result<Job, AllocError>
     requires whole { is_broken world.old ≡ false }
     requires can { CanCarve (grid world.old) cluster }
     ensures ok { IfOk result (λ job. CarvesOne world.old world.new cluster number job) }
     ensures same { IsSamePlaces world.old world.new }
-    ensures fault { IfErr result (λ e. e ≡ OutOfMemory) }
 {
     let Cluster { entries, sections } = cluster;
     let Ok(parcel) = world.carve(sections.as_slice()) else {
-        return Err(Fault::OutOfMemory);
+        return Err(AllocError);
     };
     Ok(Job {
         number,

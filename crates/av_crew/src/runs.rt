@@ -63,6 +63,6 @@ pub fn run_ticks<R: Threads + Wait + Sync, G: Gate + Sync>(
         &|world: &mut World, now: u32, edits: &[Edit]| -> Result<u64, Fault>
             requires { CanTick kinds.now world.old edits.now }
             ensures { IsTick kinds.entry.now now edits.now world.old world.new result }
-        { tick_or_give_up(rt, world, kinds, now, edits, workers, gate) },
+        { Ok(tick_or_give_up(rt, world, kinds, now, edits, workers, gate)?) },
     )
 }

@@ -19,6 +19,7 @@ use av_rules::Kinds;
 use av_serial::apply_all;
 use av_types::Fault;
 use av_world::World;
+use std::alloc::AllocError;
 use std::sync::Wait;
 use std::thread::Threads;
 
@@ -30,7 +31,7 @@ fn turn_due<R: Threads + Wait + Sync, G: Gate + Sync>(
     now: u32,
     workers: usize,
     gate: &G,
-) -> Result<u64, Fault>
+) -> Result<u64, AllocError>
     requires workers { (0 < workers) × (workers ≤ 8) }
     requires ready { IsReady (kind_count kinds.now) world.old }
     requires sound { is_broken world.old ≡ false }
@@ -38,13 +39,20 @@ fn turn_due<R: Threads + Wait + Sync, G: Gate + Sync>(
     ensures count { IfOk result (λ n. n ≡ length (due_entries now (land_of world.old))) }
     ensures ready { OnOk result (IsReady (kind_count kinds.now) world.new) }
     ensures place { OnOk result (IsSamePlace world.old world.new) }
-    ensures fault { IfErr result (λ e. e ≡ OutOfMemory) }
 {
-    let entries = world.take_due(now)?;
+    let Ok(entries) = world.take_due(now) else {
+        return Err(AllocError);
+    };
     let alloc = *entries.allocator();
-    let clusters = plan(alloc, world, entries.as_slice())?;
-    let made = turn_parts(rt, world, kinds, now, clusters, workers, gate)?;
-    world.append(made.as_slice())?;
+    let Ok(clusters) = plan(alloc, world, entries.as_slice()) else {
+        return Err(AllocError);
+    };
+    let Ok(made) = turn_parts(rt, world, kinds, now, clusters, workers, gate) else {
+        return Err(AllocError);
+    };
+    let Ok(()) = world.append(made.as_slice()) else {
+        return Err(AllocError);
+    };
     Ok(entries.len() as u64)
 }
 
@@ -57,7 +65,7 @@ fn work_tick<R: Threads + Wait + Sync, G: Gate + Sync>(
     edits: &[Edit],
     workers: usize,
     gate: &G,
-) -> Result<u64, Fault>
+) -> Result<u64, AllocError>
     requires workers { (0 < workers) × (workers ≤ 8) }
     requires ready { IsReady (kind_count kinds.now) world.old }
     requires sound { is_broken world.old ≡ false }
@@ -66,9 +74,10 @@ fn work_tick<R: Threads + Wait + Sync, G: Gate + Sync>(
     ensures count { IfOk result (λ n. n ≡ tick_count (kinds_of kinds.now) now (number_sets edits.now) (land_of world.old)) }
     ensures ready { OnOk result (IsReady (kind_count kinds.now) world.new) }
     ensures place { OnOk result (IsSamePlace world.old world.new) }
-    ensures fault { IfErr result (λ e. e ≡ OutOfMemory) }
 {
-    apply_all(world, kinds, now, edits)?;
+    let Ok(()) = apply_all(world, kinds, now, edits) else {
+        return Err(AllocError);
+    };
     turn_due(rt, world, kinds, now, workers, gate)
 }
 
@@ -81,7 +90,7 @@ pub(crate) fn tick_or_give_up<R: Threads + Wait + Sync, G: Gate + Sync>(
     edits: &[Edit],
     workers: Workers,
     gate: &G,
-) -> Result<u64, Fault>
+) -> Result<u64, AllocError>
     requires ready { IsReady (kind_count kinds.now) world.old }
     requires sound { is_broken world.old ≡ false }
     requires edits { All (CanApply (kind_count kinds.now) world.old) edits.now }
@@ -90,13 +99,12 @@ pub(crate) fn tick_or_give_up<R: Threads + Wait + Sync, G: Gate + Sync>(
     ensures ready { OnOk result (IsReady (kind_count kinds.now) world.new) }
     ensures place { OnOk result (IsSamePlace world.old world.new) }
     ensures broken { OnErr result (is_broken world.new ≡ true) }
-    ensures fault { IfErr result (λ e. e ≡ OutOfMemory) }
 {
     match work_tick(rt, world, kinds, now, edits, workers.count, gate) {
         Ok(count) => Ok(count),
-        Err(fault) => {
+        Err(refused) => {
             world.give_up();
-            Err(fault)
+            Err(refused)
         }
     }
 }
@@ -133,5 +141,5 @@ pub fn tick<R: Threads + Wait + Sync, G: Gate + Sync>(
     if world.broken() {
         return Err(Fault::Broken);
     }
-    tick_or_give_up(rt, world, kinds, now, edits, workers, gate)
+    Ok(tick_or_give_up(rt, world, kinds, now, edits, workers, gate)?)
 }

@@ -17,6 +17,7 @@ use av_play::Placed;
 use av_rules::Kinds;
 use av_types::{Entry, Fault, Made};
 use av_water::turn_onto;
+use std::alloc::AllocError;
 
 /// Puts what a turn made, with its maker's place and numbered from 0, behind what was put aside before.
 #[tactic(auto, using(crate::proofs::MoreTurned::labelled_push))]
@@ -44,24 +45,21 @@ fn turn_one<C: Cells>(
     entry: Placed,
     added: &mut ArrayVec<Entry, 42>,
     made: &mut Vec<Made>,
-) -> Result<(), Fault>
+) -> Result<(), AllocError>
     requires kinds { HasKinds (kind_count kinds.now) (C.world cells.old) }
     requires loaded { IsTrue ((C.world cells.old).loaded entry.entry.pos) }
     ensures world { OnOk result (C.world cells.new ≡ (turn_of (kinds_of kinds.now) now entry (C.world cells.old)).world) }
     ensures made { OnOk result (made.new.items ≡ made.old.items ++ made_by (kinds_of kinds.now) now entry (C.world cells.old)) }
     ensures listed { OnOk result (C.lists cells.new ≡ listed_all (C.lists cells.old) (turn_of (kinds_of kinds.now) now entry (C.world cells.old)).made) }
-    ensures err { IfErr result (λ e. e ≡ OutOfMemory) }
     ensures same_world { OnErr result (C.world cells.new ≡ C.world cells.old) }
     ensures same_lists { OnErr result (C.lists cells.new ≡ C.lists cells.old) }
     ensures same_made { OnErr result (made.new.items ≡ made.old.items) }
     ensures kinds { HasKinds (kind_count kinds.now) (C.world cells.new) }
     ensures loaded { (C.world cells.new).loaded ≡ (C.world cells.old).loaded }
 {
-    if made.reserve(42).is_err() {
-        return Err(Fault::OutOfMemory);
-    }
+    made.reserve(42)?;
     if cells.prepare(entry.entry.pos).is_err() {
-        return Err(Fault::OutOfMemory);
+        return Err(AllocError);
     }
     added.clear();
     turn_onto(cells, kinds, now, entry.entry.pos, added);
@@ -69,20 +67,19 @@ fn turn_one<C: Cells>(
     Ok(())
 }
 
-/// Turns entries one after the other, and puts aside what they make. At a fault some first ones were turned.
+/// Turns entries one after the other, and puts aside what they make. Where memory is refused some first ones were turned.
 fn turn_all<C: Cells>(
     cells: &mut C,
     kinds: &Kinds,
     now: u32,
     entries: &[Placed],
     made: &mut Vec<Made>,
-) -> Result<(), Fault>
+) -> Result<(), AllocError>
     requires empty { made.old.items ≡ [] }
     requires kinds { HasKinds (kind_count kinds.now) (C.world cells.old) }
     requires loaded { All (λ x. IsTrue ((C.world cells.old).loaded x.entry.pos)) entries.now }
     ensures ok { OnOk result (AreTurned (kinds_of kinds.now) now (length entries.now) entries.now (C.world cells.old) (C.world cells.new) (C.lists cells.old) (C.lists cells.new) made.new.items) }
     ensures err { OnErr result (AreBegun (kinds_of kinds.now) now entries.now (C.world cells.old) (C.world cells.new) (C.lists cells.old) (C.lists cells.new) made.new.items) }
-    ensures fault { IfErr result (λ e. e ≡ OutOfMemory) }
 {
     let mut added = ArrayVec::new();
     for entry in entries {
@@ -107,12 +104,15 @@ pub fn work<G: Gate>(job: Job, kinds: &Kinds, now: u32, gate: &G) -> Done
         mut parcel,
     } = job;
     let mut made = Vec::new(*entries.allocator());
-    let turned = turn_all(&mut parcel, kinds, now, entries.as_slice(), &mut made);
+    let fault = match turn_all(&mut parcel, kinds, now, entries.as_slice(), &mut made) {
+        Ok(()) => None,
+        Err(refused) => Some(Fault::from(refused)),
+    };
     let done = Done {
         number,
         parcel,
         made,
-        fault: turned.err(),
+        fault,
     };
     gate.after(&done);
     done

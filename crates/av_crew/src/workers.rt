@@ -176,12 +176,15 @@ fn in_scope<'s, E, R: Threads + Wait + Sync, G: Gate + Sync>(
 
 /// Seats and answers apart.
 #[tactic(auto, using(crate::proofs::Zips::flat_push))]
-fn apart(parts: Vec<Part>, seats: &mut Vec<Seat<Job>>, dones: &mut Vec<Done>) -> Result<(), Fault>
+fn apart(
+    parts: Vec<Part>,
+    seats: &mut Vec<Seat<Job>>,
+    dones: &mut Vec<Done>,
+) -> Result<(), AllocError>
     requires no_seats { seats.old.items ≡ [] }
     requires no_dones { dones.old.items ≡ [] }
     ensures seats { OnOk result (seats.new.items ≡ map (λ p. p.0) parts.items) }
     ensures dones { OnOk result (dones.new.items ≡ flat_map (λ p. p.1.items) parts.items) }
-    ensures fault { IfErr result (λ e. e ≡ OutOfMemory) }
 {
     for part in parts {
         let (seat, mut mine) = part;

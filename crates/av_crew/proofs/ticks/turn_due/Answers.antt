@@ -21,7 +21,7 @@ use Rattle.av_crew.proofs.ticks.turn_due.Goals as goal
 
 pub plan-requires : goal.plan-requires
 plan-requires g c = record {
-  loaded = all_due_loaded c.args.now c.args.world.now c.take_due.new.self c.as_slice.result.now (c.as_slice.ensures.value ∙ c.in_ok-entries.ensures.due) c.take_due.ensures.loaded c.requires.ready.whole;
+  loaded = all_due_loaded c.args.now c.args.world.now c.take_due.new.self c.as_slice.result.now (c.as_slice.ensures.value ∙ c.in-Ok.ensures.due) c.take_due.ensures.loaded c.requires.ready.whole;
 }
 
 pub turn_parts-requires-clause-whole : goal.turn_parts-requires-clause-whole
@@ -29,76 +29,76 @@ turn_parts-requires-clause-whole g c κs within = ap (λ (x : Site). x.broken) c
 
 pub turn_parts-requires-clause-kinds : goal.turn_parts-requires-clause-kinds
 turn_parts-requires-clause-kinds g c κs within =
-    HasKinds-same (kind_count c.args.kinds.now) (blocks c.args.world.now) (blocks c.take_due.new.self) (record { loaded = c.take_due.ensures.loaded; number = ap (λ (l : Land ℕ). l.at) c.in_ok-entries.ensures.left }) c.requires.ready.numbers
+    HasKinds-same (kind_count c.args.kinds.now) (blocks c.args.world.now) (blocks c.take_due.new.self) (record { loaded = c.take_due.ensures.loaded; number = ap (λ (l : Land ℕ). l.at) c.in-Ok.ensures.left }) c.requires.ready.numbers
 
 pub turn_parts-requires-clause-cut : goal.turn_parts-requires-clause-cut
 turn_parts-requires-clause-cut g c κs within =
-    let es = c.in_ok-entries.entries.items in (
+    let es = c.in-Ok.entries.items in (
       es,
-      cut_is (grid c.take_due.new.self) es c.in_ok-clusters.clusters.items (rw (sym c.as_slice.ensures.value) c.in_ok-clusters.ensures.planned),
-      all_due_loaded c.args.now c.args.world.now c.take_due.new.self es c.in_ok-entries.ensures.due c.take_due.ensures.loaded c.requires.ready.whole,
+      cut_is (grid c.take_due.new.self) es c.in-Ok-plan.clusters.items (rw (sym c.as_slice.ensures.value) c.in-Ok-plan.ensures.planned),
+      all_due_loaded c.args.now c.args.world.now c.take_due.new.self es c.in-Ok.ensures.due c.take_due.ensures.loaded c.requires.ready.whole,
     )
 
 pub append-requires-clause-loaded : goal.append-requires-clause-loaded
 append-requires-clause-loaded g c =
-    let es = c.in_ok-entries.entries.items in
-    let cut = cut_is (grid c.take_due.new.self) es c.in_ok-clusters.clusters.items (rw (sym c.as_slice.ensures.value) c.in_ok-clusters.ensures.planned) in
+    let es = c.in-Ok.entries.items in
+    let cut = cut_is (grid c.take_due.new.self) es c.in-Ok-plan.clusters.items (rw (sym c.as_slice.ensures.value) c.in-Ok-plan.ensures.planned) in
     λ u. subst (λ (ms : List Made). All (λ m. IsTrue ((blocks c.turn_parts.new.world).loaded m.entry.pos)) ms) (sym c.as_slice-2.ensures.value)
-    (All-from_recursion _ c.in_ok-made.made.items (c.in_ok-made.ensures.ok es cut).loaded)
+    (All-from_recursion _ c.in-Ok-turn_parts.made.items (c.in-Ok-turn_parts.ensures.ok es cut).loaded)
 
 pub append-requires-clause-fresh : goal.append-requires-clause-fresh
 append-requires-clause-fresh g c =
-    let es = c.in_ok-entries.entries.items in
-    let cut = cut_is (grid c.take_due.new.self) es c.in_ok-clusters.clusters.items (rw (sym c.as_slice.ensures.value) c.in_ok-clusters.ensures.planned) in
+    let es = c.in-Ok.entries.items in
+    let cut = cut_is (grid c.take_due.new.self) es c.in-Ok-plan.clusters.items (rw (sym c.as_slice.ensures.value) c.in-Ok-plan.ensures.planned) in
     λ u. subst (λ (ms : List Made). All (λ m. (blocks c.turn_parts.new.world).pending m.entry.pos ≡ false) ms) (sym c.as_slice-2.ensures.value)
-    (all_fresh (blocks c.turn_parts.new.world) c.in_ok-made.made.items (c.in_ok-made.ensures.ok es cut).fresh)
+    (all_fresh (blocks c.turn_parts.new.world) c.in-Ok-turn_parts.made.items (c.in-Ok-turn_parts.ensures.ok es cut).fresh)
 
 pub append-requires-clause-distinct : goal.append-requires-clause-distinct
 append-requires-clause-distinct g c =
-    let es = c.in_ok-entries.entries.items in
-    let cut = cut_is (grid c.take_due.new.self) es c.in_ok-clusters.clusters.items (rw (sym c.as_slice.ensures.value) c.in_ok-clusters.ensures.planned) in
+    let es = c.in-Ok.entries.items in
+    let cut = cut_is (grid c.take_due.new.self) es c.in-Ok-plan.clusters.items (rw (sym c.as_slice.ensures.value) c.in-Ok-plan.ensures.planned) in
     λ u. subst (λ (ms : List Made). AllPairs (λ a b. same_pos b.entry.pos a.entry.pos ≡ false) ms) (sym c.as_slice-2.ensures.value)
-    (all_apart (blocks c.turn_parts.new.world) c.in_ok-made.made.items (c.in_ok-made.ensures.ok es cut).fresh)
+    (all_apart (blocks c.turn_parts.new.world) c.in-Ok-turn_parts.made.items (c.in-Ok-turn_parts.ensures.ok es cut).fresh)
 
 pub returns-clause-done : goal.returns-clause-done
 returns-clause-done g c =
     let k = kinds_of c.args.kinds.now in
-    let es = c.in_ok-entries.entries.items in
+    let es = c.in-Ok.entries.items in
     let mid = c.take_due.new.self in
-    let cut = cut_is (grid mid) es c.in_ok-clusters.clusters.items (rw (sym c.as_slice.ensures.value) c.in_ok-clusters.ensures.planned) in
-    ticked_land k c.args.now es mid c.turn_parts.new.world c.append.new.self c.in_ok-made.made.items c.turn_parts.ensures.same (c.in_ok-made.ensures.ok es cut) c.append.ensures.site
-    (rw (sym c.as_slice-2.ensures.value) c.in_ok-append.ensures.blocks) (rw (sym c.as_slice-2.ensures.value) c.in_ok-append.ensures.lists) (c.take_due.ensures.whole c.requires.ready.whole)
-    ∙ (λ i. turned_all k c.args.now (c.in_ok-entries.ensures.due i) (c.in_ok-entries.ensures.left i))
+    let cut = cut_is (grid mid) es c.in-Ok-plan.clusters.items (rw (sym c.as_slice.ensures.value) c.in-Ok-plan.ensures.planned) in
+    ticked_land k c.args.now es mid c.turn_parts.new.world c.append.new.self c.in-Ok-turn_parts.made.items c.turn_parts.ensures.same (c.in-Ok-turn_parts.ensures.ok es cut) c.append.ensures.site
+    (rw (sym c.as_slice-2.ensures.value) c.in-Ok-append.ensures.blocks) (rw (sym c.as_slice-2.ensures.value) c.in-Ok-append.ensures.lists) (c.take_due.ensures.whole c.requires.ready.whole)
+    ∙ (λ i. turned_all k c.args.now (c.in-Ok.ensures.due i) (c.in-Ok.ensures.left i))
 
 pub returns-clause-count : goal.returns-clause-count
-returns-clause-count g c = c.len.ensures ∙ c.in_ok-entries.entries.ok.0 ∙ ap length c.in_ok-entries.ensures.due
+returns-clause-count g c = c.len.ensures ∙ c.in-Ok.entries.ok.0 ∙ ap length c.in-Ok.ensures.due
 
 pub returns-clause-place : goal.returns-clause-place
 returns-clause-place g c =
     let k = kinds_of c.args.kinds.now in
-    let es = c.in_ok-entries.entries.items in
+    let es = c.in-Ok.entries.items in
     let mid = c.take_due.new.self in
-    let cut = cut_is (grid mid) es c.in_ok-clusters.clusters.items (rw (sym c.as_slice.ensures.value) c.in_ok-clusters.ensures.planned) in
+    let cut = cut_is (grid mid) es c.in-Ok-plan.clusters.items (rw (sym c.as_slice.ensures.value) c.in-Ok-plan.ensures.planned) in
     record {
       site_is = c.append.ensures.site ∙ same_site mid c.turn_parts.new.world c.turn_parts.ensures.same ∙ c.take_due.ensures.site;
-      loaded_is = ticked_loaded k c.args.now es mid c.turn_parts.new.world c.append.new.self c.in_ok-made.made.items c.turn_parts.ensures.same (c.in_ok-made.ensures.ok es cut) c.append.ensures.site
-          (rw (sym c.as_slice-2.ensures.value) c.in_ok-append.ensures.blocks) (rw (sym c.as_slice-2.ensures.value) c.in_ok-append.ensures.lists) ∙ c.take_due.ensures.loaded;
+      loaded_is = ticked_loaded k c.args.now es mid c.turn_parts.new.world c.append.new.self c.in-Ok-turn_parts.made.items c.turn_parts.ensures.same (c.in-Ok-turn_parts.ensures.ok es cut) c.append.ensures.site
+          (rw (sym c.as_slice-2.ensures.value) c.in-Ok-append.ensures.blocks) (rw (sym c.as_slice-2.ensures.value) c.in-Ok-append.ensures.lists) ∙ c.take_due.ensures.loaded;
     }
 
 pub returns-clause-ready : goal.returns-clause-ready
 returns-clause-ready g c =
     let k = kinds_of c.args.kinds.now in
     let n = kind_count c.args.kinds.now in
-    let es = c.in_ok-entries.entries.items in
+    let es = c.in-Ok.entries.items in
     let old = c.args.world.now in
     let mid = c.take_due.new.self in
     let new = c.append.new.self in
-    let cut = cut_is (grid mid) es c.in_ok-clusters.clusters.items (rw (sym c.as_slice.ensures.value) c.in_ok-clusters.ensures.planned) in
-    let gath = c.in_ok-made.ensures.ok es cut in
-    let b : blocks new ≡ with_entries (blocks c.turn_parts.new.world) (entries_made c.in_ok-made.made.items) = rw (sym c.as_slice-2.ensures.value) c.in_ok-append.ensures.blocks in
-    let l : lists new ≡ listed_all (lists c.turn_parts.new.world) (entries_made c.in_ok-made.made.items) = rw (sym c.as_slice-2.ensures.value) c.in_ok-append.ensures.lists in
-    let known = HasKinds-same n (blocks old) (blocks mid) (record { loaded = c.take_due.ensures.loaded; number = ap (λ (l : Land ℕ). l.at) c.in_ok-entries.ensures.left }) c.requires.ready.numbers in
+    let cut = cut_is (grid mid) es c.in-Ok-plan.clusters.items (rw (sym c.as_slice.ensures.value) c.in-Ok-plan.ensures.planned) in
+    let gath = c.in-Ok-turn_parts.ensures.ok es cut in
+    let b : blocks new ≡ with_entries (blocks c.turn_parts.new.world) (entries_made c.in-Ok-turn_parts.made.items) = rw (sym c.as_slice-2.ensures.value) c.in-Ok-append.ensures.blocks in
+    let l : lists new ≡ listed_all (lists c.turn_parts.new.world) (entries_made c.in-Ok-turn_parts.made.items) = rw (sym c.as_slice-2.ensures.value) c.in-Ok-append.ensures.lists in
+    let known = HasKinds-same n (blocks old) (blocks mid) (record { loaded = c.take_due.ensures.loaded; number = ap (λ (l : Land ℕ). l.at) c.in-Ok.ensures.left }) c.requires.ready.numbers in
     ready_on n old new (c.append.ensures.site ∙ same_site mid c.turn_parts.new.world c.turn_parts.ensures.same ∙ c.take_due.ensures.site)
-    (ticked_loaded k c.args.now es mid c.turn_parts.new.world new c.in_ok-made.made.items c.turn_parts.ensures.same gath c.append.ensures.site b l ∙ c.take_due.ensures.loaded)
-    (ticked_known k c.args.now es mid c.turn_parts.new.world new c.in_ok-made.made.items c.turn_parts.ensures.same gath c.append.ensures.site b l n (are_kinds c.args.kinds.now).at_least_ten known)
+    (ticked_loaded k c.args.now es mid c.turn_parts.new.world new c.in-Ok-turn_parts.made.items c.turn_parts.ensures.same gath c.append.ensures.site b l ∙ c.take_due.ensures.loaded)
+    (ticked_known k c.args.now es mid c.turn_parts.new.world new c.in-Ok-turn_parts.made.items c.turn_parts.ensures.same gath c.append.ensures.site b l n (are_kinds c.args.kinds.now).at_least_ten known)
     c.requires.ready
