@@ -1,5 +1,5 @@
 -- Each section of a parcel lies below them.
-use Rattle.std.proofs.Common.{◌≡◌, ◌<◌, ℕ, Bool, true, false, List, All, length, get_or, pos, ap, arith, refl}
+use Rattle.std.proofs.Common.{◌≡◌, Bool, true, false, List, All, length, get_or, pos, ap, arith, refl}
 use Rattle.std.proofs.lemmas.Int.{ints}
 use Rattle.std.proofs.lemmas.List.Elements.{All-replicate}
 use Rattle.av_types.specs.declared.place.SectionPos.{SectionPos}

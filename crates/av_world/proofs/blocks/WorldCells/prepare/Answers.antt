@@ -1,9 +1,9 @@
-use Rattle.std.proofs.Common.{ℕ, List, ◌≤◌, IsTrue, All, [], ◌∷◌}
+use Rattle.std.proofs.Common.{ℕ, List, ◌≤◌, IsTrue, [], ◌∷◌}
 use Rattle.av_types.specs.Places.{section_of, chunk_of_section}
 use Rattle.av_cells.specs.Grid.{is_here}
 use Rattle.av_world.specs.Near.{cells_near}
 use Rattle.av_world.specs.Views.{grid, room, CanSetAt}
-use Rattle.av_world.specs.Turned.{corners, turned, HasRoomAt, CanSetAll}
+use Rattle.av_world.specs.Turned.{HasRoomAt, CanSetAll}
 use Rattle.av_world.proofs.Steps.{site_kept, not_refused, loaded_later}
 use Rattle.av_world.proofs.Corners.{in_reach, corners_all, turned_all, for_turned, map_turned, ten, ten_all}
 use Rattle.av_world.proofs.blocks.WorldCells.prepare.Goals as goal

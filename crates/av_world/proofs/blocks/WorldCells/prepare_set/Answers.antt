@@ -1,9 +1,8 @@
-use Rattle.std.proofs.Common.{All, [], ◌∷◌, arith}
-use Rattle.av_cells.specs.Positions.{around}
+use Rattle.std.proofs.Common.{arith}
 use Rattle.av_types.specs.Places.{section_of}
 use Rattle.av_world.specs.Near.{cells_near}
 use Rattle.av_world.specs.Views.{CanSetAt}
-use Rattle.av_world.specs.Turned.{HasRoomAt, CanSetAll}
+use Rattle.av_world.specs.Turned.{HasRoomAt}
 use Rattle.av_world.proofs.Steps.{site_kept, not_refused, loaded_later}
 use Rattle.av_world.proofs.Corners.{around_all, one_all, for_around, map_around}
 use Rattle.av_world.proofs.blocks.WorldCells.prepare_set.Goals as goal

@@ -1,4 +1,4 @@
-use Rattle.std.proofs.Common.{◌≡◌, ◌<◌, ℕ, All, List, length, take, slice_index_or, subst, sym, ◌∙◌, arith, pos}
+use Rattle.std.proofs.Common.{◌≡◌, All, List, take, slice_index_or, subst, sym, ◌∙◌, arith, pos}
 use Rattle.std.proofs.lemmas.List.Elements.{All-weaker, All-more}
 use Rattle.std.proofs.lemmas.List.{take_all}
 use Rattle.av_types.specs.declared.place.Pos.{Pos}
