@@ -11,6 +11,7 @@ ghost use Rattle.av_crew.specs.Workers.{Worked, IsNewSeat, WorkedPart, IsWorkerO
 
 use crate::gates::Gate;
 use crate::jobs::{Done, Job};
+use crate::pages::make_room;
 use crate::turns::work;
 use av_ring::{JobRing, Seat};
 use av_rules::Kinds;
@@ -51,6 +52,7 @@ fn work_seat<R: Wait, G: Gate>(
     requires able { All (CanWork kinds.now) seat.jobs }
     ensures { Worked (kinds_of kinds.now) now seat result.0 result.1.items }
 {
+    make_room(alloc);
     let mut dones = Vec::new(alloc);
     for _ in rt.forever() {
         if dones.reserve(1).is_err() {

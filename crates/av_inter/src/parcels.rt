@@ -1,6 +1,5 @@
 //! Parcels carved out of a world, and put back.
-ghost use Rattle.std.specs.Prelude.{◌≡◌, ◌≤◌, OnOk, IfErr, [], List, false, length, vec_capacity};
-ghost use Rattle.av_types.specs.declared.fault.Fault.TheVariants.{OutOfMemory};
+ghost use Rattle.std.specs.Prelude.{◌≡◌, ◌≤◌, OnOk, [], List, false, length, vec_capacity};
 ghost use Rattle.av_types.specs.declared.place.SectionPos.{SectionPos};
 ghost use Rattle.av_world.specs.Views.{grid, blocks, lists, is_broken, IsSamePlaces};
 ghost use Rattle.av_cells.specs.Grid.{Grid};
@@ -9,15 +8,15 @@ ghost use Rattle.av_inter.specs.Cut.{CanCut, AreCut, ArePartsOf, HoldsPartOf, pu
 ghost use Rattle.av_inter.specs.Out.{out_in};
 
 use av_cluster::Cluster;
-use av_types::Fault;
 use av_world::{Parcel, World};
+use std::alloc::AllocError;
 
 /// Carves the sections of each part into a parcel of its own, until memory is refused. There is room for the parcels.
 pub(crate) fn carve_all(
     world: &mut World,
     clusters: &[Cluster],
     parcels: &mut Vec<Option<Parcel>>,
-) -> Result<(), Fault>
+) -> Result<(), AllocError>
     requires unbroken { is_broken world.old ≡ false }
     requires empty { parcels.old.items ≡ [] }
     requires room { length clusters.now ≤ vec_capacity parcels.old }
@@ -25,10 +24,11 @@ pub(crate) fn carve_all(
     ensures cut { AreCut (grid world.old) (sections_of clusters.now) world.new parcels.new.items }
     ensures all { OnOk result (length parcels.new.items ≡ length clusters.now) }
     ensures same { IsSamePlaces world.old world.new }
-    ensures fault { IfErr result (λ e. e ≡ OutOfMemory) }
 {
     for cluster in clusters {
-        let parcel = world.carve(cluster.sections.as_slice())?;
+        let Ok(parcel) = world.carve(cluster.sections.as_slice()) else {
+            return Err(AllocError);
+        };
         parcels.push_reserved(Some(parcel));
     }
     Ok(())

@@ -35,18 +35,18 @@ carve-requires-clause-distinct c = λ broken.
     c.as_slice.ensures.value ∙ sections_there c.args.clusters.now c.loop-cluster.cluster-index c.cluster-item.result c.loop-cluster-test.true c.cluster-item.is in
     subst (λ (l : List SectionPos). AllPairs (λ s t. same_section t s ≡ false) l) (sym at) (c.requires.can.once c.loop-cluster.cluster-index)
 
-pub returns-in_err-parcel-clause-cut : goal.returns-in_err-parcel-clause-cut
-returns-in_err-parcel-clause-cut c =
-    cut_same (grid c.args.world.now) (sections_of c.args.clusters.now) c.requires.can c.loop-cluster.world c.carve.new.self c.loop-cluster.parcels.items c.loop-cluster.invariant.cut c.in_err-parcel.ensures.unchanged c.in_err-parcel.ensures.same
+pub returns-in_default-clause-cut : goal.returns-in_default-clause-cut
+returns-in_default-clause-cut c =
+    cut_same (grid c.args.world.now) (sections_of c.args.clusters.now) c.requires.can c.loop-cluster.world c.carve.new.self c.loop-cluster.parcels.items c.loop-cluster.invariant.cut c.in_default.ensures.unchanged c.in_default.ensures.same
 
 pub loop-cluster-preserved : goal.loop-cluster-preserved
 loop-cluster-preserved c =
-    let g = grid c.args.world.now in let secs = sections_of c.args.clusters.now in let i = c.loop-cluster.invariant in let e = c.in_ok-parcel.ensures in
+    let g = grid c.args.world.now in let secs = sections_of c.args.clusters.now in let i = c.loop-cluster.invariant in let e = c.in-Ok.ensures in
     let at : c.as_slice.result.now ≡ sections_at secs (length c.loop-cluster.parcels.items) =
     c.as_slice.ensures.value ∙ sections_there c.args.clusters.now c.loop-cluster.cluster-index c.cluster-item.result c.loop-cluster-test.true c.cluster-item.is ∙ ap (λ (n : ℕ). sections_at secs n) (sym i.count) in
     record {
       cut = subst (λ (cs : List (Option Parcel)). AreCut g secs c.carve.new.self cs) (sym c.push_reserved.ensures.items)
-          (cut_more g secs c.requires.can c.loop-cluster.world c.carve.new.self c.loop-cluster.parcels.items c.in_ok-parcel.parcel c.as_slice.result.now at i.cut e.same e.out e.nothing_aside e.part e.left);
+          (cut_more g secs c.requires.can c.loop-cluster.world c.carve.new.self c.loop-cluster.parcels.items c.in-Ok.parcel c.as_slice.result.now at i.cut e.same e.out e.nothing_aside e.part e.left);
       count = let a = c.push_reserved.ensures.len in let b = i.count in omega (arith, c.push_reserved.new.self.ok.0, c.loop-cluster.parcels.ok.0);
       same = same_trans c.args.world.now c.loop-cluster.world c.carve.new.self i.same e.same;
       room = c.push_reserved.ensures.capacity ∙ i.room;
