@@ -15,7 +15,6 @@ mkdir "$work/in" "$work/proved" "$work/plain_out"
 ln "$work/r.0.0.mca" "$work/in/r.0.0.mca"
 rustc --edition 2024 -O "$top/bench/plain/main.rs" -o "$work/plain"
 proved=$top/crates/av_bench/out/av_bench
-plans=$top/crates/av_plan_bench/out/av_plan_bench
 
 # Builds a program, which prints its usage where it is given no words.
 build() {
@@ -29,8 +28,6 @@ build() {
   esac
 }
 build av_bench
-build av_light_bench
-build av_plan_bench
 "$top/anvilwater" block "$top/samples/r.0.0.mca" 4 67 15 >/dev/null
 
 measure() { "$top/bench/measure.py" "$@"; }
@@ -45,13 +42,13 @@ measure turn "$times" "$proved" turn 10000 -- "$work/plain" turn 10000
 # Light alone, on one thread and on all; the dark region is read as r.0.0 too.
 mkdir "$work/dark"
 mv "$work/dark.mca" "$work/dark/r.0.0.mca"
-"$top/bench/light.py" "$top/crates/av_light_bench/out/av_light_bench" "$work/plain" \
+"$top/bench/light.py" "$proved" "$work/plain" \
   "$work/r.0.0.mca" "$work/dark/r.0.0.mca" "$top/tables/blocks.toml" 12 "$times"
 
 # 20 plans of so many entries: anywhere in 1,024 chunks, in one lake, and in pools that are parts of their own.
 for kind in spread lake pools; do
   for count in 50000 100000 200000; do
-    measure "$kind" "$times" "$plans" plan "$kind" "$count" 20 -- "$work/plain" plan "$kind" "$count" 20
+    measure "$kind" "$times" "$proved" plan "$kind" "$count" 20 -- "$work/plain" plan "$kind" "$count" 20
   done
 done
 

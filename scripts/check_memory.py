@@ -3,7 +3,7 @@
 answers want of memory, or exactly what it answers when nothing is refused. Want of memory for the path of a file that is to be
 written counts as a write that failed. Where memory is refused in a tick, the world then answers 26 to each call.
 
-    scripts/check_memory.py PROGRAM BENCH   as crates/av_main/out/av_main and crates/av_light_bench/out/av_light_bench
+    scripts/check_memory.py PROGRAM BENCH   as crates/av_main/out/av_main and crates/av_bench/out/av_bench
 
 A growth is a call of malloc or realloc, or the start of a thread. They are refused by refuse.c, which the C compiler makes a
 library of; where there is no such compiler nothing is asked.

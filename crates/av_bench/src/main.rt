@@ -1,9 +1,15 @@
-//! The program that `bench/run.sh` times: hot paths of the crates over a whole region, one a command.
+//! The program that `bench/run.sh` times: hot paths of the crates, one a command. Beside this it runs ticks of a small world
+//! for the merge gate, which refuses its growths.
 #![tactic(auto)]
 
 mod decoding;
 mod flowing;
+mod lighting;
+mod placing;
+mod planning;
+mod refusing;
 mod running;
+mod summing;
 mod tally;
 mod ticking;
 
@@ -16,7 +22,17 @@ use std::sync::Wait;
 use std::thread::Threads;
 use std::{env, fs};
 
-/// Runs a command, and gives the line that it prints.
+const USAGE: &str =
+    "av_bench decode FILE ROUNDS | recode IN OUT | rewrite IN OUT | light FILE TABLE TIMES | time FILE TABLE TIMES | plan lake|spread|pools ENTRIES ROUNDS | turn WORLDS | run FILE TABLE EDITS TICKS WORKERS | tick TICKS WORKERS | refuse WORKERS; several have a + between them";
+
+/// Writes what was made, and tells its size.
+fn write<R: Files + AllocGlobal>(rt: &R, path: &str, bytes: &[u8]) -> Result<String> {
+    fs::write(rt, path, bytes)?;
+    let size = bytes.len();
+    Ok(format!(in rt.alloc(); "bytes {size}")?)
+}
+
+/// Runs a command on what it is given, without ticks, and gives the line that it prints.
 fn run<R: Clock + Env + Files + AllocGlobal + Threads + Wait + Sync>(
     rt: &R,
     words: &[&str],
@@ -31,17 +47,37 @@ fn run<R: Clock + Env + Files + AllocGlobal + Threads + Wait + Sync>(
         ["recode", input, output] => {
             let bytes = fs::read(rt, *input)?;
             let written = recode(alloc, bytes.as_slice())?;
-            fs::write(rt, *output, written.as_slice())?;
-            let size = written.len();
-            Ok(format!(in alloc; "bytes {size}")?)
+            write(rt, *output, written.as_slice())
         }
         ["rewrite", input, output] => {
             let bytes = fs::read(rt, *input)?;
             let written = rewrite(alloc, bytes.as_slice(), Height::game())?;
-            fs::write(rt, *output, written.as_slice())?;
-            let size = written.len();
-            Ok(format!(in alloc; "bytes {size}")?)
+            write(rt, *output, written.as_slice())
         }
+        ["light", path, table, times] => {
+            lighting::light_region(rt, *path, *table, times.parse()?, false)
+        }
+        ["time", path, table, times] => {
+            lighting::light_region(rt, *path, *table, times.parse()?, true)
+        }
+        ["plan", kind, count, rounds] => {
+            planning::plan_entries(alloc, *kind, count.parse()?, rounds.parse()?)
+        }
+        ["turn", worlds] => {
+            let worlds: u64 = worlds.parse()?;
+            Ok(flowing::play_worlds(alloc, worlds)?)
+        }
+        _ => run_ticks(rt, words),
+    }
+}
+
+/// Runs a command that ticks, and gives the line that it prints.
+fn run_ticks<R: Clock + Files + AllocGlobal + Threads + Wait + Sync>(
+    rt: &R,
+    words: &[&str],
+) -> Result<String> {
+    let alloc = rt.alloc();
+    match words {
         ["run", path, table, edits, ticks, workers] => {
             let bytes = fs::read(rt, *path)?;
             let table = fs::read(rt, *table)?;
@@ -56,13 +92,11 @@ fn run<R: Clock + Env + Files + AllocGlobal + Threads + Wait + Sync>(
             let workers: u32 = workers.parse()?;
             ticking::tick_lakes(rt, alloc, ticks, workers)
         }
-        ["turn", worlds] => {
-            let worlds: u64 = worlds.parse()?;
-            Ok(flowing::play_worlds(alloc, worlds)?)
+        ["refuse", workers] => {
+            let workers: u32 = workers.parse()?;
+            Ok(refusing::refuse(rt, alloc, workers)?)
         }
-        _ => bail!(
-            "av_bench decode FILE ROUNDS | recode IN OUT | rewrite IN OUT | run FILE TABLE EDITS TICKS WORKERS | tick TICKS WORKERS | turn WORLDS"
-        ),
+        _ => bail!("{USAGE}"),
     }
 }
 
@@ -74,7 +108,9 @@ fn main(rt: HostRuntime) -> Result<()> {
     let alloc = rt.alloc();
     let words: Vec<String> = env::args(&rt)?.skip(1).collect(alloc)?;
     let words = as_texts(alloc, words.as_slice())?;
-    let line = run(&rt, words.as_slice())?;
-    println!(rt; "{line}")?;
+    for command in words.as_slice().split(|word| -> bool { *word == "+" }) {
+        let line = run(&rt, command)?;
+        println!(rt; "{line}")?;
+    }
     Ok(())
 }

@@ -1,5 +1,5 @@
 //! The parts of a tick.
-ghost use Rattle.std.specs.Prelude.{◌≡◌, ◌↔◌, ◌<◌, ◌≤◌, ◌+◌, ◌++◌, ◌∷◌, [], None, Some, true, ℕ, IsTrue, OnOk, IfOk, IfErr, length, All, map, slice_get, slice_set, slice_index, slice_index_or, vec_len};
+ghost use Rattle.std.specs.Prelude.{◌≡◌, ◌↔◌, ◌<◌, ◌≤◌, ◌+◌, ◌++◌, ◌∷◌, [], None, Some, true, ℕ, IsTrue, OnOk, IfOk, IfErr, IfSome, length, All, map, slice_get, slice_set, slice_index, slice_index_or, vec_len};
 ghost use Rattle.indexmap.specs.IndexMap.{keys};
 ghost use Rattle.av_types.specs.declared.fault.Fault.TheVariants.{OutOfMemory};
 ghost use Rattle.av_types.specs.declared.tick.Entry.{Entry};
@@ -26,8 +26,18 @@ use std::alloc::{AllocError, Global};
 /// The most parts that a plan can have: their numbers fit a `u32`.
 const MOST: usize = 4_294_967_295;
 
+/// For how many sections room is made at once: about 200 KB.
+const LIKELY: usize = 4096;
+
 /// The first place that touched each section.
 type Owners = IndexMap<(i32, i32, i32), usize>;
+
+/// No sections' owners, with room for as many as some entries are likely to have.
+fn no_owners(alloc: Global, entries: usize) -> Result<Owners, AllocError>
+    ensures { IfOk result (λ owners. owners.entries ≡ []) }
+{
+    IndexMap::with_capacity(alloc, entries.min(LIKELY))
+}
 
 /// The key of a section.
 fn key(section: SectionPos) -> (i32, i32, i32)
@@ -51,15 +61,25 @@ fn near_index(section: SectionPos) -> usize
     fourth(section.x) + 4 * fourth(section.z) + 16 * fourth(section.y)
 }
 
+/// The owner of a section whose key is the one at an index.
+fn owner_at(owners: &Owners, index: usize, section: SectionPos) -> Option<usize>
+    ensures { IfSome result (λ owner. owner_in owners.now.entries section ≡ Some owner) }
+{
+    let (known, owner) = owners.get_index(index)?;
+    if of_key(*known) == section {
+        Some(*owner)
+    } else {
+        None
+    }
+}
+
 /// The owner of a section, if it has one: where one was found last, or else by its hash.
 fn owner_near(owners: &Owners, near: &mut [usize; 64], section: SectionPos) -> Option<usize>
     ensures { result ≡ owner_in owners.now.entries section }
 {
     let index = near_index(section);
-    if let Some((known, owner)) = owners.get_index(near[index]) {
-        if of_key(*known) == section {
-            return Some(*owner);
-        }
+    if let Some(owner) = owner_at(owners, near[index], section) {
+        return Some(owner);
     }
     let (at, _, owner) = owners.get_full(&key(section))?;
     near[index] = at;
@@ -268,10 +288,13 @@ fn gather(
     Ok(())
 }
 
-/// The owner of a section.
-fn owner_of(owners: &Owners, section: SectionPos) -> Option<usize>
+/// The owner of a section, if it has one: where its key is the one at an index, without its hash.
+fn owner_of(owners: &Owners, index: usize, section: SectionPos) -> Option<usize>
     ensures { result ≡ owner_in owners.now.entries section }
 {
+    if let Some(owner) = owner_at(owners, index, section) {
+        return Some(owner);
+    }
     owners.get(&key(section)).copied()
 }
 
@@ -283,9 +306,10 @@ fn of_key(key: (i32, i32, i32)) -> SectionPos
     SectionPos { x, y, z }
 }
 
-/// Gives a section to the part of its owner.
+/// Gives the section of the key at an index to the part of its owner.
 fn give(
     owners: &Owners,
+    index: usize,
     numbers: &[usize],
     section: SectionPos,
     clusters: &mut Vec<Cluster>,
@@ -295,7 +319,7 @@ fn give(
     ensures parts { OnOk result (parts_of clusters.new.items ≡ parts_of clusters.old.items) }
     ensures sections { OnOk result (IsGiven (owner_in owners.now.entries section) numbers.now section (sections_of clusters.old.items) (sections_of clusters.new.items)) }
 {
-    if let Some(owner) = owner_of(owners, section) {
+    if let Some(owner) = owner_of(owners, index, section) {
         own(clusters, numbers[owner], section)?;
     }
     Ok(())
@@ -311,8 +335,8 @@ fn share(owners: &Owners, numbers: &[usize], clusters: &mut Vec<Cluster>) -> Res
     ensures once { OnOk result (AreOnce (sections_of clusters.new.items)) }
 {
     let keys = owners.keys().as_slice();
-    for key in keys {
-        give(owners, numbers, of_key(*key), clusters)?;
+    for (index, key) in keys.iter().enumerate() {
+        give(owners, index, numbers, of_key(*key), clusters)?;
     }
     Ok(())
 }
@@ -329,7 +353,7 @@ pub fn plan(alloc: Global, world: &World, entries: &[Entry]) -> Result<Vec<Clust
     ensures count { IfOk result (λ clusters. vec_len clusters ≤ 4294967295) }
     ensures fault { IfErr result (λ e. e ≡ OutOfMemory) }
 {
-    let mut owners = IndexMap::new(alloc);
+    let mut owners = no_owners(alloc, entries.len())?;
     let mut parents = alone(alloc, entries.len())?;
     let groups = parents.as_mut_slice();
     connect(world, entries, &mut owners, groups)?;

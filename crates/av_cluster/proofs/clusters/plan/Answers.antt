@@ -19,8 +19,8 @@ pub connect-requires-clause-noted : goal.connect-requires-clause-noted
 connect-requires-clause-noted c =
     let es = c.args.entries.now in let ps = c.as_mut_slice-groups.result.now in
     let a : AreAlone ps (length es) = subst (λ l. AreAlone l (length es)) (sym c.as_mut_slice-groups.ensures.value) c.in_ok-parents.ensures in
-    noted_none (blocks c.args.world.now) es ps (owner_in c.new-owners.result.entries) (alone_falling ps (length es) a) a.count (alone_first ps (length es) a)
-    (λ s. ap (λ l. owner_in l s) c.new-owners.ensures.empty)
+    noted_none (blocks c.args.world.now) es ps (owner_in c.in_ok-owners.owners.entries) (alone_falling ps (length es) a) a.count (alone_first ps (length es) a)
+    (λ s. ap (λ l. owner_in l s) c.in_ok-owners.ensures)
     (λ k e h. All-contains (λ (e : Entry). IsTrue ((blocks c.args.world.now).loaded e.pos)) es e c.requires.loaded (k, slice_get_within es k e h, get_or_from_slice_get es k e e h))
 
 pub share-requires-clause-numbers : goal.share-requires-clause-numbers

@@ -1,0 +1,27 @@
+use Rattle.std.proofs.Common.{◌≡◌, ◌⊎◌, ◌<◌, sym, subst, arith, inl, inr, ℕ, List, Result, Ok, Err, IfErr, All, length, string_bytes}
+use Rattle.std.specs.Prelude.{IsErrAnd}
+use Rattle.av_types.specs.declared.fault.Fault.{Fault}
+use Rattle.av_types.specs.declared.fault.Fault.TheVariants.{OutOfMemory}
+use Rattle.av_sink.specs.Account.{IsDevice}
+use Rattle.av_folders.specs.declared.reading.Listed.{Listed}
+use Rattle.av_folders.specs.Folders.{IsListed, IsUnreadFolder, memory, file}
+use Rattle.av_folders.proofs.reading.read_folder.Goals as goal
+
+-- an error that is passed on
+if_err : {T : Type 0} (r : Result T Fault) (e : Fault) (P : Fault → Type 0) → IsErrAnd r (λ x. x ≡ e) → P e → IfErr r P
+if_err (Ok v) e P is p = absurd is
+if_err (Err x) e P is p = subst P (sym is) p
+
+of_file : (folder : List ℕ) (l : Listed) (e : Fault) → IsListed l → (e ≡ OutOfMemory) ⊎ IsDevice (string_bytes l.name) e → IsUnreadFolder folder e
+of_file folder l e named (inl is) = memory is
+of_file folder l e named (inr device) = file l.region (subst (λ (name : List ℕ). IsDevice name e) named device)
+
+pub returns-in_err-read_region : goal.returns-in_err-read_region
+returns-in_err-read_region g c =
+    let l = c.file-item.result in
+    let items = c.deref-file-items.result.now in
+    let all : All IsListed items = subst (λ (xs : List Listed). All IsListed xs) (sym c.deref-file-items.ensures.value) c.in-Ok.ensures.named in
+    let within : c.loop-file.file-index < length items = omega arith in
+    let named : IsListed l = subst (λ (x : Listed). IsListed x) (sym c.file-item.is) (all c.loop-file.file-index l within) in
+    if_err c.from_residual.result c.in_err-read_region.field-0.0 (IsUnreadFolder c.args.folder.now) c.from_residual.ensures.1
+    (of_file c.args.folder.now l c.in_err-read_region.field-0.0 named c.in_err-read_region.ensures.unread)

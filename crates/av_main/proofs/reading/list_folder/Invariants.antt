@@ -1,6 +1,0 @@
-use Rattle.std.specs.List.{All}
-use Rattle.av_main.specs.Folders.{IsListed}
-use Rattle.av_main.proofs.reading.list_folder.Given as goal
-
-abbrev pub invariant-loop-entry : goal.invariant-loop-entry
-invariant-loop-entry g l = All IsListed l.files.items

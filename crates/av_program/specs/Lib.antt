@@ -1,0 +1,2 @@
+pub mod RunCommand
+pub mod Running

@@ -1,0 +1,63 @@
+-- What a run of the program leaves behind. Which words it was called with and which bytes a file has, no clause can say.
+use Rattle.std.specs.Prelude.{◌≡◌, ◌≢◌, ◌⊎◌, ℕ, List, Option, option_map}
+use Rattle.clap.specs.Words.{Text, kind_of}
+use Rattle.clap.specs.declared.error.Error.{Error}
+use Rattle.clap.specs.declared.error.kind.ErrorKind.TheVariants as kind
+use Rattle.av_types.specs.declared.place.Pos.{Pos}
+use Rattle.av_types.specs.declared.place.Height.{Height}
+use Rattle.av_types.specs.declared.fault.Fault.{Fault}
+use Rattle.av_sink.specs.Account.{IsDevice}
+use Rattle.av_sink.specs.declared.files.RegionFile.{RegionFile}
+use Rattle.av_survey.specs.Survey.{IsSurvey}
+use Rattle.av_survey.specs.declared.finding.Finding.{Finding}
+use Rattle.av_words.specs.declared.command_line.commands.Words.{Words}
+use Rattle.av_words.specs.declared.command_line.commands.Words.TheVariants.{Block, Check, Run}
+use Rattle.av_commands.specs.BlockCommand.{HasAnswered}
+use Rattle.av_words.specs.CommandLine.{IsReadFrom, IsWordsRefusal}
+use Rattle.av_commands.specs.CheckCommand.{HasFindings}
+use Rattle.av_program.specs.RunCommand.{HasRunRegions}
+use Rattle.av_sink.specs.Account.{Account}
+use Rattle.av_folders.specs.Folders.{IsUnreadFolder, folder_account}
+use Rattle.av_commands.specs.Tables.{IsHeightBy, IsUnreadTable}
+
+-- why the table and the file of `block` were not read
+abbrev pub IsUnread : List ℕ → Option (List ℕ) → Fault → Type 0
+IsUnread file table e = IsUnreadTable table e ⊎ IsDevice file e
+
+-- why the table and the folder of `check` were not read
+abbrev pub IsUnreadCheck : List ℕ → Option (List ℕ) → Fault → Type 0
+IsUnreadCheck folder table e = IsUnreadTable table e ⊎ IsUnreadFolder folder e
+
+-- all that is wrong with some region files, under the table's height
+pub record IsSurveyBy (table : Option (List ℕ)) (found : List Finding) : Type 0 where
+  pub height : Height
+  pub by_table : IsHeightBy table height
+  pub files : List RegionFile
+  pub all : IsSurvey height files found
+
+-- what a run of `block` leaves on its output, and its status: the answer for the bytes that it read, or nothing and 1
+pub data HasRun (file : List ℕ) (at : Pos) (table : Option (List ℕ)) (before after : Option (List ℕ)) (status : ℕ) : Type 0 where
+  answered : (bytes : List ℕ) (h : Height) → IsHeightBy table h → HasAnswered file bytes at h before after status → HasRun file at table before after status
+  unread : after ≡ before → status ≡ 1 → HasRun file at table before after status
+
+-- the same of `check`: the findings of a survey, or nothing and 1
+pub data HasChecked (table : Option (List ℕ)) (before after : Option (List ℕ)) (status : ℕ) : Type 0 where
+  surveyed : (found : List Finding) → IsSurveyBy table found → HasFindings found before after status → HasChecked table before after status
+  refused : after ≡ before → status ≡ 1 → HasChecked table before after status
+
+-- the same of a command
+abbrev pub HasRunCommand : Words → Option (List ℕ) → Option (List ℕ) → ℕ → Type 0
+HasRunCommand (Block file at table) before after status = HasRun file.now at (option_map (λ t. t.now) table) before after status
+HasRunCommand (Check input table progress) before after status = HasChecked (option_map (λ t. t.now) table) before after status
+HasRunCommand (Run input output table edits ticks workers progress) before after status =
+    (new : Account) × HasRunRegions ticks workers (folder_account 0 0) new before after status
+
+-- the same of words: the run of the command that they name, or a refusal, which may print help
+pub data HasRunWords (words : List Text) (before after : Option (List ℕ)) (status : ℕ) : Type 0 where
+  ran : (command : Words) → IsReadFrom words command → HasRunCommand command before after status → HasRunWords words before after status
+  refused : (e : Error) → IsWordsRefusal words e → (kind_of e ≡ kind.OutOfMemory → status ≡ 1) → (kind_of e ≢ kind.OutOfMemory → status ≡ 2) → HasRunWords words before after status
+
+-- the same of the program: the run of the words that it was called with, or nothing and a status where it can't have them
+pub data HasRunProgram (before after : Option (List ℕ)) (status : ℕ) : Type 0 where
+  called : (words : List Text) → HasRunWords words before after status → HasRunProgram before after status
+  uncalled : after ≡ before → (status ≡ 1) ⊎ (status ≡ 2) → HasRunProgram before after status

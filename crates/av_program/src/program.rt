@@ -1,0 +1,238 @@
+//! The program's way from its words to its status.
+ghost use Rattle.std.specs.Prelude.{◌≡◌, ◌≢◌, ◌≤◌, IfErr, IfOk, map, option_map};
+ghost use Rattle.clap.specs.Words.{kind_of};
+ghost use Rattle.av_program.specs.RunCommand.{HasRunRegions};
+ghost use Rattle.av_program.specs.Running.{HasChecked, HasRun, HasRunCommand, HasRunProgram, HasRunWords, IsSurveyBy, IsUnread, IsUnreadCheck};
+ghost use Rattle.av_commands.specs.Tables.{IsHeightBy};
+
+use crate::running::{Request, report, run_over};
+use av_commands::block::block_text;
+use av_commands::checking::findings;
+use av_commands::device::read_file;
+use av_commands::output::{FAULT, REFUSED, report_fault};
+use av_commands::tables::read_height;
+use av_folders::{FolderSink, read_folder};
+use av_sink::{RegionFile, Sink};
+use av_survey::{Finding, survey};
+use av_types::{Fault, Height, Pos};
+use av_words::{Words, words};
+use clap::Error;
+use clap::error::ErrorKind;
+use std::alloc::{AllocError, Global};
+use std::env;
+use std::io::{self, Write};
+use std::rt::{Env, Files};
+use std::sync::Wait;
+use std::thread::Threads;
+
+/// Writes why words were refused, or the help that was called for, and answers the status.
+fn explain_words<O: Write, E: Write>(out: &mut O, err: &mut E, error: &Error) -> u8
+    ensures memory { kind_of error.now ≡ ErrorKind.OutOfMemory → result ≡ FAULT }
+    ensures refused { kind_of error.now ≢ ErrorKind.OutOfMemory → result ≡ REFUSED }
+{
+    if error.kind() == ErrorKind::OutOfMemory {
+        return report_fault(err, &Fault::OutOfMemory);
+    }
+    let _ = if error.use_stderr() {
+        write!(err, "{error}")
+    } else {
+        write!(out, "{error}")
+    };
+    REFUSED
+}
+
+/// What `block` reads: the world's height, by the block table, and then the file.
+fn read_inputs<R: Files + AllocGlobal>(
+    rt: &R,
+    file: &str,
+    table: Option<&str>,
+) -> Result<(Height, Vec<u8>), Fault>
+    ensures height { IfOk result (λ read. IsHeightBy (option_map (λ t. t.now) table.entry) read.0) }
+    ensures unread { IfErr result (IsUnread file.now (option_map (λ t. t.now) table.entry)) }
+{
+    let height = read_height(rt, table)?;
+    Ok((height, read_file(rt, file)?))
+}
+
+/// Runs `block`.
+fn run_block<R: Files + AllocGlobal, O: Write, E: Write>(
+    rt: &R,
+    file: &str,
+    pos: Pos,
+    table: Option<&str>,
+    out: &mut O,
+    err: &mut E,
+) -> u8
+    ensures status { result ≤ REFUSED }
+    ensures ran { HasRun file.now pos (option_map (λ t. t.now) table.entry) (O.contents out.old) (O.contents out.new) result }
+{
+    match read_inputs(rt, file, table) {
+        Ok((height, bytes)) => block_text(
+            rt.alloc(),
+            file,
+            bytes.as_slice(),
+            pos,
+            height,
+            out,
+            err,
+        ),
+        Err(fault) => report_fault(err, &fault),
+    }
+}
+
+/// What `check` reads: the world's height, by the block table, and then the folder's region files.
+fn read_check_inputs<R: Files + AllocGlobal + Clone + Drop, E: Write>(
+    rt: &R,
+    folder: &str,
+    table: Option<&str>,
+    progress: bool,
+    err: &mut E,
+) -> Result<(Height, Vec<RegionFile>), Fault>
+    ensures height { IfOk result (λ read. IsHeightBy (option_map (λ t. t.now) table.entry) read.0) }
+    ensures unread { IfErr result (IsUnreadCheck folder.now (option_map (λ t. t.now) table.entry)) }
+{
+    let height = read_height(rt, table)?;
+    Ok((height, read_folder(rt, folder, progress, err)?))
+}
+
+/// What is wrong with the region files of a folder.
+fn survey_folder<R: Files + AllocGlobal + Clone + Drop, E: Write>(
+    rt: &R,
+    folder: &str,
+    table: Option<&str>,
+    progress: bool,
+    err: &mut E,
+) -> Result<Vec<Finding>, Fault>
+    ensures { IfOk result (λ found. IsSurveyBy (option_map (λ t. t.now) table.entry) found.items) }
+{
+    let (height, files) = read_check_inputs(rt, folder, table, progress, err)?;
+    survey(rt.alloc(), files, height)
+}
+
+/// Runs `check`.
+fn run_check<R: Files + AllocGlobal + Clone + Drop + Threads + Sync, O: Write, E: Write>(
+    rt: &R,
+    folder: &str,
+    table: Option<&str>,
+    progress: bool,
+    out: &mut O,
+    err: &mut E,
+) -> u8
+    ensures status { result ≤ REFUSED }
+    ensures ran { HasChecked (option_map (λ t. t.now) table.entry) (O.contents out.old) (O.contents out.new) result }
+{
+    let surveyed = survey_folder(rt, folder, table, progress, err);
+    findings(&surveyed, out, err)
+}
+
+/// Runs `run`, and hands its files to a sink that has taken none yet and has not failed.
+fn run_regions<
+    R: Files + AllocGlobal + Clone + Drop + Threads + Wait + Sync,
+    S: Sink,
+    O: Write,
+    E: Write,
+>(rt: &R, request: Request<'_>, sink: &mut S, progress: bool, out: &mut O, err: &mut E) -> u8
+    requires failures { (S.account sink.old).failures ≡ 0 }
+    requires handed { (S.account sink.old).handed ≡ 0 }
+    ensures status { result ≤ REFUSED }
+    ensures ran { HasRunRegions request.entry.ticks request.entry.workers (S.account sink.old) (S.account sink.new) (O.contents out.old) (O.contents out.new) result }
+{
+    let ran = run_over(rt, request, sink, progress, err);
+    report(&ran, out, err)
+}
+
+/// Runs a command. Where standard error is a terminal, it says how far long work is.
+fn run_command<R: Files + AllocGlobal + Clone + Drop + Threads + Wait + Sync, O: Write, E: Write>(
+    rt: &R,
+    is_terminal: bool,
+    command: Words<'_>,
+    out: &mut O,
+    err: &mut E,
+) -> u8
+    ensures status { result ≤ REFUSED }
+    ensures ran { HasRunCommand command.entry (O.contents out.old) (O.contents out.new) result }
+{
+    match command {
+        Words::Block { file, pos, table } => run_block(rt, file, pos, table, out, err),
+        Words::Check {
+            input,
+            table,
+            progress,
+        } => run_check(rt, input, table, progress || is_terminal, out, err),
+        Words::Run {
+            input,
+            output,
+            table,
+            edits,
+            ticks,
+            workers,
+            progress,
+        } => {
+            let request = Request {
+                input,
+                table,
+                edits,
+                ticks,
+                workers,
+            };
+            let mut sink = FolderSink::new(rt, output);
+            run_regions(rt, request, &mut sink, progress || is_terminal, out, err)
+        }
+    }
+}
+
+/// Runs the command that the words name.
+fn run_words<R: Files + AllocGlobal + Clone + Drop + Threads + Wait + Sync, O: Write, E: Write>(
+    rt: &R,
+    is_terminal: bool,
+    given: &[&str],
+    out: &mut O,
+    err: &mut E,
+) -> u8
+    ensures status { result ≤ REFUSED }
+    ensures ran { HasRunWords (map (λ s. s.now) given.now) (O.contents out.old) (O.contents out.new) result }
+{
+    match words(rt.alloc(), given) {
+        Ok(command) => run_command(rt, is_terminal, command, out, err),
+        Err(error) => explain_words(out, err, &error),
+    }
+}
+
+/// The words that the program was called with, without its own name. One that is no text in UTF-8 is an error.
+fn given_words<R: Env + AllocGlobal>(rt: &R) -> io::Result<Vec<String>> {
+    let arguments = env::args(rt)?;
+    Ok(arguments.skip(1).collect(rt.alloc())?)
+}
+
+fn as_texts(alloc: Global, words: &[String]) -> Result<Vec<&str>, AllocError> {
+    words.iter().map(|word| word.as_str()).collect(alloc)
+}
+
+/// Reads the words that the program was called with and does what they say. Where standard error is a terminal, long work
+/// says there how far it is. The answer is the program's status: 0; 1 after a fault, and where `check` found something; 2
+/// after words that are refused or call for help.
+pub fn run<R: Env + Files + AllocGlobal + Clone + Drop + Threads + Wait + Sync, O: Write, E: Write>(
+    rt: &R,
+    is_terminal: bool,
+    out: &mut O,
+    err: &mut E,
+) -> u8
+    ensures status { result ≤ REFUSED }
+    ensures ran { HasRunProgram (O.contents out.old) (O.contents out.new) result }
+{
+    let given = match given_words(rt) {
+        Ok(given) => given,
+        Err(error) if error.kind() == io::ErrorKind::OutOfMemory => return report_fault(
+            err,
+            &Fault::OutOfMemory,
+        ),
+        Err(_) => {
+            let _ = writeln!(err, "error: the words are no text in UTF-8");
+            return REFUSED;
+        }
+    };
+    match as_texts(rt.alloc(), given.as_slice()) {
+        Ok(given) => run_words(rt, is_terminal, given.as_slice(), out, err),
+        Err(_) => report_fault(err, &Fault::OutOfMemory),
+    }
+}
