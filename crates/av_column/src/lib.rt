@@ -5,5 +5,3 @@ pub mod columns;
 
 pub use columns::Column;
 
-#[cfg(test)]
-mod tests;

@@ -6,6 +6,8 @@ mod coming;
 #[cfg(test)]
 mod drops;
 #[cfg(test)]
+mod examples;
+#[cfg(test)]
 mod flat;
 #[cfg(test)]
 mod turns;

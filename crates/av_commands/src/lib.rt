@@ -7,5 +7,3 @@ pub mod device;
 pub mod names;
 pub mod output;
 pub mod tables;
-#[cfg(test)]
-mod tests;

@@ -11,5 +11,3 @@ pub use laws::written_holds;
 pub use reading::Region;
 pub use writing::write;
 
-#[cfg(test)]
-mod tests;

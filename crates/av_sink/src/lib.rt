@@ -5,8 +5,6 @@ pub mod files;
 pub mod names;
 pub mod saving;
 pub mod sink;
-#[cfg(test)]
-mod tests;
 
 pub use files::RegionFile;
 pub use names::region_name;

@@ -5,8 +5,6 @@ pub mod laws;
 pub mod list;
 pub mod merge;
 mod store;
-#[cfg(test)]
-mod tests;
 
 pub use list::TickList;
 pub use merge::merge_made;

@@ -12,5 +12,3 @@ pub use place::{ChunkPos, Height, Place, Pos, RegionPos, SectionPos};
 pub use tick::{Entry, Made};
 pub use water::{Direction, Wet};
 
-#[cfg(test)]
-mod tests;

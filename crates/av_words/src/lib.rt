@@ -2,8 +2,6 @@
 #![tactic(auto)]
 
 pub mod command_line;
-#[cfg(test)]
-mod tests;
 
 pub use command_line::commands::Words;
 pub use command_line::words;

@@ -1,5 +1,5 @@
 //! Lists of scheduled ticks by hand.
-use crate::{TickList, merge_made};
+use av_ticks::{TickList, merge_made};
 use av_types::{Entry, Made, Pos};
 use std::test::Fail;
 

@@ -2,7 +2,7 @@
 ghost use Rattle.std.specs.Prelude.{◌≡◌, [], ◌∷◌, ◌++◌, OnOk, OnErr, Some, map, string_bytes};
 ghost use Rattle.av_sink.specs.Account.{Account, file_named};
 
-use crate::{RegionFile, Sink, SinkFailed, region_name, save_all};
+use av_sink::{RegionFile, Sink, SinkFailed, region_name, save_all};
 use av_types::RegionPos;
 use std::alloc::{AllocError, Global};
 use std::process::Abort;

@@ -1,7 +1,7 @@
 //! Names and lines. What the program answers, `scripts/check_words.sh` asks of the built one.
-use crate::block::block_text;
-use crate::checking::findings;
-use crate::names::{file_name, region_of_name};
+use av_commands::block::block_text;
+use av_commands::checking::findings;
+use av_commands::names::{file_name, region_of_name};
 use av_survey::Finding;
 use av_types::{ChunkPos, Fault, Height, Pos, RegionPos};
 use std::io::Cursor;

@@ -1,5 +1,5 @@
 //! The rule's examples on a small flat world: stone at y 63 and air elsewhere.
-use crate::Column;
+use av_column::Column;
 use arrayvec::ArrayVec;
 use av_cells::{Cells, can_enter, has_hole, kind_at, set_awake};
 use av_drop::drop_distance;
@@ -308,7 +308,7 @@ fn entries_are_taken_in_order(rt: HostRuntime) -> Result<(), Fail> {
 }
 
 /// Whether a loaded block has a hole.
-#[tactic(auto, using(crate::proofs::Slots::there_is_inner))]
+#[tactic(auto, using(av_column::proofs::Slots::there_is_inner))]
 fn drops_at(rt: &impl Abort, column: &Column, kinds: &Kinds, pos: Pos) -> bool {
     assert!(rt; column.loaded(pos));
     assert!(rt; column.has_kinds(kinds));

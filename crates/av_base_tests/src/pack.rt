@@ -1,7 +1,7 @@
 //! Entries and half bytes by hand, with the counts of the format's description.
 ghost use Rattle.std.specs.Prelude.{◌≡◌, ◌<◌, ◌^◌, IfOk, length, All};
 
-use crate::{bits_for, get_at, longs_for, nibble, pack, set_at, set_nibble, unpack};
+use av_pack::{bits_for, get_at, longs_for, nibble, pack, set_at, set_nibble, unpack};
 use av_types::{Fault, Place};
 use std::alloc::{AllocError, Global};
 use std::test::Fail;

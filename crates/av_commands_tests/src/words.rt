@@ -1,7 +1,7 @@
 //! Words. What the program answers, `scripts/check_words.sh` asks of the built one.
-use crate::command_line::commands::Words;
-use crate::command_line::words;
 use av_types::Pos;
+use av_words::command_line::commands::Words;
+use av_words::command_line::words;
 use clap::error::ErrorKind;
 use std::alloc::Global;
 use std::test::Fail;

@@ -1,5 +1,5 @@
 //! Places, heights and fault lines by hand.
-use crate::{ChunkPos, Fault, Height, Pos, RegionPos, SectionPos, Wet};
+use av_types::{ChunkPos, Fault, Height, Pos, RegionPos, SectionPos, Wet};
 use std::test::Fail;
 
 #[test]
@@ -67,7 +67,7 @@ fn another_height(rt: HostRuntime) {
 
 #[test]
 fn places_and_water(rt: HostRuntime) {
-    assert_eq!(rt; crate::Place::new(4095).index, 4095);
+    assert_eq!(rt; av_types::Place::new(4095).index, 4095);
     let cases = [
         (Wet::Dry, 0, false),
         (Wet::Source, 8, true),

@@ -1,0 +1,11 @@
+//! Tests of the lowest crates by their public calls: places and faults, packed entries, regions, and lists of scheduled ticks.
+#![tactic(auto)]
+
+#[cfg(test)]
+mod pack;
+#[cfg(test)]
+mod region;
+#[cfg(test)]
+mod ticks;
+#[cfg(test)]
+mod types;

@@ -1,0 +1,12 @@
+//! Tests of words, of surveys of region files, of what the commands print, and of files handed to a sink, by the public calls of
+//! their crates.
+#![tactic(auto)]
+
+#[cfg(test)]
+mod lines;
+#[cfg(test)]
+mod sink;
+#[cfg(test)]
+mod survey;
+#[cfg(test)]
+mod words;
