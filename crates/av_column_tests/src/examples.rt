@@ -1,7 +1,7 @@
 //! The rule's examples on a small flat world: stone at y 63 and air elsewhere.
-use av_column::Column;
 use arrayvec::ArrayVec;
 use av_cells::{Cells, can_enter, has_hole, kind_at, set_awake};
+use av_column::Column;
 use av_drop::drop_distance;
 use av_rules::{Kinds, Rules};
 use av_state::{Property, State, StateTable};
