@@ -3,16 +3,22 @@ use av_rules::{Kinds, Row, Rules};
 use av_state::{Property, State, StateTable};
 use av_types::{Fault, Wet};
 use std::alloc::Global;
+use std::process::Abort;
 use std::test::Fail;
+
+/// A property of a key and a value.
+fn property(alloc: Global, key: &str, value: &str) -> Result<Property, Fault> {
+    Ok(Property {
+        key: Vec::from_slice(alloc, key.as_bytes())?,
+        value: Vec::from_slice(alloc, value.as_bytes())?,
+    })
+}
 
 /// A state of a name, and of keys and values.
 fn state(alloc: Global, name: &str, pairs: &[(&str, &str)]) -> Result<State, Fault> {
     let mut properties = Vec::new(alloc);
     for (key, value) in pairs {
-        properties.push(Property {
-            key: Vec::from_slice(alloc, key.as_bytes())?,
-            value: Vec::from_slice(alloc, value.as_bytes())?,
-        })?;
+        properties.push(property(alloc, *key, *value)?)?;
     }
     State::new(Vec::from_slice(alloc, name.as_bytes())?, properties)?.ok_or(Fault::BadPalette)
 }
@@ -27,19 +33,46 @@ fn row(opens: bool, floor: bool, opacity: u8, emission: u8) -> Row {
     }
 }
 
+/// The state of a name has this row.
+fn expect_row(
+    rt: &impl Abort,
+    alloc: Global,
+    rules: &Rules,
+    name: &str,
+    want: Row,
+) -> Result<(), Fault> {
+    let state = state(alloc, name, &[])?;
+    assert_eq!(rt; rules.row(&state), want, "{name}");
+    Ok(())
+}
+
+/// The table of this text is of a world of this height.
+fn expect_height(
+    rt: &impl Abort,
+    alloc: Global,
+    text: &[u8],
+    min_section: i32,
+    sections: u32,
+) -> Result<(), Fault> {
+    let height = Rules::read(alloc, text)?.height();
+    assert_eq!(rt;
+        (height.min_section, height.sections),
+        (min_section, sections)
+    );
+    Ok(())
+}
+
 #[test]
 fn a_bare_table(rt: HostRuntime) -> Result<(), Fail> {
-    let alloc = rt.alloc();
-    let rules = Rules::read(alloc, b"version = 1")?;
-    assert_eq!(rt; rules.height().min_section, -4);
-    assert_eq!(rt; rules.height().sections, 24);
+    expect_height(&rt, rt.alloc(), b"version = 1", -4, 24)?;
+    let rules = Rules::read(rt.alloc(), b"version = 1")?;
     let rows = [
         ("minecraft:air", row(true, false, 0, 0)),
         ("minecraft:water", row(false, false, 1, 0)),
         ("minecraft:stone", row(false, true, 15, 0)),
     ];
     for (name, want) in &rows {
-        assert_eq!(rt; rules.row(&state(alloc, *name, &[])?), *want, "{name}");
+        expect_row(&rt, rt.alloc(), &rules, *name, *want)?;
     }
     Ok(())
 }
@@ -86,26 +119,32 @@ properties = { lit = \"true\" }
     ),
 ];
 
+/// The emission of a furnace by a table.
+fn furnace_emission(alloc: Global, rules: &Rules, pairs: &[(&str, &str)]) -> Result<u8, Fault> {
+    let furnace = state(alloc, "minecraft:furnace", pairs)?;
+    Ok(rules.row(&furnace).emission)
+}
+
 #[test]
 fn the_first_row_counts(rt: HostRuntime) -> Result<(), Fail> {
     let alloc = rt.alloc();
-    let lit = state(
-        alloc,
-        "minecraft:furnace",
-        &[("facing", "north"), ("lit", "true")],
-    )?;
-    let unlit = state(alloc, "minecraft:furnace", &[("lit", "false")])?;
     for (text, want, want_unlit) in FURNACES {
         let rules = Rules::read(alloc, text)?;
-        assert_eq!(rt; rules.row(&lit).emission, want);
-        assert_eq!(rt; rules.row(&unlit).emission, want_unlit);
+        let lit = furnace_emission(alloc, &rules, &[("facing", "north"), ("lit", "true")])?;
+        let unlit = furnace_emission(alloc, &rules, &[("lit", "false")])?;
+        assert_eq!(rt; (lit, unlit), (want, want_unlit));
     }
     Ok(())
 }
 
+/// A table of this text is refused.
+fn expect_refused(rt: &impl Abort, alloc: Global, text: &[u8], which: &str) {
+    let fault = Rules::read(alloc, text).err();
+    assert!(rt; fault == Some(Fault::BadTable), "{which}");
+}
+
 #[test]
 fn refuses_other_tables(rt: HostRuntime) -> Result<(), Fail> {
-    let alloc = rt.alloc();
     let documents: [&[u8]; 17] = [
         b"",
         b"version = 4",
@@ -126,13 +165,31 @@ fn refuses_other_tables(rt: HostRuntime) -> Result<(), Fail> {
         b"version",
     ];
     for (number, text) in documents.iter().enumerate() {
-        assert!(rt;
-            Rules::read(alloc, *text).err() == Some(Fault::BadTable),
-            "document {number}"
-        );
+        let which = format!(in rt.alloc(); "document {number}")?;
+        expect_refused(&rt, rt.alloc(), *text, which.as_str());
     }
-    let row = "version = 1\n[[block]]\nname = \"a:b\"\nopen = true\nfloor = false\n";
-    let rest = [
+    Ok(())
+}
+
+/// A table of one row, of a block of this name, with these lines.
+fn one_row(alloc: Global, name: &str, rest: &str) -> Result<String, Fault> {
+    Ok(format!(in alloc; "version = 1\n[[block]]\nname = \"{name}\"\n{rest}")?)
+}
+
+/// A row of a block of this name, with these lines, is refused.
+fn expect_refused_row(rt: &impl Abort, alloc: Global, name: &str, rest: &str) -> Result<(), Fault> {
+    let document = one_row(alloc, name, rest)?;
+    let fault = Rules::read(alloc, document.as_bytes()).err();
+    assert!(rt; fault == Some(Fault::BadTable), "{name} {rest}");
+    Ok(())
+}
+
+/// A row that is open and no floor.
+const OPEN: &str = "open = true\nfloor = false\nopacity = 0\nemission = 0";
+
+#[test]
+fn refuses_other_rows(rt: HostRuntime) -> Result<(), Fail> {
+    let rests = [
         "opacity = 16\nemission = 0",
         "opacity = -1\nemission = 0",
         "opacity = 0\nemission = 1.0",
@@ -142,38 +199,31 @@ fn refuses_other_tables(rt: HostRuntime) -> Result<(), Fail> {
         "opacity = 0\nemission = 0\nproperties = { lit = true }",
         "opacity = 0",
     ];
-    for text in &rest {
-        let document = format!(in alloc; "{row}{text}")?;
-        assert!(rt;
-            Rules::read(alloc, document.as_bytes()).err() == Some(Fault::BadTable),
-            "{text}"
-        );
-    }
-    let good = format!(in alloc; "{row}opacity = 0\nemission = 0")?;
-    assert!(rt; Rules::read(alloc, good.as_bytes()).is_ok());
-    for name in ["minecraft:water", "minecraft:air"] {
-        let rest = "open = true\nfloor = false\nopacity = 0\nemission = 0";
-        let document = format!(in alloc; "version = 1\n[[block]]\nname = \"{name}\"\n{rest}")?;
-        assert!(rt;
-            Rules::read(alloc, document.as_bytes()).err() == Some(Fault::BadTable),
-            "{name}"
-        );
+    for text in &rests {
+        let rest = format!(in rt.alloc(); "open = true\nfloor = false\n{text}")?;
+        expect_refused_row(&rt, rt.alloc(), "a:b", rest.as_str())?;
     }
     let open = "open = \"true\"\nfloor = false\nopacity = 0\nemission = 0";
-    let document = format!(in alloc; "version = 1\n[[block]]\nname = \"a:b\"\n{open}")?;
-    assert!(rt; Rules::read(alloc, document.as_bytes()).err() == Some(Fault::BadTable));
+    expect_refused_row(&rt, rt.alloc(), "a:b", open)?;
+    Ok(())
+}
+
+#[test]
+fn refuses_rows_of_water_and_air(rt: HostRuntime) -> Result<(), Fail> {
+    let good = one_row(rt.alloc(), "a:b", OPEN)?;
+    assert!(rt; Rules::read(rt.alloc(), good.as_bytes()).is_ok());
+    for name in ["minecraft:water", "minecraft:air"] {
+        expect_refused_row(&rt, rt.alloc(), name, OPEN)?;
+    }
     Ok(())
 }
 
 #[test]
 fn reads_the_height(rt: HostRuntime) -> Result<(), Fail> {
-    let alloc = rt.alloc();
-    let rules = Rules::read(alloc, b"version = 3\nmin_section = 63\nsections = 1")?;
-    assert_eq!(rt; rules.height().min_section, 63);
-    assert_eq!(rt; rules.height().sections, 1);
-    let rules = Rules::read(alloc, b"version = 3\nmin_section = -64\nsections = 64")?;
-    assert_eq!(rt; rules.height().min_section, -64);
-    assert_eq!(rt; rules.height().sections, 64);
+    let high = b"version = 3\nmin_section = 63\nsections = 1";
+    expect_height(&rt, rt.alloc(), high, 63, 1)?;
+    let tall = b"version = 3\nmin_section = -64\nsections = 64";
+    expect_height(&rt, rt.alloc(), tall, -64, 64)?;
     Ok(())
 }
 
@@ -199,43 +249,73 @@ const SOAKED: [(&str, &str, [Wet; 3]); 5] = [
     ),
 ];
 
-#[test]
-fn soaked_states_are_sources(rt: HostRuntime) -> Result<(), Fail> {
-    let alloc = rt.alloc();
+/// A table gives a state this number.
+fn expect_number(rt: &impl Abort, table: &mut StateTable, state: &State, want: u16) {
+    assert_eq!(rt; table.intern(state), Ok(want));
+}
+
+/// A table in which the slab with `waterlogged=true` is number 10, the one with `waterlogged=false` 11 and kelp 12.
+fn soaked_table(rt: &impl Abort, alloc: Global) -> Result<StateTable, Fault> {
+    let mut table = StateTable::new(alloc)?;
+    for (number, logged) in [(10, "true"), (11, "false")] {
+        let pairs = [("type", "bottom"), ("waterlogged", logged)];
+        let slab = state(alloc, "minecraft:oak_slab", &pairs)?;
+        expect_number(rt, &mut table, &slab, number);
+    }
+    let kelp = state(alloc, "minecraft:kelp", &[])?;
+    expect_number(rt, &mut table, &kelp, 12);
+    Ok(table)
+}
+
+/// Rules of a table's begin and a row of kelp, with this line.
+fn kelp_rules(alloc: Global, begin: &str, line: &str) -> Result<Rules, Fault> {
     let kelp =
         "[[block]]\nname = \"minecraft:kelp\"\nopen = false\nfloor = false\nopacity = 1\nemission = 0\n";
-    for (begin, wet, wants) in &SOAKED {
-        let document = format!(in alloc; "{begin}\n{kelp}{wet}")?;
-        let rules = Rules::read(alloc, document.as_bytes())?;
-        let mut table = StateTable::new(alloc)?;
-        for (number, logged) in [(10, "true"), (11, "false")] {
-            let pairs = [("type", "bottom"), ("waterlogged", logged)];
-            let slab = state(alloc, "minecraft:oak_slab", &pairs)?;
-            assert_eq!(rt; table.intern(&slab), Ok(number));
-        }
-        let kelp = state(alloc, "minecraft:kelp", &[])?;
-        assert_eq!(rt; table.intern(&kelp), Ok(12));
-        let kinds = Kinds::new(alloc, table, &rules)?;
-        assert!(rt; kinds.table().len() == 13);
-        assert_eq!(rt; kinds.count(), 13);
-        for (number, want) in [
-            (1, Wet::Source),
-            (9, Wet::Falling),
-            (10, wants[0]),
-            (11, wants[1]),
-            (12, wants[2]),
-        ] {
-            assert!(rt; (number as usize) < kinds.count());
-            assert_eq!(rt; kinds.wet(number), want, "{begin} {wet}, {number}");
-            assert_eq!(rt; kinds.row(number).wet, number > 9 && want == Wet::Source);
-        }
+    let document = format!(in alloc; "{begin}\n{kelp}{line}")?;
+    Rules::read(alloc, document.as_bytes())
+}
+
+/// The kind of a number is so wet, and of the states beside the first ten the row of each source is soaked.
+fn expect_wet(rt: &impl Abort, kinds: &Kinds, number: u16, want: Wet) {
+    assert!(rt; (number as usize) < kinds.count());
+    assert_eq!(rt; kinds.wet(number), want, "number {number}");
+    let is_soaked = number > 9 && want == Wet::Source;
+    assert_eq!(rt; kinds.row(number).wet, is_soaked, "number {number}");
+}
+
+/// The kinds of `soaked_table` by these rules: those of the two slabs and of kelp are so wet.
+fn expect_wets(
+    rt: &impl Abort,
+    alloc: Global,
+    rules: &Rules,
+    wants: [Wet; 3],
+) -> Result<(), Fault> {
+    let kinds = Kinds::new(alloc, soaked_table(rt, alloc)?, rules)?;
+    assert_eq!(rt; (kinds.table().len(), kinds.count()), (13, 13));
+    let [logged, dry, kelp] = wants;
+    for (number, want) in [
+        (1, Wet::Source),
+        (9, Wet::Falling),
+        (10, logged),
+        (11, dry),
+        (12, kelp),
+    ] {
+        expect_wet(rt, &kinds, number, want);
+    }
+    Ok(())
+}
+
+#[test]
+fn soaked_states_are_sources(rt: HostRuntime) -> Result<(), Fail> {
+    for (begin, line, wants) in &SOAKED {
+        let rules = kelp_rules(rt.alloc(), *begin, *line)?;
+        expect_wets(&rt, rt.alloc(), &rules, *wants)?;
     }
     Ok(())
 }
 
 #[test]
 fn reads_the_shipped_table(rt: HostRuntime) -> Result<(), Fail> {
-    let alloc = rt.alloc();
     let rows = [
         ("cave_air", row(true, false, 0, 0)),
         ("void_air", row(true, false, 0, 0)),
@@ -251,14 +331,10 @@ fn reads_the_shipped_table(rt: HostRuntime) -> Result<(), Fail> {
         ("lava", row(false, false, 1, 15)),
         ("stone", row(false, true, 15, 0)),
     ];
-    let rules = Rules::read(alloc, SHIPPED.as_bytes())?;
+    let rules = Rules::read(rt.alloc(), SHIPPED.as_bytes())?;
     for (name, want) in &rows {
-        let name = format!(in alloc; "minecraft:{name}")?;
-        assert_eq!(rt;
-            rules.row(&state(alloc, name.as_str(), &[])?),
-            *want,
-            "{name}"
-        );
+        let name = format!(in rt.alloc(); "minecraft:{name}")?;
+        expect_row(&rt, rt.alloc(), &rules, name.as_str(), *want)?;
     }
     Ok(())
 }
