@@ -1,8 +1,10 @@
 //! Blocks of small regions, written by hand.
+use crate::parts::{fault_of, region};
 use av_chunk::block_at;
 use av_state::State;
 use av_types::{Fault, Height, Pos, RegionPos};
 use std::alloc::{AllocError, Global};
+use std::process::Abort;
 use std::test::Fail;
 
 /// The root's begin: `xPos` and `zPos` of -1.
@@ -63,36 +65,19 @@ fn joined(alloc: Global, parts: &[&[u8]]) -> Result<Vec<u8>, AllocError> {
     Ok(bytes)
 }
 
-/// The region of the chunk (-1, -1) alone, in all the sectors that a chunk can have, with that payload.
-fn region_of(alloc: Global, payload: &[u8]) -> Result<Vec<u8>, Fail> {
-    let mut file = vec![in alloc; 0u8; 4092]?;
-    file.extend_from_slice(&[0, 0, 2, 255])?;
-    file.resize(8192, 0)?;
-    let length = u32::try_from(payload.len())?.saturating_add(1);
-    file.extend_from_slice(&length.to_be_bytes())?;
-    file.push(3)?;
-    file.extend_from_slice(payload)?;
-    Ok(file)
-}
-
-/// A section with a palette of so many entries, all but the first of which are `last`, and so many longs of 8 bytes.
-fn payload_of(
-    alloc: Global,
-    count: u8,
-    last: &[u8],
-    longs: u16,
-    fill: u8,
-) -> Result<Vec<u8>, Fail> {
-    let mut payload = Vec::from_slice(alloc, PLACE)?;
-    payload.extend_from_slice(FULL)?;
-    payload.extend_from_slice(SECTIONS)?;
-    payload.extend_from_slice(FOURTH)?;
+/// A palette of so many entries, all but the first of which are `last`.
+fn push_palette(payload: &mut Vec<u8>, count: u8, last: &[u8]) -> Result<(), AllocError> {
     payload.extend_from_slice(b"\x09\x00\x07palette\x0a\x00\x00\x00")?;
     payload.push(count)?;
     payload.extend_from_slice(AIR)?;
     for _ in 1..count {
         payload.extend_from_slice(last)?;
     }
+    Ok(())
+}
+
+/// `data` of so many longs of 8 bytes.
+fn push_longs(payload: &mut Vec<u8>, longs: u16, fill: u8) -> Result<(), AllocError> {
     payload.extend_from_slice(b"\x0c\x00\x04data\x00\x00")?;
     payload.extend_from_slice(&longs.to_be_bytes())?;
     for index in 0..longs {
@@ -100,8 +85,22 @@ fn payload_of(
         let first = if index == 15 { 0x10 } else { fill };
         payload.extend_from_slice(&[first, 0, 0, 0, 0, 0, 0, 0])?;
     }
+    Ok(())
+}
+
+/// The region of a chunk with one section, of such a palette and such longs.
+fn region_of(
+    alloc: Global,
+    count: u8,
+    last: &[u8],
+    longs: u16,
+    fill: u8,
+) -> Result<Vec<u8>, AllocError> {
+    let mut payload = joined(alloc, &[PLACE, FULL, SECTIONS, FOURTH])?;
+    push_palette(&mut payload, count, last)?;
+    push_longs(&mut payload, longs, fill)?;
     payload.extend_from_slice(ENDS)?;
-    Ok(payload)
+    region(alloc, &payload)
 }
 
 fn found(alloc: Global, file: &[u8], x: i32, y: i32) -> Result<Option<State>, Fault> {
@@ -130,160 +129,185 @@ fn is_refused(found: &Result<Option<State>, Fault>, fault: &Fault) -> bool {
     }
 }
 
+/// The block at (x, y, -1) of a region's file has a state of this name.
+fn expect_named(rt: &impl Abort, alloc: Global, file: &[u8], x: i32, y: i32, name: &[u8]) {
+    assert!(rt; is_named(&found(alloc, file, x, y), name));
+}
+
+/// The block at (x, y, -1) of a region's file is of no chunk that is full.
+fn expect_unloaded(rt: &impl Abort, alloc: Global, file: &[u8], x: i32, y: i32) {
+    assert!(rt; is_unloaded(&found(alloc, file, x, y)));
+}
+
+/// The block at (-1, y, -1) of a region's file is refused with this fault.
+fn expect_refused(rt: &impl Abort, alloc: Global, file: &[u8], y: i32, fault: &Fault) {
+    assert!(rt; is_refused(&found(alloc, file, -1, y), fault));
+}
+
 #[test]
 fn empty_and_short_files(rt: HostRuntime) -> Result<(), Fail> {
-    for len in [0, 8192] {
-        let file = vec![in rt.alloc(); 0u8; len]?;
-        assert!(rt; is_unloaded(&found(rt.alloc(), &file, -1, 64)));
+    for length in [0, 8192] {
+        let file = vec![in rt.alloc(); 0u8; length]?;
+        expect_unloaded(&rt, rt.alloc(), &file, -1, 64);
     }
     let file = vec![in rt.alloc(); 0u8; 100]?;
-    assert!(rt; is_refused(&found(rt.alloc(), &file, -1, 64), &Fault::ShortHeader));
+    expect_refused(&rt, rt.alloc(), &file, 64, &Fault::ShortHeader);
     Ok(())
 }
 
 #[test]
 fn states_of_a_palette(rt: HostRuntime) -> Result<(), Fail> {
-    let payload = payload_of(rt.alloc(), 2, STONE, 256, 0)?;
-    let file = region_of(rt.alloc(), &payload)?;
-    assert!(rt; is_named(&found(rt.alloc(), &file, -1, 64), b"minecraft:stone"));
-    assert!(rt; is_named(&found(rt.alloc(), &file, -2, 64), b"minecraft:air"));
+    let file = region_of(rt.alloc(), 2, STONE, 256, 0)?;
+    expect_named(&rt, rt.alloc(), &file, -1, 64, b"minecraft:stone");
+    expect_named(&rt, rt.alloc(), &file, -2, 64, b"minecraft:air");
     // a missing section is air, and out of the height and out of the region nothing is loaded
-    assert!(rt; is_named(&found(rt.alloc(), &file, -1, 0), b"minecraft:air"));
-    assert!(rt; is_unloaded(&found(rt.alloc(), &file, -1, 320)));
-    assert!(rt; is_unloaded(&found(rt.alloc(), &file, 1, 64)));
+    expect_named(&rt, rt.alloc(), &file, -1, 0, b"minecraft:air");
+    expect_unloaded(&rt, rt.alloc(), &file, -1, 320);
+    expect_unloaded(&rt, rt.alloc(), &file, 1, 64);
     Ok(())
 }
 
+/// Bits that hold no index are ignored: with 17 entries an index has 5 bits, and 12 of them leave 4 bits.
+#[test]
+fn bits_of_no_index_are_ignored(rt: HostRuntime) -> Result<(), Fail> {
+    let file = region_of(rt.alloc(), 17, STONE, 342, 0xf0)?;
+    expect_named(&rt, rt.alloc(), &file, -1, 64, b"minecraft:air");
+    Ok(())
+}
+
+/// 255 longs, and an index beyond a palette of one entry; a fault counts whatever the y is.
 #[test]
 fn palettes_and_longs(rt: HostRuntime) -> Result<(), Fail> {
-    // bits that hold no index are ignored: with 17 entries an index has 5 bits, and 12 of them leave 4 bits
-    let payload = payload_of(rt.alloc(), 17, STONE, 342, 0xf0)?;
-    let file = region_of(rt.alloc(), &payload)?;
-    assert!(rt; is_named(&found(rt.alloc(), &file, -1, 64), b"minecraft:air"));
-    // 255 longs, and an index beyond a palette of one entry; a fault counts whatever the y is
-    for (count, last, longs, fault) in [
-        (2, STONE, 255, Fault::BadPacked),
-        (1, STONE, 256, Fault::BadPacked),
-        (2, WATER_17, 256, Fault::BadWaterLevel),
-        (2, WATER_17, 255, Fault::BadPacked),
-    ] {
-        let payload = payload_of(rt.alloc(), count, last, longs, 0)?;
-        let file = region_of(rt.alloc(), &payload)?;
-        assert!(rt; is_refused(&found(rt.alloc(), &file, -1, 320), &fault));
+    for (count, last, longs) in [(2, STONE, 255), (1, STONE, 256), (2, WATER_17, 255)] {
+        let file = region_of(rt.alloc(), count, last, longs, 0)?;
+        expect_refused(&rt, rt.alloc(), &file, 320, &Fault::BadPacked);
     }
+    let file = region_of(rt.alloc(), 2, WATER_17, 256, 0)?;
+    expect_refused(&rt, rt.alloc(), &file, 320, &Fault::BadWaterLevel);
+    Ok(())
+}
+
+/// A chunk of this payload is refused with this fault.
+fn expect_bad(rt: &impl Abort, alloc: Global, payload: &[u8], fault: &Fault) -> Result<(), Fail> {
+    let file = region(alloc, payload)?;
+    expect_refused(rt, alloc, &file, 64, fault);
     Ok(())
 }
 
 #[test]
 fn chunks_that_are_not_read(rt: HostRuntime) -> Result<(), Fail> {
-    let cases: [(&[u8], Fault); 4] = [
-        (b"\x0a\x00\x00\x00", Fault::BadChunk),
-        (b"\x0a\x00\x00", Fault::BadNbt),
-        (b"\x0a\x00\x00\x01\x00\x05Level\x00\x00", Fault::OldLayout),
-        (
-            b"\x0a\x00\x00\x08\x00\x06Status\x00\x04full\x00",
-            Fault::BadChunk,
-        ),
-    ];
-    for (payload, fault) in cases {
-        let file = region_of(rt.alloc(), payload)?;
-        assert!(rt; is_refused(&found(rt.alloc(), &file, -1, 64), &fault));
+    let no_status: &[u8] = b"\x0a\x00\x00\x00";
+    let no_place: &[u8] = b"\x0a\x00\x00\x08\x00\x06Status\x00\x04full\x00";
+    let old: &[u8] = b"\x0a\x00\x00\x01\x00\x05Level\x00\x00";
+    for payload in [no_status, no_place] {
+        expect_bad(&rt, rt.alloc(), payload, &Fault::BadChunk)?;
     }
-    let kept = region_of(
-        rt.alloc(),
-        b"\x0a\x00\x00\x08\x00\x06Status\x00\x05empty\x00",
-    )?;
-    assert!(rt; is_unloaded(&found(rt.alloc(), &kept, -1, 64)));
-    Ok(())
+    expect_bad(&rt, rt.alloc(), b"\x0a\x00\x00", &Fault::BadNbt)?;
+    expect_bad(&rt, rt.alloc(), old, &Fault::OldLayout)
 }
 
-/// The fault of a chunk, with the parts of its document.
-fn fault_of(alloc: Global, parts: &[&[u8]]) -> Result<Option<Fault>, Fail> {
-    let file = region_of(alloc, &joined(alloc, parts)?)?;
-    Ok(found(alloc, &file, -1, 64).err())
-}
-
-/// Of several faults the first by its number is answered, wherever its cause stands.
 #[test]
-fn the_first_fault_is_answered(rt: HostRuntime) -> Result<(), Fail> {
+fn a_chunk_that_is_not_full_is_not_loaded(rt: HostRuntime) -> Result<(), Fail> {
+    let empty = b"\x0a\x00\x00\x08\x00\x06Status\x00\x05empty\x00";
+    let kept = region(rt.alloc(), empty)?;
+    expect_unloaded(&rt, rt.alloc(), &kept, -1, 64);
+    Ok(())
+}
+
+/// A chunk of these parts is refused with this fault. Of several faults the first by its number is answered, wherever
+/// its cause stands.
+fn expect_first(
+    rt: &impl Abort,
+    alloc: Global,
+    parts: &[&[u8]],
+    fault: &Fault,
+) -> Result<(), Fail> {
+    let payload = joined(alloc, parts)?;
+    expect_bad(rt, alloc, &payload, fault)
+}
+
+#[test]
+fn a_wrong_place_comes_after_a_missing_list(rt: HostRuntime) -> Result<(), Fail> {
     let alloc = rt.alloc();
-    let cases: [(&[&[u8]], Fault); 10] = [
-        (&[OTHER_PLACE, FULL, NO_SECTIONS, END], Fault::WrongPlace),
-        (&[OTHER_PLACE, FULL, END], Fault::BadChunk),
-        (
-            &[OTHER_PLACE, FULL, SECTIONS, FOURTH, PALETTE, NAMELESS, ENDS],
-            Fault::WrongPlace,
-        ),
-        (
-            &[PLACE, FULL, SECTIONS, FOURTH, PALETTE, NAMELESS, ENDS],
-            Fault::BadPalette,
-        ),
-        (
-            &[
-                PLACE,
-                FULL,
-                TWO_SECTIONS,
-                THIRD,
-                PALETTE,
-                AIR,
-                ONE_LONG,
-                END,
-                END,
-                FOURTH,
-                PALETTE,
-                NAMELESS,
-                ENDS,
-            ],
-            Fault::BadPalette,
-        ),
-        (
-            &[PLACE, FULL, TICK_OUTSIDE, NO_SECTIONS, END],
-            Fault::BadTick,
-        ),
-        (
-            &[PLACE, FULL, TICK_OF_NOTHING, NO_SECTIONS, END],
-            Fault::BadTick,
-        ),
-        (
-            &[
-                PLACE,
-                FULL,
-                TICK_OUTSIDE,
-                SECTIONS,
-                FOURTH,
-                PALETTE,
-                AIR,
-                ONE_LONG,
-                ENDS,
-            ],
-            Fault::BadPacked,
-        ),
-        (
-            &[
-                PLACE,
-                FULL,
-                TICK_OF_NOTHING,
-                SECTIONS,
-                FOURTH,
-                PALETTE,
-                WATER_17,
-                ENDS,
-            ],
-            Fault::BadTick,
-        ),
-        (
-            &[PLACE, FULL, SECTIONS, FOURTH, PALETTE, WATER_17, ENDS],
-            Fault::BadWaterLevel,
-        ),
+    let parts = [OTHER_PLACE, FULL, NO_SECTIONS, END];
+    expect_first(&rt, alloc, parts.as_slice(), &Fault::WrongPlace)?;
+    let parts = [OTHER_PLACE, FULL, END];
+    expect_first(&rt, alloc, parts.as_slice(), &Fault::BadChunk)
+}
+
+#[test]
+fn a_bad_palette_comes_after_a_wrong_place(rt: HostRuntime) -> Result<(), Fail> {
+    let alloc = rt.alloc();
+    let parts = [OTHER_PLACE, FULL, SECTIONS, FOURTH, PALETTE, NAMELESS, ENDS];
+    expect_first(&rt, alloc, parts.as_slice(), &Fault::WrongPlace)?;
+    let parts = [PLACE, FULL, SECTIONS, FOURTH, PALETTE, NAMELESS, ENDS];
+    expect_first(&rt, alloc, parts.as_slice(), &Fault::BadPalette)
+}
+
+#[test]
+fn a_bad_palette_comes_before_bad_longs(rt: HostRuntime) -> Result<(), Fail> {
+    let parts = [
+        PLACE,
+        FULL,
+        TWO_SECTIONS,
+        THIRD,
+        PALETTE,
+        AIR,
+        ONE_LONG,
+        END,
+        END,
+        FOURTH,
+        PALETTE,
+        NAMELESS,
+        ENDS,
     ];
-    for (parts, fault) in cases {
-        assert_eq!(rt; fault_of(alloc, parts)?, Some(fault));
+    expect_first(&rt, rt.alloc(), parts.as_slice(), &Fault::BadPalette)
+}
+
+#[test]
+fn ticks_out_of_the_chunk_and_of_nothing(rt: HostRuntime) -> Result<(), Fail> {
+    for tick in [TICK_OUTSIDE, TICK_OF_NOTHING] {
+        let parts = [PLACE, FULL, tick, NO_SECTIONS, END];
+        expect_first(&rt, rt.alloc(), parts.as_slice(), &Fault::BadTick)?;
     }
     Ok(())
+}
+
+#[test]
+fn bad_longs_come_before_a_bad_tick(rt: HostRuntime) -> Result<(), Fail> {
+    let parts = [
+        PLACE,
+        FULL,
+        TICK_OUTSIDE,
+        SECTIONS,
+        FOURTH,
+        PALETTE,
+        AIR,
+        ONE_LONG,
+        ENDS,
+    ];
+    expect_first(&rt, rt.alloc(), parts.as_slice(), &Fault::BadPacked)
+}
+
+#[test]
+fn a_bad_tick_comes_before_a_bad_level(rt: HostRuntime) -> Result<(), Fail> {
+    let parts = [
+        PLACE,
+        FULL,
+        TICK_OF_NOTHING,
+        SECTIONS,
+        FOURTH,
+        PALETTE,
+        WATER_17,
+        ENDS,
+    ];
+    expect_first(&rt, rt.alloc(), parts.as_slice(), &Fault::BadTick)?;
+    let parts = [PLACE, FULL, SECTIONS, FOURTH, PALETTE, WATER_17, ENDS];
+    expect_first(&rt, rt.alloc(), parts.as_slice(), &Fault::BadWaterLevel)
 }
 
 /// Palette entries with names of two bytes, so many from a number on.
-fn push_states(payload: &mut Vec<u8>, first: u16, count: u16) -> Result<(), Fail> {
+fn push_states(payload: &mut Vec<u8>, first: u16, count: u16) -> Result<(), AllocError> {
     let mut name = first;
     for _ in 0..count {
         payload.extend_from_slice(b"\x08\x00\x04Name\x00\x02")?;
@@ -295,64 +319,90 @@ fn push_states(payload: &mut Vec<u8>, first: u16, count: u16) -> Result<(), Fail
 }
 
 /// The begin of a section of a number, and of a palette of so many entries.
-fn push_section(payload: &mut Vec<u8>, y: u8, count: u16) -> Result<(), Fail> {
+fn push_section(payload: &mut Vec<u8>, y: u8, count: u16) -> Result<(), AllocError> {
     payload.extend_from_slice(&[1, 0, 1, b'Y', y])?;
     payload.extend_from_slice(b"\x0a\x00\x0cblock_states\x09\x00\x07palette\x0a\x00\x00")?;
     payload.extend_from_slice(&count.to_be_bytes())?;
     Ok(())
 }
 
-/// 16 sections: 15 of 4,096 states each, and one of so many and then the last. No name comes twice.
-fn crowded(alloc: Global, count: u16, last: &[u8]) -> Result<Vec<u8>, Fail> {
-    // 820 longs
-    let mut data = Vec::from_slice(alloc, b"\x0c\x00\x04data\x00\x00\x03\x34")?;
-    data.resize(6571, 0)?;
-    data.extend_from_slice(&[0, 0])?;
-    let mut payload = joined(
-        alloc,
-        &[PLACE, FULL, b"\x09\x00\x08sections\x0a\x00\x00\x00\x10"],
-    )?;
+/// `data` of 820 longs of 0, and the ends of `block_states` and of the section.
+fn push_zeros(payload: &mut Vec<u8>) -> Result<(), AllocError> {
+    payload.extend_from_slice(b"\x0c\x00\x04data\x00\x00\x03\x34")?;
+    for _ in 0..820 {
+        payload.extend_from_slice(&[0; 8])?;
+    }
+    payload.extend_from_slice(&[0, 0])
+}
+
+/// The begin of a chunk of 16 sections, with 15 of them, of 4,096 states each.
+fn full_sections(alloc: Global) -> Result<Vec<u8>, AllocError> {
+    let sixteen = b"\x09\x00\x08sections\x0a\x00\x00\x00\x10";
+    let mut payload = joined(alloc, &[PLACE, FULL, sixteen])?;
     let mut name = 0u16;
     for y in 0..15 {
         push_section(&mut payload, y, 4096)?;
         push_states(&mut payload, name, 4096)?;
-        payload.extend_from_slice(&data)?;
+        push_zeros(&mut payload)?;
         name = name.wrapping_add(4096);
     }
+    Ok(payload)
+}
+
+/// 16 sections: 15 of 4,096 states each, and one of so many and then the last. No name comes twice.
+fn crowded(alloc: Global, count: u16, last: &[u8], rest: &[u8]) -> Result<Vec<u8>, AllocError> {
+    let mut payload = full_sections(alloc)?;
     push_section(&mut payload, 15, count.saturating_add(1))?;
-    push_states(&mut payload, name, count)?;
+    // 15 times 4,096 names were before
+    push_states(&mut payload, 61440, count)?;
     payload.extend_from_slice(last)?;
-    payload.extend_from_slice(&data)?;
+    push_zeros(&mut payload)?;
+    payload.extend_from_slice(rest)?;
     payload.push(0)?;
     Ok(payload)
+}
+
+/// A crowded chunk is refused with this fault.
+fn expect_crowded(
+    rt: &impl Abort,
+    alloc: Global,
+    count: u16,
+    last: &[u8],
+    rest: &[u8],
+    want: &Fault,
+) -> Result<(), AllocError> {
+    let payload = crowded(alloc, count, last, rest)?;
+    let fault = fault_of(alloc, &payload)?;
+    assert!(rt; fault.as_ref() == Some(want));
+    Ok(())
 }
 
 /// A table begins with ten states, so 65,525 more are as many as it has.
 #[test]
 fn states_can_be_too_many(rt: HostRuntime) -> Result<(), Fail> {
-    let alloc = rt.alloc();
-    let cases = [
-        (4085, AIR, None),
-        (4085, STONE, Some(Fault::TooManyStates)),
-        (4086, WATER_17, Some(Fault::BadWaterLevel)),
-    ];
-    for (count, last, fault) in cases {
-        let file = region_of(alloc, &crowded(alloc, count, last)?)?;
-        assert_eq!(rt; found(alloc, &file, -1, 64).err(), fault);
-    }
+    let most = crowded(rt.alloc(), 4085, AIR, &[])?;
+    let fault = fault_of(rt.alloc(), &most)?;
+    assert!(rt; fault.is_none());
+    expect_crowded(&rt, rt.alloc(), 4085, STONE, &[], &Fault::TooManyStates)?;
+    Ok(())
+}
+
+#[test]
+fn a_bad_level_comes_before_too_many_states(rt: HostRuntime) -> Result<(), Fail> {
+    expect_crowded(&rt, rt.alloc(), 4086, WATER_17, &[], &Fault::BadWaterLevel)?;
     Ok(())
 }
 
 /// A bad tick comes before one state too many.
 #[test]
 fn a_bad_tick_comes_before_too_many_states(rt: HostRuntime) -> Result<(), Fail> {
-    let alloc = rt.alloc();
-    let mut payload = crowded(alloc, 4085, STONE)?;
-    // in the place of the root's end
-    payload.truncate(payload.len().saturating_sub(1));
-    payload.extend_from_slice(TICK_OF_NOTHING)?;
-    payload.push(0)?;
-    let file = region_of(alloc, &payload)?;
-    assert_eq!(rt; found(alloc, &file, -1, 64).err(), Some(Fault::BadTick));
+    expect_crowded(
+        &rt,
+        rt.alloc(),
+        4085,
+        STONE,
+        TICK_OF_NOTHING,
+        &Fault::BadTick,
+    )?;
     Ok(())
 }

@@ -315,17 +315,22 @@ fn full(alloc: Global, bytes: &[u8], height: Height) -> Result<Chunk, Fail> {
     }
 }
 
-/// The one entry of a chunk of the game's height is pending in the section of this index.
-fn expect_entry(rt: &impl Abort, chunk: &Chunk, entry: Entry, index: usize) -> Result<(), Fail> {
-    assert_eq!(rt; chunk.ticks.as_slice(), [entry].as_slice());
-    assert_eq!(rt; chunk.sections.len(), 24);
-    let slot = chunk.sections.get(index).ok_or("no slot")?;
-    let section = slot.as_ref().ok_or("no section")?;
-    assert!(rt; section.pending(entry.pos.place()));
-    Ok(())
+/// Whether a block is pending in the section of this index.
+fn is_pending(chunk: &Chunk, pos: Pos, index: usize) -> bool {
+    match chunk.sections.get(index) {
+        Some(Some(section)) => section.pending(pos.place()),
+        _ => false,
+    }
 }
 
-/// An entry at y 300 lies out of that height, and in the game's, where it is in section 18, the 23rd.
+/// The one entry of a chunk of the game's height is pending in the section of this index.
+fn expect_entry(rt: &impl Abort, chunk: &Chunk, entry: Entry, index: usize) {
+    assert_eq!(rt; chunk.ticks.as_slice(), [entry].as_slice());
+    assert_eq!(rt; chunk.sections.len(), 24);
+    assert!(rt; is_pending(chunk, entry.pos, index));
+}
+
+/// An entry at y 300 is in section 18 of the game's height, the 23rd.
 #[test]
 fn an_entry_lies_in_the_height(rt: HostRuntime) -> Result<(), Fail> {
     let bytes = high_entry(rt.alloc())?;
@@ -340,7 +345,14 @@ fn an_entry_lies_in_the_height(rt: HostRuntime) -> Result<(), Fail> {
         priority: -2,
     };
     let chunk = full(rt.alloc(), &bytes, Height::game())?;
-    expect_entry(&rt, &chunk, entry, 22)?;
+    expect_entry(&rt, &chunk, entry, 22);
+    Ok(())
+}
+
+/// An entry at y 300 lies out of 16 sections from 0 on.
+#[test]
+fn an_entry_lies_out_of_the_height(rt: HostRuntime) -> Result<(), Fail> {
+    let bytes = high_entry(rt.alloc())?;
     assert!(rt; bytes.len() <= MOST_BYTES);
     assert_eq!(rt; read(rt.alloc(), &bytes, LOW).err(), Some(Fault::BadTick));
     Ok(())
@@ -366,16 +378,28 @@ fn new_light_is_dark(rt: HostRuntime) -> Result<(), Fail> {
     Ok(())
 }
 
+/// The bytes of two sections: the last byte of the one is 1, the first of the other is 2, and all others are 0.
+fn two_sections(alloc: Global) -> Result<Vec<u8>, AllocError> {
+    let mut bytes = vec![in alloc; 0u8; 2047]?;
+    bytes.extend_from_slice(&[1, 2])?;
+    bytes.resize(4096, 0)?;
+    Ok(bytes)
+}
+
+/// A section's light has 2,048 bytes, and these at its ends.
+fn expect_ends(rt: &impl Abort, section: &[u8], first: u8, last: u8) {
+    assert_eq!(rt; section.len(), 2048);
+    assert_eq!(rt; section.first(), Some(&first));
+    assert_eq!(rt; section.last(), Some(&last));
+}
+
 #[test]
 fn light_goes_by_sections(rt: HostRuntime) -> Result<(), Fail> {
-    let mut bytes = vec![in rt.alloc(); 0u8; 4096]?;
+    let bytes = two_sections(rt.alloc())?;
     assert_eq!(rt; bytes.len(), 4096);
-    bytes[2047] = 1;
-    bytes[2048] = 2;
     let light = ChunkLight::from_bytes(2, bytes);
     assert_eq!(rt; light.len(), 2);
-    assert_eq!(rt; light.section(0).len(), 2048);
-    assert_eq!(rt; light.section(0).last(), Some(&1));
-    assert_eq!(rt; light.section(1).first(), Some(&2));
+    expect_ends(&rt, light.section(0), 0, 1);
+    expect_ends(&rt, light.section(1), 2, 0);
     Ok(())
 }

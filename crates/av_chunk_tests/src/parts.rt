@@ -3,7 +3,6 @@ use av_chunk::block_at;
 use av_types::{Fault, Height, Pos, RegionPos};
 use std::alloc::{AllocError, Global};
 use std::process::Abort;
-use std::test::Fail;
 
 /// A part of a document. A list is followed by the payloads of its elements, a compound by its tags and an end.
 #[derive(Clone, Copy, Drop)]
@@ -151,14 +150,30 @@ pub fn fault_of(alloc: Global, payload: &[u8]) -> Result<Option<Fault>, AllocErr
     Ok(block_at(alloc, &file, region, pos, Height::game()).err())
 }
 
-/// The root of these parts has this fault.
+/// The root of these parts is refused with this fault, or read where there is none.
+fn expect(
+    rt: &impl Abort,
+    alloc: Global,
+    parts: &[Part],
+    want: Option<&Fault>,
+) -> Result<(), AllocError> {
+    let payload = document(alloc, parts)?;
+    let fault = fault_of(alloc, &payload)?;
+    assert!(rt; fault.as_ref() == want);
+    Ok(())
+}
+
+/// The root of these parts is refused with this fault.
 pub fn expect_fault(
     rt: &impl Abort,
     alloc: Global,
     parts: &[Part],
-    want: Option<Fault>,
-) -> Result<(), Fail> {
-    let payload = document(alloc, parts)?;
-    assert_eq!(rt; fault_of(alloc, &payload)?, want);
-    Ok(())
+    want: &Fault,
+) -> Result<(), AllocError> {
+    expect(rt, alloc, parts, Some(want))
+}
+
+/// The root of these parts is read.
+pub fn expect_read(rt: &impl Abort, alloc: Global, parts: &[Part]) -> Result<(), AllocError> {
+    expect(rt, alloc, parts, None)
 }

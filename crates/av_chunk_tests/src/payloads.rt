@@ -3,6 +3,7 @@ use av_chunk::{Reading, read_payload};
 use av_state::StateTable;
 use av_types::{ChunkPos, Fault, Height};
 use std::alloc::Global;
+use std::process::Abort;
 use std::test::Fail;
 
 /// A full chunk at (-1, 2) with no section and no tick.
@@ -30,24 +31,35 @@ fn sections_of(alloc: Global, payload: &[u8], x: i32, z: i32) -> Result<Option<u
     }
 }
 
+/// A payload is no document.
+fn expect_bad_nbt(rt: &impl Abort, alloc: Global, payload: &[u8], x: i32, z: i32) {
+    assert_eq!(rt; sections_of(alloc, payload, x, z), Err(Fault::BadNbt));
+}
+
+/// A chunk whose making has begun is kept, at whichever place.
+fn expect_kept(rt: &impl Abort, alloc: Global, x: i32, z: i32) {
+    assert_eq!(rt; sections_of(alloc, BEGUN, x, z), Ok(None));
+}
+
 #[test]
-fn payloads_are_read_as_their_documents(rt: HostRuntime) -> Result<(), Fail> {
+fn payloads_are_read_as_their_documents(rt: HostRuntime) {
     let alloc = rt.alloc();
     // The game's height has 24 sections, whichever of them the payload names.
     assert_eq!(rt; sections_of(alloc, FULL, -1, 2), Ok(Some(24)));
-    assert_eq!(rt; sections_of(alloc, BEGUN, -1, 2), Ok(None));
     // x before z: (2, -1) is another chunk.
     assert_eq!(rt; sections_of(alloc, FULL, 2, -1), Err(Fault::WrongPlace));
+    expect_kept(&rt, alloc, -1, 2);
     // A chunk that is kept is at no place.
-    assert_eq!(rt; sections_of(alloc, BEGUN, 2, -1), Ok(None));
-    // Bytes before any of the document's faults: an end too few, and a byte too many.
+    expect_kept(&rt, alloc, 2, -1);
+}
+
+/// Bytes before any of the document's faults: an end too few, and a byte too many.
+#[test]
+fn payloads_are_whole_documents(rt: HostRuntime) -> Result<(), Fail> {
     let (short, _) = FULL.split_at(FULL.len() - 1);
-    assert_eq!(rt; sections_of(alloc, short, 2, -1), Err(Fault::BadNbt));
-    let mut long = Vec::from_slice(alloc, BEGUN)?;
+    expect_bad_nbt(&rt, rt.alloc(), short, 2, -1);
+    let mut long = Vec::from_slice(rt.alloc(), BEGUN)?;
     long.push(0)?;
-    assert_eq!(rt;
-        sections_of(alloc, long.as_slice(), -1, 2),
-        Err(Fault::BadNbt)
-    );
+    expect_bad_nbt(&rt, rt.alloc(), long.as_slice(), -1, 2);
     Ok(())
 }

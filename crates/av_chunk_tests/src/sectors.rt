@@ -2,7 +2,8 @@
 use av_chunk::block_at;
 use av_region::{Region, write};
 use av_types::{ChunkPos, Fault, Height, Pos, RegionPos};
-use std::alloc::Global;
+use std::alloc::{AllocError, Global};
+use std::process::Abort;
 use std::test::Fail;
 
 /// A file of 16,384 bytes with two locations and, in the third sector, a length and a type.
@@ -12,7 +13,7 @@ fn file_of(
     second: [u8; 4],
     length: u32,
     kind: u8,
-) -> Result<Vec<u8>, Fail> {
+) -> Result<Vec<u8>, AllocError> {
     let mut file = Vec::from_slice(alloc, &first)?;
     file.extend_from_slice(&second)?;
     file.resize(8192, 0)?;
@@ -22,37 +23,57 @@ fn file_of(
     Ok(file)
 }
 
+/// The payload of a file's chunk is refused with this fault.
+fn expect_fault(rt: &impl Abort, file: &[u8], want: &Fault) -> Result<(), Fault> {
+    let region = Region::read(file)?;
+    let fault = region.payload(0).err();
+    assert!(rt; fault.as_ref() == Some(want));
+    Ok(())
+}
+
+/// A file's chunk of this index has this payload.
+fn expect_payload(
+    rt: &impl Abort,
+    file: &[u8],
+    index: usize,
+    want: Option<&[u8]>,
+) -> Result<(), Fault> {
+    let region = Region::read(file)?;
+    assert!(rt; index < 1024);
+    assert_eq!(rt; region.payload(index), Ok(want));
+    Ok(())
+}
+
 #[test]
 fn only_four_zero_bytes_are_no_chunk(rt: HostRuntime) -> Result<(), Fail> {
     let file = file_of(rt.alloc(), [0, 0, 0, 1], [0, 0, 0, 0], 5, 3)?;
-    let region = Region::read(&file)?;
-    assert_eq!(rt; region.payload(0), Err(Fault::BadLocation));
-    assert_eq!(rt; region.payload(1), Ok(None));
+    expect_fault(&rt, &file, &Fault::BadLocation)?;
+    expect_payload(&rt, &file, 1, None)?;
     Ok(())
 }
 
 #[test]
 fn the_bytes_of_the_length_count(rt: HostRuntime) -> Result<(), Fail> {
-    for (length, want) in [(4092, Ok(4091)), (4093, Err(Fault::BadLength))] {
-        let file = file_of(rt.alloc(), [0, 0, 2, 1], [0; 4], length, 3)?;
-        let region = Region::read(&file)?;
-        let payload = region.payload(0);
-        let found = payload.map(|payload| payload.map_or(0, |bytes| bytes.len()));
-        assert_eq!(rt; found, want);
-    }
+    let file = file_of(rt.alloc(), [0, 0, 2, 1], [0; 4], 4092, 3)?;
+    let found = Region::read(&file)?.payload(0)?;
+    assert_eq!(rt; found.map_or(0, |bytes| bytes.len()), 4091);
+    Ok(())
+}
+
+#[test]
+fn a_length_is_not_above_that_of_its_sectors(rt: HostRuntime) -> Result<(), Fail> {
+    let file = file_of(rt.alloc(), [0, 0, 2, 1], [0; 4], 4093, 3)?;
+    expect_fault(&rt, &file, &Fault::BadLength)?;
     Ok(())
 }
 
 #[test]
 fn type_128_is_external(rt: HostRuntime) -> Result<(), Fail> {
-    for (kind, want) in [
-        (127, Fault::Compression(127)),
-        (128, Fault::ExternalChunk),
-        (255, Fault::ExternalChunk),
-    ] {
+    let file = file_of(rt.alloc(), [0, 0, 2, 1], [0; 4], 5, 127)?;
+    expect_fault(&rt, &file, &Fault::Compression(127))?;
+    for kind in [128, 255] {
         let file = file_of(rt.alloc(), [0, 0, 2, 1], [0; 4], 5, kind)?;
-        let region = Region::read(&file)?;
-        assert_eq!(rt; region.payload(0), Err(want));
+        expect_fault(&rt, &file, &Fault::ExternalChunk)?;
     }
     Ok(())
 }
@@ -60,10 +81,8 @@ fn type_128_is_external(rt: HostRuntime) -> Result<(), Fail> {
 #[test]
 fn two_chunks_may_share_their_sectors(rt: HostRuntime) -> Result<(), Fail> {
     let file = file_of(rt.alloc(), [0, 0, 2, 2], [0, 0, 2, 1], 5, 3)?;
-    let region = Region::read(&file)?;
-    let bytes: &[u8] = &[7, 7, 7, 7];
-    assert_eq!(rt; region.payload(0), Ok(Some(bytes)));
-    assert_eq!(rt; region.payload(1), Ok(Some(bytes)));
+    expect_payload(&rt, &file, 0, Some(&[7, 7, 7, 7]))?;
+    expect_payload(&rt, &file, 1, Some(&[7, 7, 7, 7]))?;
     Ok(())
 }
 
@@ -83,28 +102,33 @@ fn a_short_header_comes_before_another_region(rt: HostRuntime) -> Result<(), Fai
 }
 
 #[test]
-fn an_index_counts_x_within_z(rt: HostRuntime) -> Result<(), Fail> {
+fn an_index_counts_x_within_z(rt: HostRuntime) {
     let region = RegionPos { x: -1, z: 2 };
     assert_eq!(rt; ChunkPos { x: 1, z: 0 }.index(), 1);
     assert_eq!(rt; ChunkPos { x: 0, z: 1 }.index(), 32);
     assert_eq!(rt; region.chunk_at(1), ChunkPos { x: -31, z: 64 });
     assert_eq!(rt; region.chunk_at(32), ChunkPos { x: -32, z: 65 });
-    Ok(())
 }
 
-#[test]
-fn a_chunk_that_is_too_large_is_named(rt: HostRuntime) -> Result<(), Fail> {
-    let alloc = rt.alloc();
+/// The payloads of a region whose chunk of index 1000 alone is there, with one byte too many.
+fn one_payload(alloc: Global) -> Result<Vec<Option<Vec<u8>>>, AllocError> {
     let mut payloads = Vec::new(alloc);
     for _ in 0..1000 {
         payloads.push(None)?;
     }
     payloads.push(Some(vec![in alloc; 0u8; 1_044_476]?))?;
     payloads.resize_with(1024, || None)?;
-    let stamps = vec![in alloc; 0u32; 1024]?;
+    Ok(payloads)
+}
+
+#[test]
+fn a_chunk_that_is_too_large_is_named(rt: HostRuntime) -> Result<(), Fail> {
+    let payloads = one_payload(rt.alloc())?;
+    let stamps = vec![in rt.alloc(); 0u32; 1024]?;
     assert!(rt; payloads.len() == 1024);
-    let written = write(alloc, RegionPos { x: -1, z: 2 }, &payloads, &stamps);
+    let region = RegionPos { x: -1, z: 2 };
+    let fault = write(rt.alloc(), region, &payloads, &stamps).err();
     let chunk = ChunkPos { x: -24, z: 95 };
-    assert_eq!(rt; written.err(), Some(Fault::ChunkTooLarge(chunk)));
+    assert_eq!(rt; fault, Some(Fault::ChunkTooLarge(chunk)));
     Ok(())
 }

@@ -38,41 +38,103 @@ fn palette(alloc: Global, count: u16) -> Result<Tag, Fault> {
     Ok(Tag::list(TagType::Compound, entries(alloc, count)?))
 }
 
-/// The fault of a palette of so many states with so many longs, of which the first is given.
-fn fault_of(alloc: Global, states: u16, longs: usize, first: i64) -> Result<Option<Fault>, Fault> {
-    let mut table = StateTable::new(alloc)?;
-    let palette = palette(alloc, states)?;
-    let mut packed = vec![in alloc; 0; longs]?;
+/// So many longs, of which the first is given and all others are 0.
+fn longs_of(alloc: Global, count: usize, first: i64) -> Result<Tag, Fault> {
+    let mut packed = vec![in alloc; 0; count]?;
     if !packed.is_empty() {
         packed[0] = first;
     }
-    let longs = Tag::long_array(packed);
-    Ok(Section::read(alloc, Some(&palette), Some(&longs), &mut table).err())
+    Ok(Tag::long_array(packed))
 }
 
-/// States, longs, the first of them, and the fault.
-type LongsCase = (u16, usize, i64, Option<Fault>);
+/// The fault of a palette of so many states with these longs.
+fn fault_of(alloc: Global, states: u16, longs: &Tag) -> Result<Option<Fault>, Fault> {
+    let palette = palette(alloc, states)?;
+    let mut table = StateTable::new(alloc)?;
+    Ok(Section::read(alloc, Some(&palette), Some(longs), &mut table).err())
+}
 
-#[test]
-fn longs_fit_their_palette(rt: HostRuntime) -> Result<(), Fail> {
-    let cases: [LongsCase; 8] = [
-        // A palette of one entry has 256 longs of 0, or none.
-        (1, 256, 0, None),
-        (1, 0, 0, None),
-        (1, 255, 0, Some(Fault::BadPacked)),
-        // An index of 2 into a palette of two entries.
-        (2, 256, 1, None),
-        (2, 256, 2, Some(Fault::BadPacked)),
-        // The four bits that no index of 5 bits has.
-        (17, 342, 0x7000_0000_0000_0000, None),
-        (17, 256, 0, Some(Fault::BadPacked)),
-        (0, 0, 0, Some(Fault::BadPalette)),
-    ];
-    for (states, longs, first, want) in cases {
-        let fault = fault_of(rt.alloc(), states, longs, first)?;
-        assert_eq!(rt; fault, want, "{longs} longs of {states} states");
-    }
+/// These longs are refused with this fault for a palette of so many states.
+fn expect_fault(
+    rt: &impl Abort,
+    alloc: Global,
+    states: u16,
+    longs: (usize, i64),
+    want: &Fault,
+) -> Result<(), Fault> {
+    let (count, first) = longs;
+    let longs = longs_of(alloc, count, first)?;
+    let fault = fault_of(alloc, states, &longs)?;
+    assert!(rt;
+        fault.as_ref() == Some(want),
+        "{count} longs of {states} states"
+    );
     Ok(())
+}
+
+/// These longs fit a palette of so many states.
+fn expect_read(
+    rt: &impl Abort,
+    alloc: Global,
+    states: u16,
+    longs: (usize, i64),
+) -> Result<(), Fault> {
+    let (count, first) = longs;
+    let longs = longs_of(alloc, count, first)?;
+    let fault = fault_of(alloc, states, &longs)?;
+    assert!(rt; fault.is_none(), "{count} longs of {states} states");
+    Ok(())
+}
+
+/// A palette of one entry has 256 longs of 0, or none.
+#[test]
+fn longs_of_one_state(rt: HostRuntime) -> Result<(), Fail> {
+    expect_read(&rt, rt.alloc(), 1, (256, 0))?;
+    expect_read(&rt, rt.alloc(), 1, (0, 0))?;
+    expect_fault(&rt, rt.alloc(), 1, (255, 0), &Fault::BadPacked)?;
+    Ok(())
+}
+
+/// No index is 2 in a palette of two entries, nor is there one in a palette of none.
+#[test]
+fn indices_lie_in_their_palette(rt: HostRuntime) -> Result<(), Fail> {
+    expect_read(&rt, rt.alloc(), 2, (256, 1))?;
+    expect_fault(&rt, rt.alloc(), 2, (256, 2), &Fault::BadPacked)?;
+    expect_fault(&rt, rt.alloc(), 0, (0, 0), &Fault::BadPalette)?;
+    Ok(())
+}
+
+/// The four bits that no index of 5 bits has are ignored.
+#[test]
+fn longs_of_17_states(rt: HostRuntime) -> Result<(), Fail> {
+    expect_read(&rt, rt.alloc(), 17, (342, 0x7000_0000_0000_0000))?;
+    expect_fault(&rt, rt.alloc(), 17, (256, 0), &Fault::BadPacked)?;
+    Ok(())
+}
+
+/// A palette of one entry.
+fn one_entry(alloc: Global, entry: Tag) -> Result<Tag, Fault> {
+    let mut entries = Vec::new(alloc);
+    entries.push(entry)?;
+    Ok(Tag::list(TagType::Compound, entries))
+}
+
+/// `Properties` of these keys and one value.
+fn properties(alloc: Global, keys: &[&[u8]], value: &[u8]) -> Result<Named, Fault> {
+    let mut properties = Vec::new(alloc);
+    for key in keys {
+        properties.push(named_text(alloc, key, value)?)?;
+    }
+    let name = Vec::from_slice(alloc, b"Properties")?;
+    Ok(Named::new(name, Tag::compound(properties)))
+}
+
+/// An entry with a name and with properties of these keys and one value.
+fn entry_of(alloc: Global, name: &[u8], keys: &[&[u8]], value: &[u8]) -> Result<Tag, Fault> {
+    let mut members = Vec::new(alloc);
+    members.push(named_text(alloc, b"Name", name)?)?;
+    members.push(properties(alloc, keys, value)?)?;
+    Ok(Tag::compound(members))
 }
 
 /// The fault of a palette of one entry, with a name and with properties of these keys and one value.
@@ -82,17 +144,7 @@ fn entry_fault(
     keys: &[&[u8]],
     value: &[u8],
 ) -> Result<Option<Fault>, Fault> {
-    let mut properties = Vec::new(alloc);
-    for key in keys {
-        properties.push(named_text(alloc, key, value)?)?;
-    }
-    let mut members = Vec::new(alloc);
-    members.push(named_text(alloc, b"Name", name)?)?;
-    let key = Vec::from_slice(alloc, b"Properties")?;
-    members.push(Named::new(key, Tag::compound(properties)))?;
-    let mut entries = Vec::new(alloc);
-    entries.push(Tag::compound(members))?;
-    let palette = Tag::list(TagType::Compound, entries);
+    let palette = one_entry(alloc, entry_of(alloc, name, keys, value)?)?;
     let mut table = StateTable::new(alloc)?;
     Ok(Section::read(alloc, Some(&palette), None, &mut table).err())
 }
@@ -104,26 +156,29 @@ fn expect_bad(
     name: &[u8],
     keys: &[&[u8]],
     value: &[u8],
-) -> Result<(), Fail> {
+) -> Result<(), Fault> {
     let fault = entry_fault(alloc, name, keys, value)?;
     assert_eq!(rt; fault, Some(Fault::BadPalette));
+    Ok(())
+}
+
+/// A text of a file has at most 65,535 bytes, and `long` has one more.
+fn expect_bounded(rt: &impl Abort, alloc: Global, long: &[u8], short: &[u8]) -> Result<(), Fault> {
+    expect_bad(rt, alloc, long, &[b"a", b"b"], short)?;
+    expect_bad(rt, alloc, short, &[long, b"b"], short)?;
+    expect_bad(rt, alloc, short, &[b"a", b"b"], long)?;
+    let fault = entry_fault(alloc, short, &[short, b"b"], short)?;
+    assert_eq!(rt; fault, None);
     Ok(())
 }
 
 /// A text of a file has at most 65,535 bytes, and a Compound has no name twice.
 #[test]
 fn states_that_no_file_has_are_refused(rt: HostRuntime) -> Result<(), Fail> {
-    let bytes = vec![in rt.alloc(); b'a'; 65536]?;
-    let long = bytes.as_slice();
+    let long = vec![in rt.alloc(); b'a'; 65536]?;
     let short = &long[..65535];
-    expect_bad(&rt, rt.alloc(), long, &[b"a", b"b"], short)?;
-    expect_bad(&rt, rt.alloc(), short, &[long, b"b"], short)?;
-    expect_bad(&rt, rt.alloc(), short, &[b"a", b"b"], long)?;
+    expect_bounded(&rt, rt.alloc(), &long, short)?;
     expect_bad(&rt, rt.alloc(), short, &[b"a", b"b", b"a"], short)?;
-    assert_eq!(rt;
-        entry_fault(rt.alloc(), short, &[short, b"b"], short)?,
-        None
-    );
     Ok(())
 }
 
@@ -131,6 +186,17 @@ fn states_that_no_file_has_are_refused(rt: HostRuntime) -> Result<(), Fail> {
 fn sizes(section: &Section) -> (usize, usize, u32) {
     let (numbers, longs, bits) = section.parts();
     (numbers.len(), longs.len(), bits)
+}
+
+/// A section has so many numbers and longs, and an index so many bits.
+fn expect_sizes(rt: &impl Abort, section: &Section, want: (usize, usize, u32)) {
+    assert_eq!(rt; sizes(section), want);
+}
+
+/// A place of a section has this number.
+fn expect_number(rt: &impl Abort, section: &Section, place: u16, want: u16) {
+    assert!(rt; place < 4096);
+    assert_eq!(rt; section.get(Place::new(place)), want, "at {place}");
 }
 
 /// A section is written with this palette and these longs.
@@ -210,9 +276,9 @@ fn places_have_the_numbers_of_their_states(rt: HostRuntime) -> Result<(), Fail> 
     let mut table = StateTable::new(rt.alloc())?;
     let section = section_of(rt.alloc(), &mut table, 17, two_longs(rt.alloc())?)?;
     assert_eq!(rt; table.len(), 27);
-    assert_eq!(rt; sizes(&section), (17, 342, 5));
+    expect_sizes(&rt, &section, (17, 342, 5));
     for (place, number) in [(12, 22), (4092, 22), (4095, 25)] {
-        assert_eq!(rt; section.get(Place::new(place)), number);
+        expect_number(&rt, &section, place, number);
     }
     Ok(())
 }
@@ -226,9 +292,9 @@ fn a_prepared_section_reads_as_before(rt: HostRuntime) -> Result<(), Fail> {
     section.set(place, 3);
     section.add_pending(place);
     section.prepare(&[0, 1, 2, 3, 4, 5, 6, 7, 8, 9, 10, 11, 12, 13, 14, 15])?;
-    assert_eq!(rt; sizes(&section), (16, 256, 4));
+    expect_sizes(&rt, &section, (16, 256, 4));
     section.prepare(&[16, 2])?;
-    assert_eq!(rt; sizes(&section), (17, 342, 5));
+    expect_sizes(&rt, &section, (17, 342, 5));
     let found = (
         section.get(place),
         section.get(Place::new(4095)),
@@ -255,14 +321,14 @@ fn wider_indices_keep_every_place(rt: HostRuntime) -> Result<(), Fail> {
     let mut section = section_of(rt.alloc(), &mut table, 16, longs)?;
     assert_eq!(rt; sizes(&section).2, 4);
     section.prepare(&[3])?;
-    assert_eq!(rt; sizes(&section), (17, 342, 5));
+    expect_sizes(&rt, &section, (17, 342, 5));
     assert_eq!(rt; section.parts().1.last(), Some(&506284));
     for index in 0..4096 {
-        assert_eq!(rt; section.get(Place::new(index)), 10 + index % 16);
+        expect_number(&rt, &section, index, 10 + index % 16);
     }
     set_prepared(&mut section, Place::new(100), 3)?;
     for (place, number) in [(99, 13), (100, 3), (101, 15)] {
-        assert_eq!(rt; section.get(Place::new(place)), number);
+        expect_number(&rt, &section, place, number);
     }
     Ok(())
 }
@@ -287,16 +353,14 @@ fn unused_numbers_are_not_written(rt: HostRuntime) -> Result<(), Fail> {
     let longs = Tag::long_array(rising_longs(rt.alloc())?);
     let mut section = Section::read(rt.alloc(), Some(&palette), Some(&longs), &mut table)?;
     section.prepare(&[0, 1, 2, 3, 4, 5, 6, 7, 8, 9])?;
-    assert_eq!(rt; sizes(&section), (4106, 1024, 13));
+    expect_sizes(&rt, &section, (4106, 1024, 13));
     expect_written(&rt, rt.alloc(), &section, &table, &palette, Some(&longs))
 }
 
 /// A section of air alone has no longs.
 #[test]
 fn air_is_written_without_longs(rt: HostRuntime) -> Result<(), Fail> {
-    let mut entries = Vec::new(rt.alloc());
-    entries.push(entry(rt.alloc(), b"minecraft:air")?)?;
-    let palette = Tag::list(TagType::Compound, entries);
+    let palette = one_entry(rt.alloc(), entry(rt.alloc(), b"minecraft:air")?)?;
     let table = StateTable::new(rt.alloc())?;
     let section = Section::filled(rt.alloc(), 0)?;
     expect_written(&rt, rt.alloc(), &section, &table, &palette, None)
