@@ -5,6 +5,7 @@ use av_nbt::{
 };
 use av_types::Fault;
 use std::alloc::{AllocError, Global};
+use std::process::Abort;
 use std::test::Fail;
 
 /// A document that holds a tag of each type, with the bytes `01 02 ..` as its values. The List has two Bytes.
@@ -58,6 +59,31 @@ fn byte(alloc: Global, name: u8, value: i8) -> Result<Named, AllocError> {
     Ok(Named::new(Vec::from_slice(alloc, &[name])?, Tag::byte(value)))
 }
 
+/// Bytes under names of one byte, in this order.
+fn bytes_in_order(alloc: Global, values: &[(u8, i8)]) -> Result<Vec<Named>, AllocError> {
+    let mut tags = Vec::new(alloc);
+    for (name, value) in values {
+        tags.push(byte(alloc, *name, *value)?)?;
+    }
+    Ok(tags)
+}
+
+/// What is written of the document that these bytes spell is this.
+fn expect_written(rt: &impl Abort, alloc: Global, bytes: &[u8], want: &[u8]) -> Result<(), Fault> {
+    let out = rewritten(alloc, bytes)?;
+    assert_eq!(rt; out.as_slice(), want);
+    Ok(())
+}
+
+/// These bytes spell no document.
+fn expect_refused(rt: &impl Abort, alloc: Global, bytes: &[u8]) {
+    assert_eq!(rt;
+        decode(alloc, bytes).err(),
+        Some(Fault::BadNbt),
+        "{bytes:?}"
+    );
+}
+
 #[test]
 fn documents_are_read_and_written(rt: HostRuntime) -> Result<(), Fail> {
     let cases: [(&[u8], &[u8]); 5] = [
@@ -79,15 +105,14 @@ fn documents_are_read_and_written(rt: HostRuntime) -> Result<(), Fail> {
         ),
         (&ALL_KINDS, &ALL_KINDS),
     ];
-    for (bytes, written) in cases {
-        let out = rewritten(rt.alloc(), bytes)?;
-        assert_eq!(rt; out.as_slice(), written);
+    for (bytes, written) in &cases {
+        expect_written(&rt, rt.alloc(), *bytes, *written)?;
     }
     Ok(())
 }
 
 #[test]
-fn other_bytes_are_refused(rt: HostRuntime) -> Result<(), Fail> {
+fn other_bytes_are_refused(rt: HostRuntime) {
     let cases: [&[u8]; 16] = [
         &[],
         // roots of another type, and one without an end
@@ -113,26 +138,16 @@ fn other_bytes_are_refused(rt: HostRuntime) -> Result<(), Fail> {
         &[10, 0, 0, 9, 0, 1, 97, 10, 127, 255, 255, 255, 0],
         &[10, 0, 0, 13, 0, 1, 97, 0, 0],
     ];
-    for bytes in cases {
-        assert_eq!(rt;
-            decode(rt.alloc(), bytes).err(),
-            Some(Fault::BadNbt),
-            "{bytes:?}"
-        );
+    for bytes in &cases {
+        expect_refused(&rt, rt.alloc(), *bytes);
     }
-    Ok(())
 }
 
 #[test]
-fn beginnings_are_refused(rt: HostRuntime) -> Result<(), Fail> {
+fn beginnings_are_refused(rt: HostRuntime) {
     for end in 0..ALL_KINDS.len() {
-        assert_eq!(rt;
-            decode(rt.alloc(), &ALL_KINDS[..end]).err(),
-            Some(Fault::BadNbt),
-            "at {end}"
-        );
+        expect_refused(&rt, rt.alloc(), &ALL_KINDS[..end]);
     }
-    Ok(())
 }
 
 /// A text's length has no sign.
@@ -141,67 +156,102 @@ fn a_text_of_65535_bytes(rt: HostRuntime) -> Result<(), Fail> {
     let mut bytes = Vec::from_slice(rt.alloc(), &[10, 0, 0, 8, 0, 0, 255, 255])?;
     bytes.resize(65543, b'a')?;
     bytes.push(0)?;
-    assert!(rt; rewritten(rt.alloc(), &bytes)? == bytes);
+    expect_written(&rt, rt.alloc(), &bytes, &bytes)?;
     Ok(())
 }
 
 #[test]
 fn depth_is_limited(rt: HostRuntime) -> Result<(), Fail> {
     let deep = lists(rt.alloc(), 511)?;
-    assert_eq!(rt; rewritten(rt.alloc(), &deep)?, deep);
+    expect_written(&rt, rt.alloc(), &deep, &deep)?;
     let deeper = lists(rt.alloc(), 512)?;
-    assert_eq!(rt; decode(rt.alloc(), &deeper).err(), Some(Fault::BadNbt));
-    // a Compound is as deep as a List
-    let deep = compounds(rt.alloc(), 512)?;
-    assert!(rt; decode(rt.alloc(), &deep).is_ok());
-    let deeper = compounds(rt.alloc(), 513)?;
-    assert_eq!(rt; decode(rt.alloc(), &deeper).err(), Some(Fault::BadNbt));
+    expect_refused(&rt, rt.alloc(), &deeper);
     Ok(())
 }
 
 #[test]
-fn many_names_are_compared(rt: HostRuntime) -> Result<(), Fail> {
-    let mut bytes = Vec::from_slice(rt.alloc(), &[10, 0, 0])?;
+fn a_compound_is_as_deep_as_a_list(rt: HostRuntime) -> Result<(), Fail> {
+    let deep = compounds(rt.alloc(), 512)?;
+    assert!(rt; decode(rt.alloc(), &deep).is_ok());
+    let deeper = compounds(rt.alloc(), 513)?;
+    expect_refused(&rt, rt.alloc(), &deeper);
+    Ok(())
+}
+
+/// A document of 200 Bytes, each under a name of two bytes, the first of which is 85 and 7.
+fn many_names(alloc: Global) -> Result<Vec<u8>, AllocError> {
+    let mut bytes = Vec::from_slice(alloc, &[10, 0, 0])?;
     for name in 0..200u8 {
         bytes.extend_from_slice(&[1, 0, 2, name ^ 85, 7, name])?;
     }
     bytes.push(0)?;
-    assert_eq!(rt; rewritten(rt.alloc(), &bytes)?, bytes);
+    Ok(bytes)
+}
+
+#[test]
+fn many_names_are_compared(rt: HostRuntime) -> Result<(), Fail> {
+    let mut bytes = many_names(rt.alloc())?;
+    expect_written(&rt, rt.alloc(), &bytes, &bytes)?;
     // the last name becomes that of the first
     assert_eq!(rt; bytes.len(), 1204);
     bytes[1200] = 85;
-    assert_eq!(rt; decode(rt.alloc(), &bytes).err(), Some(Fault::BadNbt));
+    expect_refused(&rt, rt.alloc(), &bytes);
     Ok(())
+}
+
+/// Bytes under names of one byte, put one after the other.
+fn bytes_put(alloc: Global, values: &[(u8, i8)]) -> Result<Vec<Named>, Fault> {
+    let mut tags = Vec::new(alloc);
+    for (name, value) in values {
+        put(&mut tags, byte(alloc, *name, *value)?)?;
+    }
+    Ok(tags)
+}
+
+/// The tag of a name is this Byte, or there is none.
+fn expect_found(rt: &impl Abort, tags: &[Named], name: u8, want: Option<i8>) {
+    assert_eq!(rt; find(tags, &[name]), want.map(Tag::byte).as_ref());
+}
+
+/// A Byte takes the place of this one of its name, or there was none.
+fn expect_exchanged(
+    rt: &impl Abort,
+    tags: &mut Vec<Named>,
+    new: Named,
+    want: Option<i8>,
+) -> Result<(), Fault> {
+    assert_eq!(rt; exchange(tags, new)?, want.map(Tag::byte));
+    Ok(())
+}
+
+/// The tag of a name that is taken out is this Byte, or there was none.
+fn expect_removed(rt: &impl Abort, tags: &mut Vec<Named>, name: u8, want: Option<i8>) {
+    assert_eq!(rt; remove(tags, &[name]), want.map(Tag::byte));
 }
 
 #[test]
 fn tags_by_name(rt: HostRuntime) -> Result<(), Fail> {
     let alloc = rt.alloc();
-    let mut tags = Vec::new(alloc);
-    for (name, value) in [(b'a', 1), (b'b', 2), (b'c', 3)] {
-        put(&mut tags, byte(alloc, name, value)?)?;
-    }
-    assert_eq!(rt; find(&tags, b"b"), Some(&Tag::Byte(2)));
-    assert_eq!(rt; find(&tags, b"d"), None);
-    assert_eq!(rt;
-        exchange(&mut tags, byte(alloc, b'a', 4)?)?,
-        Some(Tag::Byte(1))
-    );
-    assert_eq!(rt; exchange(&mut tags, byte(alloc, b'd', 5)?)?, None);
-    assert_eq!(rt; remove(&mut tags, b"b"), Some(Tag::Byte(2)));
-    assert_eq!(rt; remove(&mut tags, b"b"), None);
+    let mut tags = bytes_put(alloc, &[(b'a', 1), (b'b', 2), (b'c', 3)])?;
+    expect_found(&rt, &tags, b'b', Some(2));
+    expect_found(&rt, &tags, b'd', None);
+    expect_exchanged(&rt, &mut tags, byte(alloc, b'a', 4)?, Some(1))?;
+    expect_exchanged(&rt, &mut tags, byte(alloc, b'd', 5)?, None)?;
+    expect_removed(&rt, &mut tags, b'b', Some(2));
+    expect_removed(&rt, &mut tags, b'b', None);
     assert_eq!(rt;
         tags,
-        vec![in alloc;
-            byte(alloc, b'a', 4)?,
-            byte(alloc, b'c', 3)?,
-            byte(alloc, b'd', 5)?
-        ]?
+        bytes_in_order(alloc, &[(b'a', 4), (b'c', 3), (b'd', 5)])?
     );
-    // of two tags of one name the first is found, and both are taken out
-    tags.push(byte(alloc, b'a', 6)?)?;
-    assert_eq!(rt; find(&tags, b"a"), Some(&Tag::Byte(4)));
-    assert_eq!(rt; remove(&mut tags, b"a"), Some(Tag::Byte(4)));
+    Ok(())
+}
+
+/// Of two tags of one name the first is found, and both are taken out.
+#[test]
+fn two_tags_of_one_name(rt: HostRuntime) -> Result<(), Fail> {
+    let mut tags = bytes_in_order(rt.alloc(), &[(b'a', 4), (b'c', 3), (b'd', 5), (b'a', 6)])?;
+    expect_found(&rt, &tags, b'a', Some(4));
+    expect_removed(&rt, &mut tags, b'a', Some(4));
     assert_eq!(rt; tags.len(), 2);
     Ok(())
 }
@@ -249,91 +299,167 @@ fn kinds_by_number(rt: HostRuntime) {
 }
 
 #[test]
-fn tags_that_are_made(rt: HostRuntime) -> Result<(), Fail> {
-    let alloc = rt.alloc();
+fn numbers_that_are_made(rt: HostRuntime) {
     assert_eq!(rt; Tag::byte(-7), Tag::Byte(-7));
     assert_eq!(rt; Tag::int(70_000), Tag::Int(70_000));
-    let text = Tag::text(Vec::from_slice(alloc, b"stone")?);
+}
+
+#[test]
+fn a_text_that_is_made(rt: HostRuntime) -> Result<(), Fail> {
+    let text = Tag::text(Vec::from_slice(rt.alloc(), b"stone")?);
     assert_eq!(rt; text.as_text(), Some(b"stone".as_slice()));
-    let bytes = Tag::byte_array(Vec::from_slice(alloc, &[1, 255])?);
+    Ok(())
+}
+
+#[test]
+fn a_byte_array_that_is_made(rt: HostRuntime) -> Result<(), Fail> {
+    let bytes = Tag::byte_array(Vec::from_slice(rt.alloc(), &[1, 255])?);
     assert_eq!(rt; bytes.tag_type(), TagType::ByteArray);
     assert_eq!(rt; bytes.as_text(), None);
-    let longs = Tag::long_array(Vec::from_slice(alloc, &[-1, 2])?);
+    Ok(())
+}
+
+#[test]
+fn a_long_array_that_is_made(rt: HostRuntime) -> Result<(), Fail> {
+    let longs = Tag::long_array(Vec::from_slice(rt.alloc(), &[-1, 2])?);
     assert_eq!(rt; longs.as_longs(), Some([-1, 2].as_slice()));
-    let items = vec![in alloc; Tag::byte(1), Tag::byte(2)]?;
+    Ok(())
+}
+
+#[test]
+fn a_list_that_is_made(rt: HostRuntime) -> Result<(), Fail> {
+    let items = vec![in rt.alloc(); Tag::byte(1), Tag::byte(2)]?;
     let list = Tag::list(TagType::Byte, items);
     assert_eq!(rt; list.tag_type(), TagType::List);
     assert_eq!(rt;
         list.as_items(),
         Some([Tag::Byte(1), Tag::Byte(2)].as_slice())
     );
-    let compound = Tag::compound(vec![in alloc; byte(alloc, b'a', 1)?]?);
-    assert_eq!(rt;
-        compound.as_members(),
-        Some([byte(alloc, b'a', 1)?].as_slice())
-    );
+    Ok(())
+}
+
+#[test]
+fn a_compound_that_is_made(rt: HostRuntime) -> Result<(), Fail> {
+    let compound = Tag::compound(bytes_in_order(rt.alloc(), &[(b'a', 1)])?);
+    let members = bytes_in_order(rt.alloc(), &[(b'a', 1)])?;
+    assert_eq!(rt; compound.as_members(), Some(members.as_slice()));
     assert_eq!(rt; compound.as_items(), None);
     Ok(())
 }
 
 #[test]
-fn values_that_are_taken_out(rt: HostRuntime) -> Result<(), Fail> {
-    let alloc = rt.alloc();
-    let text = Tag::text(Vec::from_slice(alloc, b"air")?);
-    assert_eq!(rt; text.into_text(), Some(Vec::from_slice(alloc, b"air")?));
+fn a_text_that_is_taken_out(rt: HostRuntime) -> Result<(), Fail> {
+    let text = Tag::text(Vec::from_slice(rt.alloc(), b"air")?);
+    let want = Vec::from_slice(rt.alloc(), b"air")?;
+    assert_eq!(rt; text.into_text(), Some(want));
     assert_eq!(rt; Tag::byte(1).into_text(), None);
-    let longs = Tag::long_array(Vec::from_slice(alloc, &[3])?);
-    assert_eq!(rt; longs.into_longs(), Some(Vec::from_slice(alloc, &[3])?));
-    let items = vec![in alloc; Tag::int(4)]?;
-    assert_eq!(rt;
-        Tag::list(TagType::Int, items).into_items(),
-        Some(vec![in alloc; Tag::int(4)]?)
-    );
-    let tags = vec![in alloc; byte(alloc, b'x', 5)?]?;
-    assert_eq!(rt;
-        Tag::compound(tags).into_members(),
-        Some(vec![in alloc; byte(alloc, b'x', 5)?]?)
-    );
-    let named = byte(alloc, b'y', 6)?;
+    Ok(())
+}
+
+#[test]
+fn longs_that_are_taken_out(rt: HostRuntime) -> Result<(), Fail> {
+    let longs = Tag::long_array(Vec::from_slice(rt.alloc(), &[3])?);
+    let want = Vec::from_slice(rt.alloc(), &[3])?;
+    assert_eq!(rt; longs.into_longs(), Some(want));
+    Ok(())
+}
+
+#[test]
+fn items_that_are_taken_out(rt: HostRuntime) -> Result<(), Fail> {
+    let list = Tag::list(TagType::Int, vec![in rt.alloc(); Tag::int(4)]?);
+    let want = vec![in rt.alloc(); Tag::int(4)]?;
+    assert_eq!(rt; list.into_items(), Some(want));
+    Ok(())
+}
+
+#[test]
+fn members_that_are_taken_out(rt: HostRuntime) -> Result<(), Fail> {
+    let compound = Tag::compound(bytes_in_order(rt.alloc(), &[(b'x', 5)])?);
+    let want = bytes_in_order(rt.alloc(), &[(b'x', 5)])?;
+    assert_eq!(rt; compound.into_members(), Some(want));
+    Ok(())
+}
+
+#[test]
+fn parts_of_a_named_tag(rt: HostRuntime) -> Result<(), Fail> {
+    let named = byte(rt.alloc(), b'y', 6)?;
     assert_eq!(rt; named.name(), b"y".as_slice());
     assert_eq!(rt; named.tag(), &Tag::Byte(6));
     assert_eq!(rt; named.into_tag(), Tag::Byte(6));
     Ok(())
 }
 
+/// The tag of a name.
+fn tag<'a>(tags: &'a [Named], name: &[u8]) -> Result<&'a Tag, Fail> {
+    Ok(find(tags, name).ok_or("missing")?)
+}
+
+/// Of the tags of `ALL_KINDS`, the numbers have these values.
+fn expect_numbers(rt: &impl Abort, tags: &[Named]) -> Result<(), Fail> {
+    assert_eq!(rt; tag(tags, b"a")?.as_byte(), Some(-1));
+    let int = tag(tags, b"c")?;
+    assert_eq!(rt; int.as_int(), Some(0x01020304));
+    assert_eq!(rt; int.as_byte(), None);
+    assert_eq!(rt; tag(tags, b"d")?.tag_type(), TagType::Long);
+    Ok(())
+}
+
+/// Of the tags of `ALL_KINDS`, the text, the lists and the Compound have these values.
+fn expect_slices(rt: &impl Abort, tags: &[Named]) -> Result<(), Fail> {
+    let text = tag(tags, b"h")?.as_text();
+    assert_eq!(rt; text, Some([b'a', 255, 0].as_slice()));
+    let longs = tag(tags, b"l")?.as_longs();
+    assert_eq!(rt; longs, Some([0x0102030405060708].as_slice()));
+    let items = tag(tags, b"i")?.as_items();
+    assert_eq!(rt; items, Some([Tag::Byte(5), Tag::Byte(6)].as_slice()));
+    let members = tag(tags, b"j")?.as_members().ok_or("no Compound")?;
+    assert_eq!(rt; members.len(), 1);
+    Ok(())
+}
+
 #[test]
 fn values_by_type(rt: HostRuntime) -> Result<(), Fail> {
-    let alloc = rt.alloc();
-    let root = decode(alloc, &ALL_KINDS)?;
-    let tag = |name: &[u8]| find(&root.tags, name).ok_or("missing");
-    assert_eq!(rt; tag(b"a")?.as_byte(), Some(-1));
-    assert_eq!(rt; tag(b"c")?.as_int(), Some(0x01020304));
-    assert_eq!(rt; tag(b"c")?.as_byte(), None);
-    assert_eq!(rt; tag(b"h")?.as_text(), Some([b'a', 255, 0].as_slice()));
-    assert_eq!(rt;
-        tag(b"l")?.as_longs(),
-        Some([0x0102030405060708].as_slice())
-    );
-    assert_eq!(rt;
-        tag(b"i")?.as_items(),
-        Some([Tag::Byte(5), Tag::Byte(6)].as_slice())
-    );
-    assert_eq!(rt;
-        tag(b"j")?.as_members().map(|members| members.len()),
-        Some(1)
-    );
-    assert_eq!(rt; tag(b"d")?.tag_type(), TagType::Long);
-    // each number has its highest byte first
-    assert_eq!(rt; tag(b"b")?, &Tag::Short(0x0102));
-    assert_eq!(rt; tag(b"d")?, &Tag::Long(0x0102030405060708));
-    assert_eq!(rt; tag(b"e")?, &Tag::Float(0x01020304));
-    assert_eq!(rt; tag(b"f")?, &Tag::Double(0x0102030405060708));
-    let ints = Vec::from_slice(alloc, &[-2])?;
-    assert_eq!(rt; tag(b"k")?, &Tag::IntArray(ints));
-    assert_eq!(rt; copy_tags(alloc, &root.tags)?, root.tags);
+    let root = decode(rt.alloc(), &ALL_KINDS)?;
+    expect_numbers(&rt, &root.tags)?;
+    expect_slices(&rt, &root.tags)
+}
+
+/// The tag of a name is this one.
+fn expect_tag(rt: &impl Abort, tags: &[Named], name: &[u8], want: &Tag) -> Result<(), Fail> {
+    assert!(rt; tag(tags, name)? == want);
+    Ok(())
+}
+
+/// Each number has its highest byte first.
+#[test]
+fn the_highest_byte_comes_first(rt: HostRuntime) -> Result<(), Fail> {
+    let root = decode(rt.alloc(), &ALL_KINDS)?;
+    expect_tag(&rt, &root.tags, b"b", &Tag::Short(0x0102))?;
+    expect_tag(&rt, &root.tags, b"d", &Tag::Long(0x0102030405060708))?;
+    expect_tag(&rt, &root.tags, b"e", &Tag::Float(0x01020304))?;
+    expect_tag(&rt, &root.tags, b"f", &Tag::Double(0x0102030405060708))?;
+    Ok(())
+}
+
+#[test]
+fn an_array_of_one_int_below_zero(rt: HostRuntime) -> Result<(), Fail> {
+    let root = decode(rt.alloc(), &ALL_KINDS)?;
+    let ints = Tag::IntArray(Vec::from_slice(rt.alloc(), &[-2])?);
+    expect_tag(&rt, &root.tags, b"k", &ints)
+}
+
+#[test]
+fn a_copy_has_the_same_tags(rt: HostRuntime) -> Result<(), Fail> {
+    let root = decode(rt.alloc(), &ALL_KINDS)?;
+    assert_eq!(rt; copy_tags(rt.alloc(), &root.tags)?, root.tags);
+    Ok(())
+}
+
+/// They only have to be called once: their contracts are what they say.
+#[test]
+fn laws_can_be_called() {
     spelling_is_unique();
     written_is_spelling();
-    Ok(())
 }
 
 /// A value is read of a tag of its own type alone: of an Int and not of a Byte or a Short, of a Long Array and not of an
@@ -342,13 +468,17 @@ fn values_by_type(rt: HostRuntime) -> Result<(), Fail> {
 fn values_of_other_types(rt: HostRuntime) -> Result<(), Fail> {
     let root = decode(rt.alloc(), &ALL_KINDS)?;
     for named in &root.tags {
-        let (name, tag) = (named.name(), named.tag());
-        assert_eq!(rt; tag.as_byte().is_some(), name == b"a".as_slice());
-        assert_eq!(rt; tag.as_int().is_some(), name == b"c".as_slice());
-        assert_eq!(rt; tag.as_text().is_some(), name == b"h".as_slice());
-        assert_eq!(rt; tag.as_items().is_some(), name == b"i".as_slice());
-        assert_eq!(rt; tag.as_members().is_some(), name == b"j".as_slice());
-        assert_eq!(rt; tag.as_longs().is_some(), name == b"l".as_slice());
+        expect_values_of_its_type(&rt, named.name(), named.tag());
     }
     Ok(())
+}
+
+/// The tag of this name in `ALL_KINDS` has a value of its own type alone.
+fn expect_values_of_its_type(rt: &impl Abort, name: &[u8], tag: &Tag) {
+    assert_eq!(rt; tag.as_byte().is_some(), name == b"a".as_slice());
+    assert_eq!(rt; tag.as_int().is_some(), name == b"c".as_slice());
+    assert_eq!(rt; tag.as_text().is_some(), name == b"h".as_slice());
+    assert_eq!(rt; tag.as_items().is_some(), name == b"i".as_slice());
+    assert_eq!(rt; tag.as_members().is_some(), name == b"j".as_slice());
+    assert_eq!(rt; tag.as_longs().is_some(), name == b"l".as_slice());
 }
