@@ -50,13 +50,15 @@ pub fn water_in<C: Cells>(alloc: Global, cells: &C) -> Result<Vec<(i32, i32, i32
     Ok(found)
 }
 
+/// The list of a chunk, which is empty where the chunk is not there.
+pub fn list_of(world: &World, chunk: ChunkPos) -> &[Entry] {
+    match world.index_of(chunk) {
+        None => &[],
+        Some(index) => world.chunk(index).ticks.as_slice(),
+    }
+}
+
 /// The entries of a chunk's list, in order.
 pub fn entries_in(alloc: Global, world: &World, chunk: ChunkPos) -> Result<Vec<Entry>, Fault> {
-    match world.index_of(chunk) {
-        None => Ok(Vec::new(alloc)),
-        Some(index) => {
-            let list = world.chunk(index).ticks.as_slice();
-            Ok(Vec::from_slice(alloc, list)?)
-        }
-    }
+    Ok(Vec::from_slice(alloc, list_of(world, chunk))?)
 }
