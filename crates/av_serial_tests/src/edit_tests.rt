@@ -1,8 +1,11 @@
 //! Lines of edits by hand, on a chunk with stone at y 63 and air elsewhere.
 use av_edits::{Edit, read};
-use av_types::{ChunkPos, Height, Pos};
+use av_types::{ChunkPos, Fault, Height, Pos};
+use av_world::World;
 use av_world_tests::flat::{STONE, stone_table};
 use av_world_tests::worlds::flat_world;
+use std::alloc::Global;
+use std::process::Abort;
 use std::test::Fail;
 
 const ORIGIN: ChunkPos = ChunkPos { x: 0, z: 0 };
@@ -29,26 +32,56 @@ const REFUSED: [(&str, &str); 14] = [
     ("1 8 64 8 minecraft:water[level=16]", "fault 20: BadEdit 1"),
 ];
 
+/// What is said of a text, for a run of 20 ticks of this world.
+fn said(alloc: Global, world: &World, text: &str) -> Result<String, Fault> {
+    let mut table = stone_table(alloc)?;
+    match read(alloc, text.as_bytes(), 20, world, &mut table) {
+        Ok(_) => Ok(format!(in alloc; "no fault")?),
+        Err(fault) => Ok(format!(in alloc; "{fault}")?),
+    }
+}
+
+/// A text is refused with this line.
+fn expect_refused(
+    rt: &impl Abort,
+    alloc: Global,
+    world: &World,
+    text: &str,
+    want: &str,
+) -> Result<(), Fault> {
+    let said = said(alloc, world, text)?;
+    assert_eq!(rt; said.as_str(), want, "{text}");
+    Ok(())
+}
+
 #[test]
 fn refuses_other_lines(rt: HostRuntime) -> Result<(), Fail> {
-    let alloc = rt.alloc();
-    let world = flat_world(alloc, Height::game(), [ORIGIN].as_slice())?;
+    let world = flat_world(rt.alloc(), Height::game(), &[ORIGIN])?;
     for (text, want) in REFUSED {
-        let mut table = stone_table(alloc)?;
-        let said = match read(alloc, text.as_bytes(), 20, &world, &mut table) {
-            Ok(_) => format!(in alloc; "no fault")?,
-            Err(fault) => format!(in alloc; "{fault}")?,
-        };
-        assert_eq!(rt; said.as_str(), want, "{text}");
+        expect_refused(&rt, rt.alloc(), &world, text, want)?;
     }
     Ok(())
+}
+
+/// These are the edits, each with its line, its tick, its block and its number.
+fn expect_edits(rt: &impl Abort, edits: &[Edit], want: &[(u64, u32, Pos, u16)]) {
+    assert_eq!(rt; edits.len(), want.len());
+    for (edit, (line, tick, pos, number)) in edits.iter().zip(want) {
+        let stated = Edit {
+            line: *line,
+            tick: *tick,
+            pos: *pos,
+            number: *number,
+        };
+        assert_eq!(rt; *edit, stated);
+    }
 }
 
 /// Lines are counted with those that state nothing, and states are numbered in the order of the lines.
 #[test]
 fn reads_edits(rt: HostRuntime) -> Result<(), Fail> {
     let alloc = rt.alloc();
-    let world = flat_world(alloc, Height::game(), [ORIGIN].as_slice())?;
+    let world = flat_world(alloc, Height::game(), &[ORIGIN])?;
     let mut table = stone_table(alloc)?;
     let text =
         "20 8 64 8 a:b\r\n\n# 1 8 64 8 c:d\n007 -0 007 15 minecraft:stone\n1 8 64 8 c:d\n1 0 0 0 a:b\r";
@@ -59,16 +92,7 @@ fn reads_edits(rt: HostRuntime) -> Result<(), Fail> {
         (5, 1, at(8, 64, 8), STONE + 2),
         (6, 1, at(0, 0, 0), STONE + 1),
     ];
-    assert_eq!(rt; edits.len(), want.len());
-    for (edit, (line, tick, pos, number)) in edits.iter().zip(&want) {
-        let stated = Edit {
-            line: *line,
-            tick: *tick,
-            pos: *pos,
-            number: *number,
-        };
-        assert_eq!(rt; *edit, stated);
-    }
+    expect_edits(&rt, edits.as_slice(), want.as_slice());
     assert_eq!(rt; read(alloc, b"", 20, &world, &mut table)?.len(), 0);
     Ok(())
 }

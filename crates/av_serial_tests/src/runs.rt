@@ -84,6 +84,12 @@ pub fn all_fit(world: &World, kinds: &Kinds, edits: &[Edit]) -> bool
     true
 }
 
+/// A block table of a version, with stone and glowstone.
+fn rules_of(alloc: Global, version: u32) -> Result<Rules, Fault> {
+    let text = format!(in alloc; "version = {version}{ROWS}")?;
+    Rules::read(alloc, text.as_bytes())
+}
+
 /// The edits of a text, and the kinds of all states by a block table of a version.
 pub fn edits_and_kinds(
     alloc: Global,
@@ -92,8 +98,7 @@ pub fn edits_and_kinds(
     lines: &str,
     ticks: u32,
 ) -> Result<(Vec<Edit>, Kinds), Fault> {
-    let text = format!(in alloc; "version = {version}{ROWS}")?;
-    let rules = Rules::read(alloc, text.as_bytes())?;
+    let rules = rules_of(alloc, version)?;
     let mut table = stone_table(alloc)?;
     let edits = read(alloc, lines.as_bytes(), ticks, world, &mut table)?;
     let kinds = Kinds::new(alloc, table, &rules)?;

@@ -4,7 +4,7 @@ use av_serial::{apply, run_ticks, tick};
 use av_types::{ChunkPos, Entry, Fault, Pos};
 use av_world::World;
 use av_world_tests::flat::STONE;
-use av_world_tests::reads::{entries_in, number_at, water_in};
+use av_world_tests::reads::{list_of, number_at, water_in};
 use std::alloc::Global;
 use std::process::Abort;
 use std::test::Fail;
@@ -28,40 +28,90 @@ fn entry(pos: Pos, due: i64) -> Entry {
     }
 }
 
+/// A block of water with its x, y, z and level.
+type Wet = (i32, i32, i32, u16);
+
+/// A block by its x, y and z.
+type Place = (i32, i32, i32);
+
 /// Exactly these blocks are water, each of a level, by y, z and x.
-fn expect_water(
-    rt: &impl Abort,
-    alloc: Global,
-    world: &World,
-    want: &[(i32, i32, i32, u16)],
-) -> Result<(), Fault> {
+fn expect_water(rt: &impl Abort, alloc: Global, world: &World, want: &[Wet]) -> Result<(), Fault> {
     let water = water_in(alloc, world)?;
     assert_eq!(rt; water.as_slice(), want);
     Ok(())
 }
 
 /// A chunk's entries are of these blocks, in this order, all due in one tick.
-fn expect_list(
-    rt: &impl Abort,
-    alloc: Global,
-    world: &World,
-    chunk: ChunkPos,
-    due: i64,
-    want: &[(i32, i32, i32)],
-) -> Result<(), Fault> {
-    let list = entries_in(alloc, world, chunk)?;
+fn expect_list(rt: &impl Abort, world: &World, chunk: ChunkPos, due: i64, want: &[Place]) {
+    let list = list_of(world, chunk);
     assert_eq!(rt; list.len(), want.len());
     for (one, (x, y, z)) in list.iter().zip(want) {
         assert_eq!(rt; *one, entry(at(*x, *y, *z), due));
     }
-    Ok(())
+}
+
+/// What is there after some ticks: how many entries were taken, the blocks of water, and those of the entries of the
+/// chunk at the origin, which are all due in one tick.
+#[derive(Clone, Copy, Drop)]
+struct Want<'a> {
+    count: u128,
+    water: &'a [Wet],
+    due: i64,
+    list: &'a [Place],
+}
+
+/// A world after some ticks has this.
+fn expect_after(
+    rt: &impl Abort,
+    alloc: Global,
+    after: &After,
+    want: Want<'_>,
+) -> Result<(), Fault> {
+    assert_eq!(rt; after.count, want.count);
+    expect_list(rt, &after.world, ORIGIN, want.due, want.list);
+    expect_water(rt, alloc, &after.world, want.water)
+}
+
+/// The chunk at the origin has this after so many ticks, with the edits of a text.
+fn expect_ran(
+    rt: &impl Abort,
+    alloc: Global,
+    lines: &str,
+    ticks: u32,
+    want: Want<'_>,
+) -> Result<(), Fault> {
+    let after = flat_ran(alloc, &[ORIGIN], lines, ticks)?;
+    expect_after(rt, alloc, &after, want)
+}
+
+/// How many entries are taken in the chunk at the origin, with the edits of a text.
+fn count_after(alloc: Global, lines: &str, ticks: u32) -> Result<u128, Fault> {
+    Ok(flat_ran(alloc, &[ORIGIN], lines, ticks)?.count)
+}
+
+/// The number of a block of the chunk at the origin after so many ticks, with the edits of a text.
+fn number_after(alloc: Global, lines: &str, ticks: u32, pos: Pos) -> Result<Option<u16>, Fault> {
+    let after = flat_ran(alloc, &[ORIGIN], lines, ticks)?;
+    Ok(number_at(&after.world, pos))
+}
+
+/// Exactly these blocks of the chunk at the origin are water after so many ticks, with the edits of a text.
+fn expect_water_after(
+    rt: &impl Abort,
+    alloc: Global,
+    lines: &str,
+    ticks: u32,
+    want: &[Wet],
+) -> Result<(), Fault> {
+    let after = flat_ran(alloc, &[ORIGIN], lines, ticks)?;
+    expect_water(rt, alloc, &after.world, want)
 }
 
 /// The blocks that a source at (8, 64, 8) and its four sides wake, in order.
-const FIVE: [(i32, i32, i32); 5] = [(8, 64, 7), (8, 64, 8), (8, 64, 9), (7, 64, 8), (9, 64, 8)];
+const FIVE: [Place; 5] = [(8, 64, 7), (8, 64, 8), (8, 64, 9), (7, 64, 8), (9, 64, 8)];
 
 /// The source and its four sides.
-const SPREAD: [(i32, i32, i32, u16); 5] = [
+const SPREAD: [Wet; 5] = [
     (8, 64, 7, 1),
     (7, 64, 8, 1),
     (8, 64, 8, 0),
@@ -69,34 +119,52 @@ const SPREAD: [(i32, i32, i32, u16); 5] = [
     (8, 64, 9, 1),
 ];
 
+/// A source at (8, 64, 8) that waits until a tick.
+fn waiting(due: i64) -> Want<'static> {
+    Want {
+        count: 0,
+        water: &[(8, 64, 8, 0)],
+        due,
+        list: &[(8, 64, 8)],
+    }
+}
+
+/// The same after its turn: its sides are wet, and these five blocks wait.
+fn spread(due: i64) -> Want<'static> {
+    Want {
+        count: 1,
+        water: &SPREAD,
+        due,
+        list: &FIVE,
+    }
+}
+
 /// Water goes a block farther every five ticks, and its level grows by one.
 #[test]
 fn a_source_spreads(rt: HostRuntime) -> Result<(), Fail> {
     let alloc = rt.alloc();
-    let early = flat_ran(alloc, &[ORIGIN], W, 5)?;
-    assert_eq!(rt; early.count, 0);
-    expect_water(&rt, alloc, &early.world, &[(8, 64, 8, 0)])?;
-    expect_list(&rt, alloc, &early.world, ORIGIN, 6, &[(8, 64, 8)])?;
-    let first = flat_ran(alloc, &[ORIGIN], W, 6)?;
-    assert_eq!(rt; first.count, 1);
-    expect_water(&rt, alloc, &first.world, &SPREAD)?;
-    expect_list(&rt, alloc, &first.world, ORIGIN, 11, &FIVE)?;
-    assert_eq!(rt; flat_ran(alloc, &[ORIGIN], W, 11)?.count, 6);
+    expect_ran(&rt, alloc, W, 5, waiting(6))?;
+    expect_ran(&rt, alloc, W, 6, spread(11))?;
+    assert_eq!(rt; count_after(alloc, W, 11)?, 6);
     Ok(())
+}
+
+/// Each block of water is at y 64, and its level is its distance from (8, 64, 8).
+fn expect_distances(rt: &impl Abort, water: &[Wet]) {
+    for (x, y, z, level) in water {
+        assert_eq!(rt; *y, 64);
+        let distance = x.abs_diff(8).saturating_add(z.abs_diff(8));
+        assert_eq!(rt; u32::from(*level), distance, "({x}, 64, {z})");
+    }
 }
 
 /// After 36 ticks all blocks within distance 7 are wet, each of its distance as level.
 #[test]
 fn a_source_ends_at_distance_seven(rt: HostRuntime) -> Result<(), Fail> {
-    let alloc = rt.alloc();
-    let late = flat_ran(alloc, &[ORIGIN], W, 36)?;
-    let water = water_in(alloc, &late.world)?;
+    let late = flat_ran(rt.alloc(), &[ORIGIN], W, 36)?;
+    let water = water_in(rt.alloc(), &late.world)?;
     assert_eq!(rt; water.len(), 113);
-    for (x, y, z, level) in &water {
-        assert_eq!(rt; *y, 64);
-        let distance = x.abs_diff(8).saturating_add(z.abs_diff(8));
-        assert_eq!(rt; u32::from(*level), distance, "({x}, 64, {z})");
-    }
+    expect_distances(&rt, water.as_slice());
     Ok(())
 }
 
@@ -104,29 +172,27 @@ fn a_source_ends_at_distance_seven(rt: HostRuntime) -> Result<(), Fail> {
 #[test]
 fn water_dries(rt: HostRuntime) -> Result<(), Fail> {
     let alloc = rt.alloc();
-    let source = "1 8 64 8 minecraft:water[level=0]";
-    let air = "7 8 64 8 minecraft:air";
-    for lines in [
-        format!(in alloc; "{source}\n{air}")?,
-        format!(in alloc; "{air}\n{source}")?,
-    ] {
-        let dry = flat_ran(alloc, &[ORIGIN], lines.as_str(), 11)?;
-        expect_water(&rt, alloc, &dry.world, &[])?;
-        expect_list(&rt, alloc, &dry.world, ORIGIN, 0, &[])?;
-        assert_eq!(rt; dry.count, 6);
-    }
+    let dry = Want {
+        count: 6,
+        water: &[],
+        due: 0,
+        list: &[],
+    };
+    let source_first = "1 8 64 8 minecraft:water[level=0]\n7 8 64 8 minecraft:air";
+    expect_ran(&rt, alloc, source_first, 11, dry)?;
+    let air_first = "7 8 64 8 minecraft:air\n1 8 64 8 minecraft:water[level=0]";
+    expect_ran(&rt, alloc, air_first, 11, dry)?;
     Ok(())
 }
 
 /// The edits of a tick go by their lines: the later of two of one block stays.
 #[test]
 fn edits_go_by_their_lines(rt: HostRuntime) -> Result<(), Fail> {
-    let alloc = rt.alloc();
     let stone_last = "1 8 64 8 minecraft:water[level=0]\n1 8 64 8 minecraft:stone";
     let water_last = "1 8 64 8 minecraft:stone\n1 8 64 8 minecraft:water[level=0]";
     for (lines, number) in [(stone_last, STONE), (water_last, 1)] {
-        let after = flat_ran(alloc, &[ORIGIN], lines, 1)?;
-        assert_eq!(rt; number_at(&after.world, at(8, 64, 8)), Some(number));
+        let found = number_after(rt.alloc(), lines, 1, at(8, 64, 8))?;
+        assert_eq!(rt; found, Some(number));
     }
     Ok(())
 }
@@ -135,9 +201,8 @@ fn edits_go_by_their_lines(rt: HostRuntime) -> Result<(), Fail> {
 fn two_sources_make_a_third(rt: HostRuntime) -> Result<(), Fail> {
     let alloc = rt.alloc();
     let lines = "1 8 64 8 minecraft:water[level=0]\n1 10 64 8 minecraft:water[level=0]";
-    let after = flat_ran(alloc, &[ORIGIN], lines, 6)?;
-    assert_eq!(rt; after.count, 2);
-    assert_eq!(rt; number_at(&after.world, at(9, 64, 8)), Some(1));
+    assert_eq!(rt; count_after(alloc, lines, 6)?, 2);
+    assert_eq!(rt; number_after(alloc, lines, 6, at(9, 64, 8))?, Some(1));
     Ok(())
 }
 
@@ -146,11 +211,9 @@ fn two_sources_make_a_third(rt: HostRuntime) -> Result<(), Fail> {
 fn water_goes_to_the_nearest_drop(rt: HostRuntime) -> Result<(), Fail> {
     let alloc = rt.alloc();
     let east = "1 11 63 8 minecraft:air\n1 8 64 8 minecraft:water[level=0]";
-    let after = flat_ran(alloc, &[ORIGIN], east, 6)?;
-    expect_water(&rt, alloc, &after.world, &[(8, 64, 8, 0), (9, 64, 8, 1)])?;
+    expect_water_after(&rt, alloc, east, 6, &[(8, 64, 8, 0), (9, 64, 8, 1)])?;
     let north = "1 8 63 5 minecraft:air\n1 8 64 8 minecraft:water[level=0]";
-    let after = flat_ran(alloc, &[ORIGIN], north, 6)?;
-    expect_water(&rt, alloc, &after.world, &[(8, 64, 7, 1), (8, 64, 8, 0)])?;
+    expect_water_after(&rt, alloc, north, 6, &[(8, 64, 7, 1), (8, 64, 8, 0)])?;
     Ok(())
 }
 
@@ -171,24 +234,40 @@ fn is_water(number: Option<u16>) -> bool {
     }
 }
 
-/// Water falls a block every five ticks, and spreads above and below. The number 9 is falling water.
+/// A source that falls from y 70.
+const FALLING: &str = "1 8 70 8 minecraft:water[level=0]";
+
+/// Numbers of the four blocks beside the one at x 8 and z 8, after so many ticks of falling water.
+fn sides_after(alloc: Global, ticks: u32, y: i32) -> Result<[Option<u16>; 4], Fault> {
+    let after = flat_ran(alloc, &[ORIGIN], FALLING, ticks)?;
+    Ok(sides(&after.world, y))
+}
+
+/// Water falls a block every five ticks, and spreads above.
+#[test]
+fn falling_water_spreads_above(rt: HostRuntime) -> Result<(), Fail> {
+    for (ticks, number) in [(10, 0), (11, 2)] {
+        assert_eq!(rt; sides_after(rt.alloc(), ticks, 70)?, [Some(number); 4]);
+    }
+    Ok(())
+}
+
+/// It is on the ground after 31 ticks. The number 9 is falling water.
 #[test]
 fn water_falls(rt: HostRuntime) -> Result<(), Fail> {
-    let alloc = rt.alloc();
-    let lines = "1 8 70 8 minecraft:water[level=0]";
-    for (ticks, number) in [(10, 0), (11, 2)] {
-        let after = flat_ran(alloc, &[ORIGIN], lines, ticks)?;
-        assert_eq!(rt; sides(&after.world, 70), [Some(number); 4]);
-    }
     for (ticks, number) in [(30, 0), (31, 9)] {
-        let after = flat_ran(alloc, &[ORIGIN], lines, ticks)?;
-        assert_eq!(rt; number_at(&after.world, at(8, 64, 8)), Some(number));
+        let found = number_after(rt.alloc(), FALLING, ticks, at(8, 64, 8))?;
+        assert_eq!(rt; found, Some(number));
     }
+    Ok(())
+}
+
+/// It spreads below five ticks later.
+#[test]
+fn falling_water_spreads_below(rt: HostRuntime) -> Result<(), Fail> {
     for (ticks, wet) in [(35, false), (36, true)] {
-        let after = flat_ran(alloc, &[ORIGIN], lines, ticks)?;
-        for number in sides(&after.world, 64) {
-            assert_eq!(rt; is_water(number), wet);
-        }
+        let found = sides_after(rt.alloc(), ticks, 64)?.map(is_water);
+        assert_eq!(rt; found, [wet; 4]);
     }
     Ok(())
 }
@@ -196,8 +275,6 @@ fn water_falls(rt: HostRuntime) -> Result<(), Fail> {
 /// What lies below the world can't be entered.
 #[test]
 fn water_stays_on_the_lowest_layer(rt: HostRuntime) -> Result<(), Fail> {
-    let alloc = rt.alloc();
-    let after = flat_ran(alloc, &[ORIGIN], "1 8 -64 8 minecraft:water[level=0]", 6)?;
     let want = [
         (8, -64, 7, 1),
         (7, -64, 8, 1),
@@ -205,18 +282,18 @@ fn water_stays_on_the_lowest_layer(rt: HostRuntime) -> Result<(), Fail> {
         (9, -64, 8, 1),
         (8, -64, 9, 1),
     ];
-    expect_water(&rt, alloc, &after.world, &want)?;
+    let lines = "1 8 -64 8 minecraft:water[level=0]";
+    expect_water_after(&rt, rt.alloc(), lines, 6, &want)?;
     Ok(())
 }
 
 /// Overdue entries are turned by their own time, so that of tick -3 first. Of two entries of a block the first counts.
 #[test]
 fn overdue_entries_are_turned_first(rt: HostRuntime) -> Result<(), Fail> {
-    let alloc = rt.alloc();
     let (west, east) = (at(4, 64, 4), at(8, 64, 8));
     let entries = [entry(west, 1), entry(east, -3), entry(east, 9)];
-    let world = world_of(alloc, &[ORIGIN], &[west, east], &entries)?;
-    let after = ran(alloc, 1, world, "", 1)?;
+    let world = world_of(rt.alloc(), &[ORIGIN], &[west, east], &entries)?;
+    let after = ran(rt.alloc(), 1, world, "", 1)?;
     assert_eq!(rt; after.count, 2);
     let want = [
         (8, 64, 7),
@@ -230,55 +307,63 @@ fn overdue_entries_are_turned_first(rt: HostRuntime) -> Result<(), Fail> {
         (3, 64, 4),
         (5, 64, 4),
     ];
-    expect_list(&rt, alloc, &after.world, ORIGIN, 6, &want)?;
+    expect_list(&rt, &after.world, ORIGIN, 6, &want);
     Ok(())
 }
 
-/// Water goes from chunk to chunk, and entries stand in the list of their block's chunk.
+/// The water of two sources that spread by an edge of two chunks, and of one far from it.
+const OVER_THE_EDGE: [Wet; 15] = [
+    (8, 64, 7, 1),
+    (15, 64, 7, 1),
+    (24, 64, 7, 1),
+    (7, 64, 8, 1),
+    (8, 64, 8, 0),
+    (9, 64, 8, 1),
+    (14, 64, 8, 1),
+    (15, 64, 8, 0),
+    (16, 64, 8, 1),
+    (23, 64, 8, 1),
+    (24, 64, 8, 0),
+    (25, 64, 8, 1),
+    (8, 64, 9, 1),
+    (15, 64, 9, 1),
+    (24, 64, 9, 1),
+];
+
+/// Water goes from chunk to chunk.
 #[test]
 fn water_goes_over_a_border(rt: HostRuntime) -> Result<(), Fail> {
-    let alloc = rt.alloc();
     let lines = "1 8 64 8 minecraft:water[level=0]
 1 24 64 8 minecraft:water[level=0]
 1 15 64 8 minecraft:water[level=0]";
-    let after = flat_ran(alloc, &[ORIGIN, EAST], lines, 6)?;
+    let after = flat_ran(rt.alloc(), &[ORIGIN, EAST], lines, 6)?;
     assert_eq!(rt; after.count, 3);
-    let want = [
-        (8, 64, 7, 1),
-        (15, 64, 7, 1),
-        (24, 64, 7, 1),
-        (7, 64, 8, 1),
-        (8, 64, 8, 0),
-        (9, 64, 8, 1),
-        (14, 64, 8, 1),
-        (15, 64, 8, 0),
-        (16, 64, 8, 1),
-        (23, 64, 8, 1),
-        (24, 64, 8, 0),
-        (25, 64, 8, 1),
-        (8, 64, 9, 1),
-        (15, 64, 9, 1),
-        (24, 64, 9, 1),
-    ];
-    expect_water(&rt, alloc, &after.world, &want)?;
+    expect_water(&rt, rt.alloc(), &after.world, &OVER_THE_EDGE)?;
     Ok(())
 }
 
-/// A soaked slab is a source and stays, by a block table from version 2 on. It is the first state after stone.
+/// A slab that is soaked is set at (8, 64, 8) in tick 1. It is the first state after stone.
+fn expect_slab(
+    rt: &impl Abort,
+    alloc: Global,
+    version: u32,
+    count: u128,
+    water: &[Wet],
+) -> Result<(), Fault> {
+    let lines = "1 8 64 8 minecraft:oak_slab[type=bottom,waterlogged=true]";
+    let world = world_of(alloc, &[ORIGIN], &[], &[])?;
+    let after = ran(alloc, version, world, lines, 6)?;
+    let slab = number_at(&after.world, at(8, 64, 8));
+    assert_eq!(rt; (after.count, slab), (count, Some(STONE + 1)));
+    expect_water(rt, alloc, &after.world, water)
+}
+
+/// A soaked slab is a source and stays, by a block table from version 2 on.
 #[test]
 fn a_soaked_slab_spreads(rt: HostRuntime) -> Result<(), Fail> {
-    let alloc = rt.alloc();
-    let lines = "1 8 64 8 minecraft:oak_slab[type=bottom,waterlogged=true]";
     let beside = [(8, 64, 7, 1), (7, 64, 8, 1), (9, 64, 8, 1), (8, 64, 9, 1)];
-    let world = world_of(alloc, &[ORIGIN], &[], &[])?;
-    let soaked = ran(alloc, 2, world, lines, 6)?;
-    assert_eq!(rt; soaked.count, 1);
-    expect_water(&rt, alloc, &soaked.world, &beside)?;
-    assert_eq!(rt; number_at(&soaked.world, at(8, 64, 8)), Some(STONE + 1));
-    let dry = flat_ran(alloc, &[ORIGIN], lines, 6)?;
-    assert_eq!(rt; dry.count, 0);
-    expect_water(&rt, alloc, &dry.world, &[])?;
-    assert_eq!(rt; number_at(&dry.world, at(8, 64, 8)), Some(STONE + 1));
+    expect_slab(&rt, rt.alloc(), 2, 1, &beside)?;
+    expect_slab(&rt, rt.alloc(), 1, 0, &[])?;
     Ok(())
 }
 
@@ -292,15 +377,16 @@ fn late(alloc: Global, ticks: u32) -> Result<After, Fault> {
 /// An entry far in the future hides its block from each waking until it leaves.
 #[test]
 fn a_late_entry_hides_its_block(rt: HostRuntime) -> Result<(), Fail> {
-    let alloc = rt.alloc();
-    let before = late(alloc, 99)?;
-    assert_eq!(rt; before.count, 0);
-    expect_water(&rt, alloc, &before.world, &[(8, 64, 8, 0)])?;
-    expect_list(&rt, alloc, &before.world, ORIGIN, 100, &[(8, 64, 8)])?;
-    let after = late(alloc, 100)?;
-    assert_eq!(rt; after.count, 1);
-    expect_water(&rt, alloc, &after.world, &SPREAD)?;
-    expect_list(&rt, alloc, &after.world, ORIGIN, 105, &FIVE)?;
+    let before = late(rt.alloc(), 99)?;
+    expect_after(&rt, rt.alloc(), &before, waiting(100))?;
+    Ok(())
+}
+
+/// Its turn is then as any.
+#[test]
+fn a_late_entry_leaves(rt: HostRuntime) -> Result<(), Fail> {
+    let after = late(rt.alloc(), 100)?;
+    expect_after(&rt, rt.alloc(), &after, spread(105))?;
     Ok(())
 }
 
@@ -310,63 +396,79 @@ fn an_entry_due_now_hides_its_block(rt: HostRuntime) -> Result<(), Fail> {
     let alloc = rt.alloc();
     let world = world_of(alloc, &[ORIGIN], &[], &[entry(at(8, 64, 8), 1)])?;
     let after = ran(alloc, 1, world, W, 1)?;
-    assert_eq!(rt; after.count, 1);
-    expect_water(&rt, alloc, &after.world, &SPREAD)?;
-    expect_list(&rt, alloc, &after.world, ORIGIN, 6, &FIVE)?;
+    expect_after(&rt, alloc, &after, spread(6))?;
     Ok(())
 }
 
-/// Ticks in which nothing is to be done are soon over, and an entry of a dry block is turned and counted in its tick.
-#[test]
-fn idle_ticks_are_soon_over(rt: HostRuntime) -> Result<(), Fail> {
-    let alloc = rt.alloc();
+/// A million ticks of dry chunks with these entries take so many of them.
+fn expect_idle(
+    rt: &impl Abort,
+    alloc: Global,
+    entries: &[Entry],
+    count: u128,
+) -> Result<(), Fault> {
     let chunks = [
         ORIGIN,
         EAST,
         ChunkPos { x: 5, z: -7 },
         ChunkPos { x: -40, z: 33 },
     ];
-    let idle = flat_ran(alloc, &chunks, "", 1000000)?;
-    assert_eq!(rt; idle.count, 0);
-    expect_water(&rt, alloc, &idle.world, &[])?;
+    let world = world_of(alloc, &chunks, &[], entries)?;
+    let after = ran(alloc, 1, world, "", 1000000)?;
+    assert_eq!(rt; after.count, count);
+    expect_water(rt, alloc, &after.world, &[])
+}
+
+/// Ticks in which nothing is to be done are soon over, and an entry of a dry block is turned and counted in its tick.
+#[test]
+fn idle_ticks_are_soon_over(rt: HostRuntime) -> Result<(), Fail> {
+    expect_idle(&rt, rt.alloc(), &[], 0)?;
     for (due, count) in [(1000000, 1), (1000001, 0)] {
-        let world = world_of(alloc, &chunks, &[], &[entry(at(8, 64, 8), due)])?;
-        let after = ran(alloc, 1, world, "", 1000000)?;
-        assert_eq!(rt; after.count, count);
-        expect_water(&rt, alloc, &after.world, &[])?;
+        expect_idle(&rt, rt.alloc(), &[entry(at(8, 64, 8), due)], count)?;
     }
     Ok(())
+}
+
+/// Eleven ticks of a source, one by one: the world, and how many entries each took.
+fn ticked_one_by_one(alloc: Global) -> Result<(World, Vec<u64>), Fault> {
+    let world = world_of(alloc, &[ORIGIN], &[], &[])?;
+    let (edits, kinds) = edits_and_kinds(alloc, 1, &world, W, 11)?;
+    ticked(alloc, world, &kinds, edits.as_slice(), 11)
+}
+
+/// The water after eleven ticks of a source in one run.
+fn water_of_a_run(alloc: Global) -> Result<Vec<Wet>, Fault> {
+    let run = flat_ran(alloc, &[ORIGIN], W, 11)?;
+    water_in(alloc, &run.world)
 }
 
 /// Single ticks do what a run of them does: 1 entry is taken in tick 6, and 5 in tick 11.
 #[test]
 fn ticks_one_by_one(rt: HostRuntime) -> Result<(), Fail> {
-    let alloc = rt.alloc();
-    let world = world_of(alloc, &[ORIGIN], &[], &[])?;
-    let (edits, kinds) = edits_and_kinds(alloc, 1, &world, W, 11)?;
-    let (world, counts) = ticked(alloc, world, &kinds, edits.as_slice(), 11)?;
+    let (world, counts) = ticked_one_by_one(rt.alloc())?;
     assert_eq!(rt;
         counts.as_slice(),
         [0, 0, 0, 0, 0, 1, 0, 0, 0, 0, 5].as_slice()
     );
-    let run = flat_ran(alloc, &[ORIGIN], W, 11)?;
-    assert_eq!(rt;
-        water_in(alloc, &world)?.as_slice(),
-        water_in(alloc, &run.world)?.as_slice()
-    );
+    let water = water_of_a_run(rt.alloc())?;
+    expect_water(&rt, rt.alloc(), &world, water.as_slice())?;
     Ok(())
+}
+
+/// The one edit of a source, applied in tick 3.
+fn source_applied(rt: &impl Abort, alloc: Global) -> Result<World, Fault> {
+    let world = world_of(alloc, &[ORIGIN], &[], &[])?;
+    let (edits, kinds) = edits_and_kinds(alloc, 1, &world, W, 1)?;
+    assert_eq!(rt; edits.len(), 1);
+    applied(world, &kinds, 3, &edits[0])
 }
 
 /// An edit is applied in the tick that the call names: its entry is due five ticks later.
 #[test]
 fn an_edit_is_applied(rt: HostRuntime) -> Result<(), Fail> {
-    let alloc = rt.alloc();
-    let world = world_of(alloc, &[ORIGIN], &[], &[])?;
-    let (edits, kinds) = edits_and_kinds(alloc, 1, &world, W, 1)?;
-    assert_eq!(rt; edits.len(), 1);
-    let world = applied(world, &kinds, 3, &edits[0])?;
-    expect_water(&rt, alloc, &world, &[(8, 64, 8, 0)])?;
-    expect_list(&rt, alloc, &world, ORIGIN, 8, &[(8, 64, 8)])?;
+    let world = source_applied(&rt, rt.alloc())?;
+    expect_water(&rt, rt.alloc(), &world, &[(8, 64, 8, 0)])?;
+    expect_list(&rt, &world, ORIGIN, 8, &[(8, 64, 8)]);
     Ok(())
 }
 
@@ -382,7 +484,7 @@ fn a_broken_world_refuses(rt: HostRuntime) -> Result<(), Fail> {
     assert!(rt; apply(&mut world, &kinds, 1, &edits[0]).err() == Some(Fault::Broken));
     assert!(rt; tick(&mut world, &kinds, 1, edits).err() == Some(Fault::Broken));
     assert!(rt; run_ticks(alloc, &mut world, &kinds, edits, 9).err() == Some(Fault::Broken));
+    expect_list(&rt, &world, ORIGIN, 1, &[(8, 64, 8)]);
     expect_water(&rt, alloc, &world, &[])?;
-    expect_list(&rt, alloc, &world, ORIGIN, 1, &[(8, 64, 8)])?;
     Ok(())
 }
