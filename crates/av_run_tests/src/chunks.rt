@@ -4,9 +4,9 @@ use crate::given::{
     table_with, wet,
 };
 use av_image_tests::flat::Block::{Glowstone, Water};
-use av_image_tests::flat::{Flat, flat_region, up_to_light};
+use av_image_tests::flat::{Block, Flat, flat_region, up_to_light};
 use av_region::Region;
-use av_types::{ChunkPos, Height};
+use av_types::{ChunkPos, Height, Pos};
 use std::alloc::Global;
 use std::sync::Wait;
 use std::test::Fail;
@@ -89,25 +89,32 @@ fn light_byte(alloc: Global, file: &[u8], lit: Flat<'_>, x: i32, byte: usize) ->
     Ok(*light.get(byte).ok_or("no byte")?)
 }
 
-/// Light goes over the edge of a chunk, and it goes with its emitter.
+/// Glowstone by the edge of two chunks.
+fn glowing() -> [(Pos, Block); 1] {
+    [(at(15, 64, 8), Glowstone)]
+}
+
+/// Light goes over the edge of a chunk.
 #[test]
 fn light_of_two_chunks(rt: HostRuntime) -> Result<(), Fail> {
-    let alloc = rt.alloc();
-    let blocks = [(at(15, 64, 8), Glowstone)];
+    let blocks = glowing();
     let lit = flat(blocks.as_slice(), &[]);
-    let file = file_after(&rt, alloc, flat_region(alloc, lit, 2)?, "", 0)?;
+    let before = flat_region(rt.alloc(), lit, 2)?;
+    let file = file_after(&rt, rt.alloc(), before, "", 0)?;
     for (x, byte, want) in [(1, 64, 0xDE), (1, 70, 0x12), (1, 71, 0), (0, 71, 0xFE)] {
-        let found = light_byte(alloc, file.as_slice(), lit, x, byte)?;
+        let found = light_byte(rt.alloc(), file.as_slice(), lit, x, byte)?;
         assert_eq!(rt; found, want, "byte {byte} of chunk {x}");
     }
-    expect(
-        &rt,
-        alloc,
-        lit,
-        "1 15 64 8 minecraft:air",
-        (1, 2, 0),
-        flat(&[], &[]),
-    )
+    Ok(())
+}
+
+/// It goes with its emitter.
+#[test]
+fn light_that_goes(rt: HostRuntime) -> Result<(), Fail> {
+    let blocks = glowing();
+    let lit = flat(blocks.as_slice(), &[]);
+    let edits = "1 15 64 8 minecraft:air";
+    expect(&rt, rt.alloc(), lit, edits, (1, 2, 0), flat(&[], &[]))
 }
 
 /// Sections 0 to 15, by a table of version 3.

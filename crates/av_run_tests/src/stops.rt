@@ -1,6 +1,8 @@
 //! Runs that are stopped and resumed, of one flat chunk with stone at y 63.
 use crate::given::{at, file_after, run_edits, wet_at};
 use av_types::Wet;
+use std::alloc::Global;
+use std::process::Abort;
 use std::test::Fail;
 
 const SOURCE: &str = "1 8 64 8 minecraft:water[level=0]\n";
@@ -15,18 +17,24 @@ fn wet_around(x: u8, z: u8) -> Wet {
     }
 }
 
+/// Water stands at each distance from the source up to 7.
+fn expect_distances(rt: &impl Abort, alloc: Global, file: &[u8]) -> Result<(), Fail> {
+    for x in 0..16 {
+        for z in 0..16 {
+            let pos = at(i32::from(x), 64, i32::from(z));
+            let found = wet_at(alloc, file, pos)?;
+            assert!(rt; found == wet_around(x, z), "{x} {z}");
+        }
+    }
+    Ok(())
+}
+
 /// After 36 ticks water stands at each distance from the source up to 7, and 16 ticks on the files of 20 give these files.
 #[test]
 fn water_by_its_distance(rt: HostRuntime) -> Result<(), Fail> {
     let alloc = rt.alloc();
     let whole = run_edits(&rt, alloc, SOURCE, 36)?;
-    for x in 0..16 {
-        for z in 0..16 {
-            let want = wet_around(x, z);
-            let pos = at(i32::from(x), 64, i32::from(z));
-            assert!(rt; wet_at(alloc, whole.as_slice(), pos)? == want, "{x} {z}");
-        }
-    }
+    expect_distances(&rt, alloc, whole.as_slice())?;
     let stopped = run_edits(&rt, alloc, SOURCE, 20)?;
     assert!(rt; file_after(&rt, alloc, stopped, "", 16)? == whole);
     Ok(())

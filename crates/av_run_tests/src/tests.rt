@@ -4,6 +4,7 @@ use av_image_tests::flat::region;
 use av_run::{Outcome, RegionFile};
 use av_types::{Fault, RegionPos};
 use std::alloc::Global;
+use std::process::Abort;
 use std::sync::Wait;
 use std::test::Fail;
 use std::thread::Threads;
@@ -32,19 +33,23 @@ fn run_zeros(
     run_files(rt, alloc, files, given)
 }
 
+/// A file is that of this region, and has 8,192 zeros.
+fn expect_zeros(rt: &impl Abort, file: &RegionFile, x: i32, z: i32) {
+    assert_eq!(rt; file.pos, RegionPos { x, z });
+    assert_eq!(rt; file.bytes.len(), 8192);
+    assert!(rt; file.bytes.iter().all(|byte| *byte == 0));
+}
+
 /// A region without chunks comes out as it was, and a file of no bytes is such a region. Files come by z and then by x.
 #[test]
 fn empty_regions(rt: HostRuntime) -> Result<(), Fail> {
-    let alloc = rt.alloc();
     let regions = [(1, 0, 8192), (0, 1, 0), (0, -1, 0), (-1, 0, 8192)];
-    let outcome = run_zeros(&rt, alloc, regions.as_slice(), b"version = 1", 2)?;
+    let outcome = run_zeros(&rt, rt.alloc(), regions.as_slice(), b"version = 1", 2)?;
     let counts = (outcome.turns, outcome.chunks, outcome.files.len());
     assert_eq!(rt; counts, (0, 0, 4));
     let order = [(0, -1), (-1, 0), (1, 0), (0, 1)];
     for (file, (x, z)) in outcome.files.iter().zip(order.iter()) {
-        assert_eq!(rt; file.pos, RegionPos { x: *x, z: *z });
-        assert_eq!(rt; file.bytes.len(), 8192);
-        assert!(rt; file.bytes.iter().all(|byte| *byte == 0));
+        expect_zeros(&rt, file, *x, *z);
     }
     Ok(())
 }
@@ -92,10 +97,23 @@ fn a_chunk_that_is_kept(rt: HostRuntime) -> Result<(), Fail> {
     Ok(())
 }
 
+/// The line of the fault for which files of zeros are refused.
+fn refusal(
+    rt: &(impl Threads + Wait + Sync),
+    alloc: Global,
+    regions: &[(i32, i32, usize)],
+    table: &[u8],
+    workers: u32,
+) -> Result<String, Fail> {
+    let fault = run_zeros(rt, alloc, regions, table, workers)
+        .err()
+        .ok_or("no fault")?;
+    Ok(fault.to_string(alloc)?)
+}
+
 /// Of two faults the first in their order is answered: counts, the table, the list of regions, the bytes of a file.
 #[test]
 fn refused_input(rt: HostRuntime) -> Result<(), Fail> {
-    let alloc = rt.alloc();
     let short = [(0, 0, 100)];
     let twice = [(0, 0, 100), (0, 0, 8192)];
     let none: &[u8] = b"no table";
@@ -106,10 +124,8 @@ fn refused_input(rt: HostRuntime) -> Result<(), Fail> {
         (twice.as_slice(), table, 8, "fault 03: RepeatedRegion"),
         (short.as_slice(), table, 8, "fault 04: ShortHeader"),
     ] {
-        let fault = run_zeros(&rt, alloc, regions, table, workers)
-            .err()
-            .ok_or("no fault")?;
-        assert_eq!(rt; fault.to_string(alloc)?.as_str(), line);
+        let said = refusal(&rt, rt.alloc(), regions, table, workers)?;
+        assert_eq!(rt; said.as_str(), line);
     }
     Ok(())
 }
