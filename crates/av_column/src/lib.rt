@@ -4,4 +4,3 @@
 pub mod columns;
 
 pub use columns::Column;
-

@@ -6,4 +6,3 @@ pub mod packing;
 
 pub use nibbles::{nibble, set_nibble};
 pub use packing::{bits_for, get_at, longs_for, pack, set_at, unpack};
-

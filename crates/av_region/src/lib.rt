@@ -10,4 +10,3 @@ pub mod writing;
 pub use laws::written_holds;
 pub use reading::Region;
 pub use writing::write;
-

@@ -11,4 +11,3 @@ pub use fault::Fault;
 pub use place::{ChunkPos, Height, Place, Pos, RegionPos, SectionPos};
 pub use tick::{Entry, Made};
 pub use water::{Direction, Wet};
-
