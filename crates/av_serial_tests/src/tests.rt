@@ -29,13 +29,18 @@ fn entry(pos: Pos, due: i64) -> Entry {
 }
 
 /// A block of water with its x, y, z and level.
-type Wet = (i32, i32, i32, u16);
+type WetBlock = (i32, i32, i32, u16);
 
 /// A block by its x, y and z.
 type Place = (i32, i32, i32);
 
 /// Exactly these blocks are water, each of a level, by y, z and x.
-fn expect_water(rt: &impl Abort, alloc: Global, world: &World, want: &[Wet]) -> Result<(), Fault> {
+fn expect_water(
+    rt: &impl Abort,
+    alloc: Global,
+    world: &World,
+    want: &[WetBlock],
+) -> Result<(), Fault> {
     let water = water_in(alloc, world)?;
     assert_eq!(rt; water.as_slice(), want);
     Ok(())
@@ -55,7 +60,7 @@ fn expect_list(rt: &impl Abort, world: &World, chunk: ChunkPos, due: i64, want: 
 #[derive(Clone, Copy, Drop)]
 struct Want<'a> {
     count: u128,
-    water: &'a [Wet],
+    water: &'a [WetBlock],
     due: i64,
     list: &'a [Place],
 }
@@ -101,7 +106,7 @@ fn expect_water_after(
     alloc: Global,
     lines: &str,
     ticks: u32,
-    want: &[Wet],
+    want: &[WetBlock],
 ) -> Result<(), Fault> {
     let after = flat_ran(alloc, &[ORIGIN], lines, ticks)?;
     expect_water(rt, alloc, &after.world, want)
@@ -111,7 +116,7 @@ fn expect_water_after(
 const FIVE: [Place; 5] = [(8, 64, 7), (8, 64, 8), (8, 64, 9), (7, 64, 8), (9, 64, 8)];
 
 /// The source and its four sides.
-const SPREAD: [Wet; 5] = [
+const SPREAD: [WetBlock; 5] = [
     (8, 64, 7, 1),
     (7, 64, 8, 1),
     (8, 64, 8, 0),
@@ -150,7 +155,7 @@ fn a_source_spreads(rt: HostRuntime) -> Result<(), Fail> {
 }
 
 /// Each block of water is at y 64, and its level is its distance from (8, 64, 8).
-fn expect_distances(rt: &impl Abort, water: &[Wet]) {
+fn expect_distances(rt: &impl Abort, water: &[WetBlock]) {
     for (x, y, z, level) in water {
         assert_eq!(rt; *y, 64);
         let distance = x.abs_diff(8).saturating_add(z.abs_diff(8));
@@ -312,7 +317,7 @@ fn overdue_entries_are_turned_first(rt: HostRuntime) -> Result<(), Fail> {
 }
 
 /// The water of two sources that spread by an edge of two chunks, and of one far from it.
-const OVER_THE_EDGE: [Wet; 15] = [
+const OVER_THE_EDGE: [WetBlock; 15] = [
     (8, 64, 7, 1),
     (15, 64, 7, 1),
     (24, 64, 7, 1),
@@ -348,7 +353,7 @@ fn expect_slab(
     alloc: Global,
     version: u32,
     count: u128,
-    water: &[Wet],
+    water: &[WetBlock],
 ) -> Result<(), Fault> {
     let lines = "1 8 64 8 minecraft:oak_slab[type=bottom,waterlogged=true]";
     let world = world_of(alloc, &[ORIGIN], &[], &[])?;
@@ -437,7 +442,7 @@ fn ticked_one_by_one(alloc: Global) -> Result<(World, Vec<u64>), Fault> {
 }
 
 /// The water after eleven ticks of a source in one run.
-fn water_of_a_run(alloc: Global) -> Result<Vec<Wet>, Fault> {
+fn water_of_a_run(alloc: Global) -> Result<Vec<WetBlock>, Fault> {
     let run = flat_ran(alloc, &[ORIGIN], W, 11)?;
     water_in(alloc, &run.world)
 }
