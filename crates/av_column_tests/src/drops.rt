@@ -48,13 +48,17 @@ fn a_shut_block_is_no_hole_though_it_is_no_floor(rt: HostRuntime) -> Result<(), 
 }
 
 #[test]
-fn a_walk_has_four_steps_at_most(rt: HostRuntime) -> Result<(), Fail> {
+fn a_walk_has_four_steps(rt: HostRuntime) -> Result<(), Fail> {
     expect(
         &rt,
         rt.alloc(),
         &[((8, 64, 8), SOURCE), ((13, 63, 8), AIR)],
         [None, None, None, Some(4)],
-    )?;
+    )
+}
+
+#[test]
+fn a_walk_has_four_steps_at_most(rt: HostRuntime) -> Result<(), Fail> {
     expect(
         &rt,
         rt.alloc(),

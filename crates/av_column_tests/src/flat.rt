@@ -1,6 +1,6 @@
 //! A flat world of one chunk: stone at y 63, air from y 60 to 69 elsewhere, and blocks put into it.
 use arrayvec::ArrayVec;
-use av_cells::{Cells, set_awake};
+use av_cells::{Cells, Kind, can_enter, has_hole, kind_at, set_awake};
 use av_column::Column;
 use av_drop::drop_distance;
 use av_rules::{Kinds, Rules};
@@ -47,44 +47,54 @@ opacity = 0
 emission = 0
 ";
 
-fn bytes(alloc: Global, text: &str) -> Result<Vec<u8>, Fault> {
-    Ok(Vec::from_slice(alloc, text.as_bytes())?)
+fn property(alloc: Global, key: &str, value: &str) -> Result<Property, Fault> {
+    Ok(Property {
+        key: Vec::from_slice(alloc, key.as_bytes())?,
+        value: Vec::from_slice(alloc, value.as_bytes())?,
+    })
 }
 
-fn state(alloc: Global, name: &str, properties: Vec<Property>) -> Result<State, Fault> {
-    State::new(bytes(alloc, name)?, properties)?.ok_or(Fault::BadPalette)
+/// A state of a name, and of keys and values.
+fn state(alloc: Global, name: &str, pairs: &[(&str, &str)]) -> Result<State, Fault> {
+    let mut properties = Vec::new(alloc);
+    for (key, value) in pairs {
+        properties.push(property(alloc, *key, *value)?)?;
+    }
+    State::new(Vec::from_slice(alloc, name.as_bytes())?, properties)?.ok_or(Fault::BadPalette)
 }
 
-fn intern(
+/// Takes a state into the table, which gives it that number.
+pub fn intern(
     alloc: Global,
     rt: &impl Abort,
     table: &mut StateTable,
     name: &str,
+    pairs: &[(&str, &str)],
     number: u16,
 ) -> Result<(), Fault> {
-    let state = state(alloc, name, Vec::new(alloc))?;
+    let state = state(alloc, name, pairs)?;
     assert_eq!(rt; table.intern(&state), Ok(number));
     Ok(())
 }
 
-/// The kinds of the states above.
-pub fn kinds(alloc: Global, rt: &impl Abort) -> Result<Kinds, Fault> {
-    let rules = Rules::read(alloc, TABLE)?;
-    let mut table = StateTable::new(alloc)?;
-    intern(alloc, rt, &mut table, "minecraft:stone", STONE)?;
-    intern(alloc, rt, &mut table, "minecraft:lava", LAVA)?;
-    intern(alloc, rt, &mut table, "minecraft:grass", GRASS)?;
-    let mut properties = Vec::new(alloc);
-    properties.push(Property {
-        key: bytes(alloc, "waterlogged")?,
-        value: bytes(alloc, "true")?,
-    })?;
-    let soaked = state(alloc, "minecraft:grass", properties)?;
-    assert_eq!(rt; table.intern(&soaked), Ok(SOAKED_GRASS));
+/// The kinds of the states in a table, by rules of this text.
+pub fn kinds_by(alloc: Global, table: StateTable, text: &[u8]) -> Result<Kinds, Fault> {
+    let rules = Rules::read(alloc, text)?;
     Kinds::new(alloc, table, &rules)
 }
 
-fn at(block: Block) -> Pos {
+/// The kinds of the states above.
+pub fn kinds(alloc: Global, rt: &impl Abort) -> Result<Kinds, Fault> {
+    let mut table = StateTable::new(alloc)?;
+    intern(alloc, rt, &mut table, "minecraft:stone", &[], STONE)?;
+    intern(alloc, rt, &mut table, "minecraft:lava", &[], LAVA)?;
+    intern(alloc, rt, &mut table, "minecraft:grass", &[], GRASS)?;
+    let wet = [("waterlogged", "true")];
+    intern(alloc, rt, &mut table, "minecraft:grass", &wet, SOAKED_GRASS)?;
+    kinds_by(alloc, table, TABLE)
+}
+
+pub fn at(block: Block) -> Pos {
     let (x, y, z) = block;
     Pos { x, y, z }
 }
@@ -92,6 +102,13 @@ fn at(block: Block) -> Pos {
 fn put(column: &mut Column, pos: Pos, number: u16) {
     if column.loaded(pos) {
         column.set(pos, number);
+    }
+}
+
+/// Puts blocks into a column.
+pub fn put_all(column: &mut Column, blocks: &[(Block, u16)]) {
+    for (block, number) in blocks {
+        put(column, at(*block), *number);
     }
 }
 
@@ -103,9 +120,7 @@ pub fn flat_with(alloc: Global, blocks: &[(Block, u16)]) -> Result<Column, Fault
             put(&mut column, Pos { x, y: 63, z }, STONE);
         }
     }
-    for (block, number) in blocks {
-        put(&mut column, at(*block), *number);
-    }
+    put_all(&mut column, blocks);
     Ok(column)
 }
 
@@ -126,7 +141,7 @@ pub fn turned(
 }
 
 /// A turn in tick 1, prepared before, onto a list whose entries are forgotten.
-pub fn turn_onto_again(
+fn turn_onto_again(
     rt: &impl Abort,
     column: &mut Column,
     kinds: &Kinds,
@@ -141,6 +156,20 @@ pub fn turn_onto_again(
     assert!(rt; column.room() >= 42);
     made.clear();
     turn_onto(column, kinds, 1, pos, made);
+    Ok(())
+}
+
+/// A turn makes these entries, onto a list whose entries are forgotten.
+pub fn expect_onto_again(
+    rt: &impl Abort,
+    column: &mut Column,
+    kinds: &Kinds,
+    block: Block,
+    made: &mut ArrayVec<Entry, 42>,
+    entries: &[Block],
+) -> Result<(), Fault> {
+    turn_onto_again(rt, column, kinds, block, made)?;
+    expect_entries(rt, made.as_slice(), entries);
     Ok(())
 }
 
@@ -163,24 +192,44 @@ pub fn set(
 }
 
 /// What comes into a block.
-pub fn expect_coming(rt: &impl Abort, column: &Column, kinds: &Kinds, block: Block, want: Wet) {
-    let pos = at(block);
+pub fn comes_into(rt: &impl Abort, column: &Column, kinds: &Kinds, pos: Pos) -> Wet {
     assert!(rt; column.loaded(pos));
     assert!(rt; column.has_kinds(kinds));
-    assert_eq!(rt; incoming(column, kinds, pos), want);
+    incoming(column, kinds, pos)
 }
 
-fn expect_drop(
+/// Whether water can come into a loaded block.
+pub fn enters_at(rt: &impl Abort, column: &Column, kinds: &Kinds, pos: Pos) -> bool {
+    assert!(rt; column.loaded(pos));
+    assert!(rt; column.has_kinds(kinds));
+    can_enter(column, kinds, pos)
+}
+
+/// Whether a loaded block has a hole.
+#[tactic(auto, using(av_column::proofs::Slots::there_is_inner))]
+pub fn drops_at(rt: &impl Abort, column: &Column, kinds: &Kinds, pos: Pos) -> bool {
+    assert!(rt; column.loaded(pos));
+    assert!(rt; column.has_kinds(kinds));
+    has_hole(column, kinds, pos)
+}
+
+/// The kind of a block, loaded or not.
+pub fn kind(rt: &impl Abort, column: &Column, kinds: &Kinds, pos: Pos) -> Kind {
+    assert!(rt; column.has_kinds(kinds));
+    kind_at(column, kinds, pos)
+}
+
+/// The drop from (8, 64, 8) in one direction.
+pub fn drop_by(
     rt: &impl Abort,
     column: &Column,
     kinds: &Kinds,
     direction: Direction,
-    want: Option<u8>,
-) {
+) -> Option<u8> {
     let pos = Pos { x: 8, y: 64, z: 8 };
     assert!(rt; column.loaded(pos));
     assert!(rt; column.has_kinds(kinds));
-    assert_eq!(rt; drop_distance(column, kinds, pos, direction), want);
+    drop_distance(column, kinds, pos, direction)
 }
 
 /// The drops from (8, 64, 8) by north, south, west and east.
@@ -192,7 +241,7 @@ pub fn expect_drops(rt: &impl Abort, column: &Column, kinds: &Kinds, wants: [Opt
         Direction::East,
     ];
     for (direction, want) in directions.iter().zip(&wants) {
-        expect_drop(rt, column, kinds, *direction, *want);
+        assert_eq!(rt; drop_by(rt, column, kinds, *direction), *want);
     }
 }
 
@@ -200,18 +249,16 @@ pub fn expect_drops(rt: &impl Abort, column: &Column, kinds: &Kinds, wants: [Opt
 pub fn expect_entries(rt: &impl Abort, entries: &[Entry], wants: &[Block]) {
     assert_eq!(rt; entries.len(), wants.len());
     for (entry, block) in entries.iter().zip(wants) {
-        assert_eq!(rt;
-            *entry,
-            Entry {
-                pos: at(*block),
-                due: 6,
-                priority: 0
-            }
-        );
+        let want = Entry {
+            pos: at(*block),
+            due: 6,
+            priority: 0,
+        };
+        assert_eq!(rt; *entry, want);
     }
 }
 
-fn number_at(column: &Column, pos: Pos) -> Option<u16> {
+pub fn number_at(column: &Column, pos: Pos) -> Option<u16> {
     if column.loaded(pos) {
         Some(column.number(pos))
     } else {
@@ -226,6 +273,19 @@ pub fn expect_blocks(rt: &impl Abort, column: &Column, wants: &[(Block, u16)]) {
     }
 }
 
+/// The turn of a block makes these entries.
+pub fn expect_made(
+    rt: &impl Abort,
+    column: &mut Column,
+    kinds: &Kinds,
+    block: Block,
+    entries: &[Block],
+) -> Result<(), Fault> {
+    let made = turned(rt, column, kinds, block)?;
+    expect_entries(rt, made.as_slice(), entries);
+    Ok(())
+}
+
 /// In the flat world with these blocks the turn of (8, 64, 8) makes these entries, and leaves those blocks.
 pub fn expect_turn(
     rt: &impl Abort,
@@ -236,8 +296,7 @@ pub fn expect_turn(
 ) -> Result<(), Fail> {
     let kinds = kinds(alloc, rt)?;
     let mut column = flat_with(alloc, blocks)?;
-    let made = turned(rt, &mut column, &kinds, (8, 64, 8))?;
-    expect_entries(rt, made.as_slice(), entries);
+    expect_made(rt, &mut column, &kinds, (8, 64, 8), entries)?;
     expect_blocks(rt, &column, after);
     Ok(())
 }

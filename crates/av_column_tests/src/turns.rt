@@ -1,7 +1,7 @@
 //! Turns of (8, 64, 8), which is called p here.
 use crate::flat::{
-    AIR, FALLING, GRASS, SOAKED_GRASS, SOURCE, STONE, expect_entries, expect_turn, flat_with,
-    kinds, turn_onto_again,
+    AIR, FALLING, GRASS, SOAKED_GRASS, SOURCE, STONE, expect_onto_again, expect_turn, flat_with,
+    kinds,
 };
 use arrayvec::ArrayVec;
 use std::test::Fail;
@@ -50,30 +50,40 @@ fn one_list_serves_turn_after_turn(rt: HostRuntime) -> Result<(), Fail> {
     let blocks = [((8, 64, 8), SOURCE), ((9, 64, 8), SOAKED_GRASS)];
     let mut column = flat_with(rt.alloc(), &blocks)?;
     let mut made = ArrayVec::new();
-    turn_onto_again(&rt, &mut column, &kinds, (8, 64, 8), &mut made)?;
     let first = [(8, 64, 7), (8, 64, 8), (8, 64, 9), (7, 64, 8)];
-    expect_entries(&rt, made.as_slice(), &first);
-    turn_onto_again(&rt, &mut column, &kinds, (8, 66, 8), &mut made)?;
-    expect_entries(&rt, made.as_slice(), &[]);
+    expect_onto_again(&rt, &mut column, &kinds, (8, 64, 8), &mut made, &first)?;
+    expect_onto_again(&rt, &mut column, &kinds, (8, 66, 8), &mut made, &[])?;
     Ok(())
 }
 
 #[test]
 fn over_a_hole_it_spreads_with_three_sources(rt: HostRuntime) -> Result<(), Fail> {
-    let north = ((8, 64, 7), SOURCE);
-    let south = ((8, 64, 9), SOURCE);
-    let hole = ((8, 63, 8), AIR);
     expect_turn(
         &rt,
         rt.alloc(),
-        &[((8, 64, 8), 2), north, south, ((7, 64, 8), SOURCE), hole],
+        &[
+            ((8, 64, 8), 2),
+            ((8, 64, 7), SOURCE),
+            ((8, 64, 9), SOURCE),
+            ((7, 64, 8), SOURCE),
+            ((8, 63, 8), AIR),
+        ],
         &[(8, 63, 8), (8, 64, 8), (9, 64, 8)],
         &[((8, 63, 8), FALLING), ((9, 64, 8), 3)],
-    )?;
+    )
+}
+
+#[test]
+fn over_a_hole_it_does_not_spread_with_two_sources(rt: HostRuntime) -> Result<(), Fail> {
     expect_turn(
         &rt,
         rt.alloc(),
-        &[((8, 64, 8), 2), north, south, hole],
+        &[
+            ((8, 64, 8), 2),
+            ((8, 64, 7), SOURCE),
+            ((8, 64, 9), SOURCE),
+            ((8, 63, 8), AIR),
+        ],
         &[(8, 63, 8), (8, 64, 8)],
         &[((8, 63, 8), FALLING), ((9, 64, 8), AIR), ((7, 64, 8), AIR)],
     )
