@@ -1,6 +1,7 @@
 #!/usr/bin/env python3
 """Times ticks alone, by the programs' own clocks: what comes before them, as the reading of a region, is not counted. All programs are
-asked by turns, and each best of several counts.
+asked by turns, after a rest each, and each best of several counts: of those in which the host of a virtual machine took no processor
+away (Linux counts that time as stolen), or of all where there is none.
 
     bench/ticks.py TIMES                        100 ticks of a region in which 200 lakes spread at once: by the tick of one thread,
                                                 and by the crew with some numbers of workers
@@ -10,20 +11,40 @@ asked by turns, and each best of several counts.
 import os
 import subprocess
 import sys
+import time
 
 TOP = os.path.dirname(os.path.dirname(os.path.abspath(__file__)))
 PROGRAM = os.path.join(TOP, "crates/av_bench/out/av_bench")
 TABLE = os.path.join(TOP, "tables/blocks.toml")
 
+# Seconds before each program: a host that shares its processors out often lets one that rested have more of them.
+REST = 0.5
+
+
+def stolen():
+    """The ticks of a clock in which a processor of this machine was ready to run and the host didn't let it."""
+    with open("/proc/stat") as file:
+        return int(file.readline().split()[8])
+
 
 def run(command):
-    """The number of turns, the seconds of the ticks, the processor seconds and the most memory in MB of the whole program."""
+    """The number of turns, whether time was stolen, and the seconds of the ticks, the processor seconds and the most memory in MB of the
+    whole program."""
+    time.sleep(REST)
+    before = stolen()
     process = subprocess.Popen(command, stdout=subprocess.PIPE, text=True)
     words = process.stdout.read().split()
     _, status, usage = os.wait4(process.pid, 0)
     if status != 0:
         sys.exit("%s: status %d" % (" ".join(command), os.waitstatus_to_exitcode(status)))
-    return words[1], int(words[3]) / 1e6, usage.ru_utime + usage.ru_stime, usage.ru_maxrss / 1024
+    return words[1], stolen() > before, int(words[3]) / 1e6, usage.ru_utime + usage.ru_stime, usage.ru_maxrss / 1024
+
+
+def at_once(command, count):
+    """The seconds of the slowest of so many programs that run at once: those of one alone where the machine has as many processors."""
+    time.sleep(REST)
+    processes = [subprocess.Popen(command, stdout=subprocess.PIPE, text=True) for _ in range(count)]
+    return max(int(process.communicate()[0].split()[3]) / 1e6 for process in processes)
 
 
 def lakes():
@@ -43,16 +64,21 @@ def region(path, edits, plain):
 
 def measure(commands, times):
     """Ratios are to the first command's time."""
-    best = {name: (float("inf"),) * 3 for name in commands}
+    whole = {name: [] for name in commands}
+    disturbed = {name: [] for name in commands}
     turns = set()
     for _ in range(times):
         for name, command in commands.items():
-            turned, *figures = run(command)
+            turned, was_stolen, *figures = run(command)
             turns.add(turned)
-            best[name] = tuple(map(min, best[name], figures))
+            (disturbed if was_stolen else whole)[name].append(figures)
+    best = {name: tuple(map(min, zip(*(whole[name] or disturbed[name])))) for name in commands}
     first = next(iter(best.values()))[0]
     for name, (seconds, all_seconds, memory) in best.items():
-        print("%-10s  ticks %.4f s, ratio %.2f; program %.2f s of processors, %.0f MB" % (name, seconds, seconds / first, all_seconds, memory))
+        print("%-10s  ticks %.4f s, ratio %.2f; program %.2f s of processors, %.0f MB; %d of %d times undisturbed" % (
+            name, seconds, seconds / first, all_seconds, memory, len(whole[name]), times))
+    crowded = min(at_once(next(iter(commands.values())), 4) for _ in range(times))
+    print("the machine: four of the first at once take %.2f times as long as one alone" % (crowded / first))
     print("turns %s" % ", ".join(sorted(turns)))
     sys.exit(len(turns) != 1)
 
