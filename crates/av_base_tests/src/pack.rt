@@ -1,6 +1,7 @@
 //! Entries and half bytes by hand, with the counts of the format's description.
 ghost use Rattle.std.specs.Prelude.{◌≡◌, ◌<◌, ◌^◌, IfOk, length, All};
 
+use crate::expecting::expect_equal;
 use av_pack::{bits_for, get_at, longs_for, nibble, pack, set_at, set_nibble, unpack};
 use av_types::{Fault, Place};
 use std::alloc::{AllocError, Global};
@@ -19,7 +20,7 @@ fn remainders(alloc: Global) -> Result<Vec<u16>, AllocError>
 }
 
 #[test]
-fn bits_and_longs_of_palettes(rt: HostRuntime) {
+fn bits_of_palettes(rt: HostRuntime) {
     let palettes = [
         (1, 4),
         (16, 4),
@@ -33,6 +34,10 @@ fn bits_and_longs_of_palettes(rt: HostRuntime) {
     for (len, bits) in palettes {
         assert_eq!(rt; bits_for(len), bits, "for {len}");
     }
+}
+
+#[test]
+fn longs_of_bits(rt: HostRuntime) {
     let counts = [
         256, 342, 410, 456, 512, 586, 683, 820, 820, 1024, 1024, 1024, 1024,
     ];
@@ -44,71 +49,106 @@ fn bits_and_longs_of_palettes(rt: HostRuntime) {
 #[test]
 fn seventeen_values_take_342_longs(rt: HostRuntime) -> Result<(), Fail> {
     let values = remainders(rt.alloc())?;
-    let mut longs = pack(rt.alloc(), &values, 5)?;
-    assert_eq!(rt; longs.len(), 342);
-    // place 12 is the first entry of the second long
-    assert_eq!(rt; longs[1].cast_unsigned() % 32, 12);
-    // the places 4092 to 4095 have the values 12 to 15: 12 + 13 * 32 + 14 * 1,024 + 15 * 32,768
-    assert_eq!(rt; longs[341], 506284);
-    assert_eq!(rt;
-        unpack(rt.alloc(), &longs, 5)?.as_slice(),
-        values.as_slice()
-    );
-
-    let place = Place::new(12);
-    assert_eq!(rt; get_at(&longs, 5, place), 12);
-    set_at(&mut longs, 5, place, 31);
-    assert_eq!(rt; get_at(&longs, 5, place), 31);
-    assert_eq!(rt; get_at(&longs, 5, Place::new(13)), 13);
+    let longs = pack(rt.alloc(), &values, 5)?;
+    expect_equal(&rt, longs.len(), 342);
+    let unpacked = unpack(rt.alloc(), &longs, 5)?;
+    expect_equal(&rt, unpacked.as_slice(), values.as_slice());
     Ok(())
 }
 
 #[test]
-fn the_highest_bits_of_a_long(rt: HostRuntime) -> Result<(), Fail> {
-    let mut longs = vec![in rt.alloc(); 0; 256]?;
-    longs[15] = 0x1000_0000_0000_0000;
-    // x 15, y 0, z 15
-    assert_eq!(rt; unpack(rt.alloc(), &longs, 4)?.get(255).copied(), Some(1));
-    assert_eq!(rt; unpack(rt.alloc(), &longs, 4)?.get(254).copied(), Some(0));
-    longs[15] = -1;
-    assert_eq!(rt; unpack(rt.alloc(), &longs, 4)?.get(255).copied(), Some(15));
-    let short = unpack(rt.alloc(), &longs[1..], 4);
+fn lowest_entries_stand_first(rt: HostRuntime) -> Result<(), Fail> {
+    let longs = pack(rt.alloc(), &remainders(rt.alloc())?, 5)?;
+    assert_eq!(rt; longs.len(), 342);
+    // place 12 is the first entry of the second long
+    expect_equal(&rt, longs[1].cast_unsigned() % 32, 12);
+    // the places 4092 to 4095 have the values 12 to 15: 12 + 13 * 32 + 14 * 1,024 + 15 * 32,768
+    expect_equal(&rt, longs[341], 506284);
+    Ok(())
+}
+
+#[test]
+fn an_entry_is_set_alone(rt: HostRuntime) -> Result<(), Fail> {
+    let mut longs = pack(rt.alloc(), &remainders(rt.alloc())?, 5)?;
+    assert_eq!(rt; longs.len(), 342);
+    let place = Place::new(12);
+    expect_equal(&rt, get_at(&longs, 5, place), 12);
+    set_at(&mut longs, 5, place, 31);
+    expect_equal(&rt, get_at(&longs, 5, place), 31);
+    expect_equal(&rt, get_at(&longs, 5, Place::new(13)), 13);
+    Ok(())
+}
+
+/// The entries of four bits at x 15, y 0, z 15 and before it, of longs of which the sixteenth alone is not 0.
+fn entries_of(alloc: Global, long: i64) -> Result<(Option<u16>, Option<u16>), Fault> {
+    let mut longs = vec![in alloc; 0; 256]?;
+    longs[15] = long;
+    let values = unpack(alloc, &longs, 4)?;
+    Ok((values.get(255).copied(), values.get(254).copied()))
+}
+
+#[test]
+fn highest_bits_of_a_long(rt: HostRuntime) -> Result<(), Fail> {
+    let one = entries_of(rt.alloc(), 0x1000_0000_0000_0000)?;
+    expect_equal(&rt, one, (Some(1), Some(0)));
+    let all = entries_of(rt.alloc(), -1)?;
+    expect_equal(&rt, all, (Some(15), Some(15)));
+    Ok(())
+}
+
+#[test]
+fn longs_that_are_too_few(rt: HostRuntime) -> Result<(), Fail> {
+    let longs = vec![in rt.alloc(); 0; 255]?;
+    let short = unpack(rt.alloc(), &longs, 4);
     assert!(rt; matches!(short, Err(Fault::BadPacked)));
     Ok(())
 }
 
+/// The same longs, but that the four highest bits of the first are set, and all above the four entries of the last.
 #[test]
 fn bits_that_hold_no_entry_are_ignored(rt: HostRuntime) -> Result<(), Fail> {
     let values = remainders(rt.alloc())?;
     let mut longs = pack(rt.alloc(), &values, 5)?;
     assert_eq!(rt; longs.len(), 342);
-    // the four highest bits of a long, and all above the four entries of the last one
     longs[0] |= 0xF << 60;
     longs[341] |= -1 << 20;
-    assert_eq!(rt;
-        unpack(rt.alloc(), &longs, 5)?.as_slice(),
-        values.as_slice()
-    );
-    assert_eq!(rt; get_at(&longs, 5, Place::new(11)), 11);
-    assert_eq!(rt; get_at(&longs, 5, Place::new(4095)), 15);
-    // they stay when an entry is set
+    let unpacked = unpack(rt.alloc(), &longs, 5)?;
+    expect_equal(&rt, unpacked.as_slice(), values.as_slice());
+    expect_equal(&rt, get_at(&longs, 5, Place::new(11)), 11);
+    expect_equal(&rt, get_at(&longs, 5, Place::new(4095)), 15);
+    Ok(())
+}
+
+#[test]
+fn bits_that_hold_no_entry_stay(rt: HostRuntime) -> Result<(), Fail> {
+    let mut longs = pack(rt.alloc(), &remainders(rt.alloc())?, 5)?;
+    assert_eq!(rt; longs.len(), 342);
+    longs[341] |= -1 << 20;
     set_at(&mut longs, 5, Place::new(4095), 0);
-    assert_eq!(rt;
-        longs.get(341).copied(),
-        Some((-1 << 20) + 12 + 13 * 32 + 14 * 1024)
+    expect_equal(
+        &rt,
+        longs.last().copied(),
+        Some((-1 << 20) + 12 + 13 * 32 + 14 * 1024),
     );
     Ok(())
 }
 
 #[test]
-fn half_bytes(rt: HostRuntime) -> Result<(), Fail> {
+fn half_bytes_are_read(rt: HostRuntime) -> Result<(), Fail> {
     let mut bytes = vec![in rt.alloc(); 0; 2048]?;
     bytes[64] = 0xDE;
-    assert_eq!(rt; nibble(&bytes, Place::new(128)), 0xE);
-    assert_eq!(rt; nibble(&bytes, Place::new(129)), 0xD);
+    expect_equal(&rt, nibble(&bytes, Place::new(128)), 0xE);
+    expect_equal(&rt, nibble(&bytes, Place::new(129)), 0xD);
+    Ok(())
+}
+
+#[test]
+fn half_bytes_are_set(rt: HostRuntime) -> Result<(), Fail> {
+    let mut bytes = vec![in rt.alloc(); 0; 2048]?;
+    bytes[64] = 0xDE;
     set_nibble(&mut bytes, Place::new(128), 1);
     set_nibble(&mut bytes, Place::new(141), 2);
-    assert_eq!(rt; bytes.get(64).copied(), Some(0xD1));
-    assert_eq!(rt; bytes.get(70).copied(), Some(0x20));
+    expect_equal(&rt, bytes.get(64).copied(), Some(0xD1));
+    expect_equal(&rt, bytes.get(70).copied(), Some(0x20));
     Ok(())
 }

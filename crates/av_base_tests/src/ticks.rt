@@ -1,6 +1,8 @@
 //! Lists of scheduled ticks by hand.
+use crate::expecting::expect_equal;
 use av_ticks::{TickList, merge_made};
-use av_types::{Entry, Made, Pos};
+use av_types::{Entry, Fault, Made, Pos};
+use std::alloc::Global;
 use std::test::Fail;
 
 /// An entry at (8, 64, z).
@@ -20,76 +22,138 @@ fn made(maker: u64, number: u8) -> Made {
     }
 }
 
-/// Entries A to E, of which B, E, C and D are due in tick 5, in this order: an overdue one first, whatever its priority.
+/// Entries of which B, E, C and D are due in tick 5, in this order: an overdue one first, whatever its priority.
+const A: Entry = Entry {
+    pos: Pos { x: 8, y: 64, z: 1 },
+    due: 9,
+    priority: 0,
+};
+
+const B: Entry = Entry {
+    pos: Pos { x: 8, y: 64, z: 2 },
+    due: -3,
+    priority: 7,
+};
+
+const C: Entry = Entry {
+    pos: Pos { x: 8, y: 64, z: 3 },
+    due: 5,
+    priority: 0,
+};
+
+const D: Entry = Entry {
+    pos: Pos { x: 8, y: 64, z: 4 },
+    due: 5,
+    priority: 0,
+};
+
+const E: Entry = Entry {
+    pos: Pos { x: 8, y: 64, z: 5 },
+    due: 5,
+    priority: -1,
+};
+
+/// A list of these.
+fn five(alloc: Global) -> Result<TickList, Fault> {
+    let mut list = TickList::new(alloc);
+    list.reserve(5)?;
+    for entry in [A, B, C, D, E] {
+        list.add(entry)?;
+    }
+    Ok(list)
+}
+
+#[test]
+fn entries_stand_as_they_came(rt: HostRuntime) -> Result<(), Fail> {
+    let list = five(rt.alloc())?;
+    expect_equal(&rt, list.as_slice(), [A, B, C, D, E].as_slice());
+    expect_equal(&rt, (list.len(), list.is_empty()), (5, false));
+    expect_equal(&rt, TickList::new(rt.alloc()).is_empty(), true);
+    Ok(())
+}
+
 #[test]
 fn entries_leave_by_time_priority_and_place(rt: HostRuntime) -> Result<(), Fail> {
-    let a = entry(1, 9, 0);
-    let b = entry(2, -3, 7);
-    let c = entry(3, 5, 0);
-    let d = entry(4, 5, 0);
-    let e = entry(5, 5, -1);
-    let mut list = TickList::new(rt.alloc());
-    assert!(rt; list.is_empty());
-    list.reserve(5)?;
-    for entry in [a, b, c, d, e] {
-        assert!(rt; list.add(entry)?);
-    }
-    assert_eq!(rt; list.as_slice(), [a, b, c, d, e].as_slice());
-    assert_eq!(rt; list.take_due(5)?.as_slice(), [b, e, c, d].as_slice());
-    assert_eq!(rt; list.len(), 5);
-    assert!(rt; !list.add(entry(1, 5, 0))?);
+    let mut list = five(rt.alloc())?;
+    expect_equal(&rt, list.take_due(5)?.as_slice(), [B, E, C, D].as_slice());
+    expect_equal(&rt, list.len(), 5);
     list.drop_due(5);
-    assert_eq!(rt; list.as_slice(), [a].as_slice());
-    assert!(rt; list.has(a.pos));
-    assert!(rt; !list.has(b.pos));
-    assert!(rt; !list.add(entry(1, 9, 0))?);
-    assert!(rt; list.add(b)?);
-    assert_eq!(rt; list.iter().count(), 2);
+    expect_equal(&rt, list.as_slice(), [A].as_slice());
     Ok(())
 }
 
-/// The least time of no entry, of one, of two, and of the one that is left.
 #[test]
-fn the_least_time_is_known(rt: HostRuntime) -> Result<(), Fail> {
+fn a_position_has_one_entry(rt: HostRuntime) -> Result<(), Fail> {
+    let mut list = five(rt.alloc())?;
+    expect_equal(&rt, list.add(entry(1, 5, 0))?, false);
+    list.drop_due(5);
+    expect_equal(&rt, (list.has(A.pos), list.has(B.pos)), (true, false));
+    expect_equal(&rt, list.add(entry(1, 9, 0))?, false);
+    expect_equal(&rt, list.add(B)?, true);
+    expect_equal(&rt, list.iter().count(), 2);
+    Ok(())
+}
+
+/// The least time of no entry, and of one.
+#[test]
+fn the_least_time_of_one_entry(rt: HostRuntime) -> Result<(), Fail> {
     let mut list = TickList::new(rt.alloc());
-    assert_eq!(rt; list.soonest(), i64::MAX);
-    assert!(rt; !list.has_due(u32::MAX));
+    expect_equal(
+        &rt,
+        (list.soonest(), list.has_due(u32::MAX)),
+        (i64::MAX, false),
+    );
     list.reserve(1)?;
-    list.add_new(entry(1, 9, 0));
-    assert_eq!(rt; list.as_slice(), [entry(1, 9, 0)].as_slice());
-    assert_eq!(rt; list.soonest(), 9);
-    assert!(rt; list.add(entry(2, -3, 0))?);
-    assert_eq!(rt; list.soonest(), -3);
-    assert!(rt; list.has_due(0));
-    list.drop_due(8);
-    assert_eq!(rt; list.soonest(), 9);
-    assert!(rt; !list.has_due(8));
-    assert!(rt; list.has_due(9));
+    list.add_new(A);
+    expect_equal(&rt, list.as_slice(), [A].as_slice());
+    expect_equal(&rt, list.soonest(), 9);
     Ok(())
 }
 
-/// So many entries that they have an index: each is found, none twice, and those that are due leave.
+/// The least time of two entries, and of the one that is left.
 #[test]
-fn many_entries_are_found(rt: HostRuntime) -> Result<(), Fail> {
+fn the_least_time_of_two_entries(rt: HostRuntime) -> Result<(), Fail> {
     let mut list = TickList::new(rt.alloc());
+    list.add(A)?;
+    list.add(B)?;
+    expect_equal(&rt, (list.soonest(), list.has_due(0)), (-3, true));
+    list.drop_due(8);
+    expect_equal(&rt, list.soonest(), 9);
+    expect_equal(&rt, (list.has_due(8), list.has_due(9)), (false, true));
+    Ok(())
+}
+
+/// 200 entries at z 0 to 199, due in the ticks 0, 1 and 2 by turns: so many that they have an index.
+fn many(alloc: Global) -> Result<TickList, Fault> {
+    let mut list = TickList::new(alloc);
     list.reserve_indexed(42)?;
     for z in 0..200 {
-        assert!(rt; list.add(entry(z, i64::from(z % 3), 0))?);
+        list.add(entry(z, i64::from(z % 3), 0))?;
     }
     list.reserve_indexed(100)?;
-    assert_eq!(rt; list.len(), 200);
-    assert_eq!(rt; list.soonest(), 0);
+    Ok(list)
+}
+
+#[test]
+fn many_entries_are_found_each_once(rt: HostRuntime) -> Result<(), Fail> {
+    let mut list = many(rt.alloc())?;
+    expect_equal(&rt, (list.len(), list.soonest()), (200, 0));
     for z in 0..200 {
-        assert!(rt; list.has(entry(z, 0, 0).pos));
-        assert!(rt; !list.add(entry(z, 7, 0))?);
+        expect_equal(&rt, list.has(entry(z, 0, 0).pos), true);
+        expect_equal(&rt, list.add(entry(z, 7, 0))?, false);
     }
-    assert!(rt; !list.has(entry(200, 0, 0).pos));
-    assert_eq!(rt; list.take_due(0)?.len(), 67);
+    expect_equal(&rt, list.has(entry(200, 0, 0).pos), false);
+    Ok(())
+}
+
+#[test]
+fn many_entries_leave(rt: HostRuntime) -> Result<(), Fail> {
+    let mut list = many(rt.alloc())?;
+    expect_equal(&rt, list.take_due(0)?.len(), 67);
     list.drop_due(0);
-    assert_eq!(rt; list.len(), 133);
-    assert_eq!(rt; list.soonest(), 1);
+    expect_equal(&rt, (list.len(), list.soonest()), (133, 1));
     for z in 0..200 {
-        assert_eq!(rt; list.has(entry(z, 0, 0).pos), z % 3 != 0);
+        expect_equal(&rt, list.has(entry(z, 0, 0).pos), z % 3 != 0);
     }
     Ok(())
 }
@@ -99,9 +163,7 @@ fn made_entries_go_by_maker_and_number(rt: HostRuntime) -> Result<(), Fail> {
     let first = [made(2, 0), made(2, 1)].to_vec(rt.alloc())?;
     let second = [made(0, 0), made(5, 0)].to_vec(rt.alloc())?;
     let all = merge_made(rt.alloc(), [first, second].as_slice())?;
-    assert_eq!(rt;
-        all.as_slice(),
-        [made(0, 0), made(2, 0), made(2, 1), made(5, 0)].as_slice()
-    );
+    let want = [made(0, 0), made(2, 0), made(2, 1), made(5, 0)];
+    expect_equal(&rt, all.as_slice(), want.as_slice());
     Ok(())
 }

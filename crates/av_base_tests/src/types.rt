@@ -1,54 +1,81 @@
 //! Places, heights and fault lines by hand.
-use av_types::{ChunkPos, Fault, Height, Pos, RegionPos, SectionPos, Wet};
+use crate::expecting::expect_equal;
+use av_types::{ChunkPos, Fault, Height, Place, Pos, RegionPos, SectionPos, Wet};
 use std::test::Fail;
+
+/// The block at x -1, y -64 and z 31.
+const BLOCK: Pos = Pos {
+    x: -1,
+    y: -64,
+    z: 31,
+};
 
 #[test]
 fn conversions_round_down(rt: HostRuntime) {
-    let pos = Pos {
-        x: -1,
-        y: -64,
-        z: 31,
-    };
-    assert_eq!(rt; pos.chunk(), ChunkPos { x: -1, z: 1 });
-    assert_eq!(rt; pos.section(), SectionPos { x: -1, y: -4, z: 1 });
-    assert_eq!(rt; pos.section().chunk(), ChunkPos { x: -1, z: 1 });
-    // x 15, y 0, z 15 in the section
-    assert_eq!(rt; pos.place().index, 255);
-    // A place counts x within z, and z within y: 256 * 2 + 16 * 3 + 1.
-    assert_eq!(rt; Pos { x: 1, y: 2, z: 3 }.place().index, 561);
-    let chunk = ChunkPos { x: -1, z: -33 };
-    assert_eq!(rt; chunk.region(), RegionPos { x: -1, z: -2 });
-    assert_eq!(rt; chunk.index(), 31 + 32 * 31);
+    expect_equal(&rt, BLOCK.chunk(), ChunkPos { x: -1, z: 1 });
+    expect_equal(&rt, BLOCK.section(), SectionPos { x: -1, y: -4, z: 1 });
+    expect_equal(&rt, BLOCK.section().chunk(), ChunkPos { x: -1, z: 1 });
 }
 
+/// A place counts x within z, and z within y.
+#[test]
+fn a_place_of_a_block(rt: HostRuntime) {
+    // x 15, y 0, z 15 in the section
+    expect_equal(&rt, BLOCK.place().index, 255);
+    // 256 * 2 + 16 * 3 + 1
+    expect_equal(&rt, Pos { x: 1, y: 2, z: 3 }.place().index, 561);
+    expect_equal(&rt, Place::new(4095).index, 4095);
+}
+
+#[test]
+fn a_chunk_of_a_region(rt: HostRuntime) {
+    let chunk = ChunkPos { x: -1, z: -33 };
+    expect_equal(&rt, chunk.region(), RegionPos { x: -1, z: -2 });
+    expect_equal(&rt, chunk.index(), 31 + 32 * 31);
+}
+
+/// The index is x + 32 z, and not z + 32 x.
 #[test]
 fn an_index_names_its_chunk(rt: HostRuntime) {
     let region = RegionPos { x: -1, z: 2 };
     assert!(rt; region.is_in_limits());
-    assert_eq!(rt; region.chunk_at(0), ChunkPos { x: -32, z: 64 });
-    assert_eq!(rt; region.chunk_at(1023), ChunkPos { x: -1, z: 95 });
-    // The index is x + 32 z, and not z + 32 x.
-    assert_eq!(rt; region.chunk_at(1), ChunkPos { x: -31, z: 64 });
-    assert_eq!(rt; region.chunk_at(32), ChunkPos { x: -32, z: 65 });
-    assert_eq!(rt; ChunkPos { x: 1, z: 0 }.index(), 1);
-    assert_eq!(rt; ChunkPos { x: 0, z: 1 }.index(), 32);
-    assert!(rt; !RegionPos { x: 60001, z: 0 }.is_in_limits());
-    assert!(rt; RegionPos { x: 0, z: -60000 }.is_in_limits());
-    assert!(rt; !RegionPos { x: 0, z: -60001 }.is_in_limits());
+    let chunks = [(0, -32, 64), (1, -31, 64), (32, -32, 65), (1023, -1, 95)];
+    for (index, x, z) in chunks {
+        expect_equal(&rt, region.chunk_at(index), ChunkPos { x, z });
+    }
+    expect_equal(&rt, ChunkPos { x: 1, z: 0 }.index(), 1);
+    expect_equal(&rt, ChunkPos { x: 0, z: 1 }.index(), 32);
+}
+
+#[test]
+fn regions_have_limits(rt: HostRuntime) {
+    let regions = [
+        (60000, 0, true),
+        (60001, 0, false),
+        (0, -60000, true),
+        (0, -60001, false),
+    ];
+    for (x, z, inside) in regions {
+        expect_equal(&rt, RegionPos { x, z }.is_in_limits(), inside);
+    }
 }
 
 #[test]
 fn the_game_is_384_blocks_high(rt: HostRuntime) {
     let game = Height::game();
     for (y, inside) in [(-65, false), (-64, true), (319, true), (320, false)] {
-        assert_eq!(rt; game.has_block(y), inside, "at {y}");
+        expect_equal(&rt, game.has_block(y), inside);
     }
-    assert!(rt; game.has_section(19));
-    assert!(rt; !game.has_section(20));
+    expect_equal(&rt, game.has_section(20), false);
+}
+
+#[test]
+fn an_index_of_a_section(rt: HostRuntime) {
+    let game = Height::game();
     // (a section's number, its index)
     for (number, index) in [(-4, 0), (0, 4), (19, 23)] {
         assert!(rt; game.has_section(number));
-        assert_eq!(rt; game.section_index(number), index);
+        expect_equal(&rt, game.section_index(number), index);
     }
 }
 
@@ -59,27 +86,24 @@ fn another_height(rt: HostRuntime) {
         sections: 16,
     };
     for (y, inside) in [(-1, false), (0, true), (255, true), (256, false)] {
-        assert_eq!(rt; height.has_block(y), inside, "at {y}");
+        expect_equal(&rt, height.has_block(y), inside);
     }
-    assert!(rt; !height.has_section(-1));
-    assert!(rt; height.has_section(15));
+    expect_equal(&rt, height.has_section(-1), false);
+    expect_equal(&rt, height.has_section(15), true);
 }
 
 #[test]
-fn places_and_water(rt: HostRuntime) {
-    assert_eq!(rt; av_types::Place::new(4095).index, 4095);
+fn water(rt: HostRuntime) {
     let cases = [
-        (Wet::Dry, 0, false),
-        (Wet::Source, 8, true),
-        (Wet::Flow(3), 3, true),
-        (Wet::Falling, 8, true),
+        (Wet::Dry, 0, false, false),
+        (Wet::Source, 8, true, true),
+        (Wet::Flow(3), 3, true, false),
+        (Wet::Falling, 8, true, false),
     ];
-    for (wet, amount, is_wet) in cases {
-        assert_eq!(rt; wet.amount(), amount);
-        assert_eq!(rt; wet.is_wet(), is_wet);
+    for (wet, amount, is_wet, is_source) in cases {
+        let found = (wet.amount(), wet.is_wet(), wet.is_source());
+        expect_equal(&rt, found, (amount, is_wet, is_source));
     }
-    assert!(rt; Wet::Source.is_source());
-    assert!(rt; !Wet::Falling.is_source());
 }
 
 #[test]
@@ -120,8 +144,8 @@ fn faults_print_their_lines(rt: HostRuntime) -> Result<(), Fail> {
         (Fault::Broken, 26, "fault 26: Broken"),
     ];
     for (fault, number, line) in lines {
-        assert_eq!(rt; fault.number(), number);
-        assert_eq!(rt; fault.to_string(alloc)?.as_str(), line);
+        expect_equal(&rt, fault.number(), number);
+        expect_equal(&rt, fault.to_string(alloc)?.as_str(), line);
     }
     Ok(())
 }
