@@ -4,7 +4,8 @@ asked by turns, after a rest each, and each best of several counts: of those in 
 away (Linux counts that time as stolen), or of all where there is none.
 
     bench/ticks.py TIMES                        100 ticks of a region in which 200 lakes spread at once: by the tick of one thread,
-                                                and by the crew with some numbers of workers
+                                                and by the crew with some numbers of workers. First each lake is a source, and
+                                                then it is 5 by 5 sources
     bench/ticks.py TIMES REGION EDITS PLAIN     20 ticks of a region with edits: by the plain program, by the tick of one thread, and by
                                                 the crew with one worker
 """
@@ -47,10 +48,12 @@ def at_once(command, count):
     return max(int(process.communicate()[0].split()[3]) / 1e6 for process in processes)
 
 
-def lakes():
-    commands = {"one thread": [PROGRAM, "tick", "100", "0"]}
+def lakes(width):
+    """Of so many sources along x and as many along z."""
+    command = [PROGRAM, "tick", str(width), "100"]
+    commands = {"one thread": [*command, "0"]}
     for workers in (1, 2, 4, 8):
-        commands["%d workers" % workers] = [PROGRAM, "tick", "100", str(workers)]
+        commands["%d workers" % workers] = [*command, str(workers)]
     return commands
 
 
@@ -63,7 +66,7 @@ def region(path, edits, plain):
 
 
 def measure(commands, times):
-    """Ratios are to the first command's time."""
+    """Prints ratios to the first command's time, and answers whether all had the same turns."""
     whole = {name: [] for name in commands}
     disturbed = {name: [] for name in commands}
     turns = set()
@@ -80,8 +83,18 @@ def measure(commands, times):
     crowded = min(at_once(next(iter(commands.values())), 4) for _ in range(times))
     print("the machine: four of the first at once take %.2f times as long as one alone" % (crowded / first))
     print("turns %s" % ", ".join(sorted(turns)))
-    sys.exit(len(turns) != 1)
+    return len(turns) == 1
+
+
+def main(times, given):
+    if given:
+        return measure(region(*given), times)
+    are_same = []
+    for width in (1, 5):
+        print("lakes of %d by %d sources" % (width, width))
+        are_same.append(measure(lakes(width), times))
+    return all(are_same)
 
 
 if __name__ == "__main__":
-    measure(region(*sys.argv[2:]) if len(sys.argv) > 2 else lakes(), int(sys.argv[1]))
+    sys.exit(not main(int(sys.argv[1]), sys.argv[2:]))

@@ -23,7 +23,7 @@ use std::thread::Threads;
 use std::{env, fs};
 
 const USAGE: &str =
-    "av_bench decode FILE ROUNDS | recode IN OUT | rewrite IN OUT | light FILE TABLE TIMES | time FILE TABLE TIMES | plan lake|spread|pools ENTRIES ROUNDS | turn WORLDS | run FILE TABLE EDITS TICKS WORKERS | tick TICKS WORKERS | refuse WORKERS; several have a + between them";
+    "av_bench decode FILE ROUNDS | recode IN OUT | rewrite IN OUT | light FILE TABLE TIMES | time FILE TABLE TIMES | plan lake|spread|pools ENTRIES ROUNDS | turn WORLDS | run FILE TABLE EDITS TICKS WORKERS | tick WIDTH TICKS WORKERS | refuse WORKERS; several have a + between them";
 
 /// Writes what was made, and tells its size.
 fn write<R: Files + AllocGlobal>(rt: &R, path: &str, bytes: &[u8]) -> Result<String> {
@@ -87,10 +87,11 @@ fn run_ticks<R: Clock + Files + AllocGlobal + Threads + Wait + Sync>(
             let (table, edits) = (table.as_slice(), edits.as_slice());
             running::run_region(rt, alloc, bytes, table, edits, ticks, workers)
         }
-        ["tick", ticks, workers] => {
+        ["tick", width, ticks, workers] => {
+            let width: i32 = width.parse()?;
             let ticks: u32 = ticks.parse()?;
             let workers: u32 = workers.parse()?;
-            ticking::tick_lakes(rt, alloc, ticks, workers)
+            ticking::tick_lakes(rt, alloc, width, ticks, workers)
         }
         ["refuse", workers] => {
             let workers: u32 = workers.parse()?;

@@ -41,17 +41,55 @@ fn lake(index: u32) -> Pos {
     }
 }
 
-/// In each lake a source, which is there, taken away and there again.
-fn lake_edits(alloc: Global) -> Result<Vec<Edit>, AllocError> {
+/// A row of a lake in a tick: so many blocks along x, which become a source or air.
+fn push_row(
+    edits: &mut Vec<Edit>,
+    first: Pos,
+    width: i32,
+    tick: u32,
+    number: u16,
+) -> Result<(), AllocError> {
+    for x in 0..width {
+        let pos = Pos {
+            x: first.x.wrapping_add(x),
+            ..first
+        };
+        edits.push(Edit {
+            line: 1,
+            tick,
+            pos,
+            number,
+        })?;
+    }
+    Ok(())
+}
+
+/// A lake in a tick: so many rows.
+fn push_lake(
+    edits: &mut Vec<Edit>,
+    middle: Pos,
+    width: i32,
+    tick: u32,
+    number: u16,
+) -> Result<(), AllocError> {
+    let first = middle.z.wrapping_sub(width / 2);
+    for z in 0..width {
+        let row = Pos {
+            x: middle.x.wrapping_sub(width / 2),
+            y: middle.y,
+            z: first.wrapping_add(z),
+        };
+        push_row(edits, row, width, tick, number)?;
+    }
+    Ok(())
+}
+
+/// In each lake its sources, which are there, taken away and there again.
+fn lake_edits(alloc: Global, width: i32) -> Result<Vec<Edit>, AllocError> {
     let mut edits = Vec::new(alloc);
     for index in 0..200 {
         for (tick, number) in [(1, SOURCE), (41, AIR), (71, SOURCE)] {
-            edits.push(Edit {
-                line: 1,
-                tick,
-                pos: lake(index),
-                number,
-            })?;
+            push_lake(&mut edits, lake(index), width, tick, number)?;
         }
     }
     Ok(edits)
@@ -75,17 +113,19 @@ fn run_lakes<R: Threads + Wait + Sync>(
     crew_ran(rt, alloc, world, kinds, edits, ticks, workers, &NoGate)
 }
 
-/// The line has the number of turns, and how many microseconds the ticks alone took.
+/// Ticks of lakes of so many sources along x and as many along z. The line has the number of turns, and how many
+/// microseconds the ticks alone took.
 pub(crate) fn tick_lakes<R: Threads + Wait + Sync + Clock>(
     rt: &R,
     alloc: Global,
+    width: i32,
     ticks: u32,
     workers: u32,
 ) -> Result<String> {
     let chunks = region_chunks(alloc)?;
     let world = world_of(alloc, chunks.as_slice(), &[], &[])?;
     let (_, kinds) = edits_and_kinds(alloc, 1, &world, "", 0)?;
-    let edits = lake_edits(alloc)?;
+    let edits = lake_edits(alloc, width)?;
     let start = Instant::now(rt)?;
     let after = run_lakes(rt, alloc, world, &kinds, edits.as_slice(), ticks, workers)?;
     let took = start.elapsed(rt)?.as_micros();

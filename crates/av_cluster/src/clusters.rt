@@ -29,6 +29,9 @@ const MOST: usize = 4_294_967_295;
 /// For how many sections room is made at once: about 200 KB.
 const LIKELY: usize = 4096;
 
+/// For how many sections of a part room is made at once: those of one turn are at most 8.
+const LIKELY_IN_PART: usize = 16;
+
 /// The first place that touched each section.
 type Owners = IndexMap<(i32, i32, i32), usize>;
 
@@ -200,18 +203,17 @@ fn alone(alloc: Global, count: usize) -> Result<Vec<usize>, AllocError>
     Ok(parents)
 }
 
-/// Begins a part.
+/// Begins a part, with room for as many entries as the parts before it have on average.
 fn begin(clusters: &mut Vec<Cluster>, placed: Placed) -> Result<(), AllocError>
     ensures parts { OnOk result (parts_of clusters.new.items ≡ parts_of clusters.old.items ++ (placed ∷ []) ∷ []) }
     ensures bare { OnOk result (sections_of clusters.new.items ≡ sections_of clusters.old.items ++ [] ∷ []) }
 {
     let alloc = *clusters.allocator();
-    let mut entries = Vec::new(alloc);
+    let usual = placed.place as usize / clusters.len().max(1);
+    let mut entries = Vec::with_capacity(alloc, usual.max(1))?;
     entries.push(placed)?;
-    clusters.push(Cluster {
-        entries,
-        sections: Vec::new(alloc),
-    })?;
+    let sections = Vec::with_capacity(alloc, LIKELY_IN_PART)?;
+    clusters.push(Cluster { entries, sections })?;
     Ok(())
 }
 

@@ -1,4 +1,4 @@
-use Rattle.std.proofs.Common.{◌∙◌, sym}
+use Rattle.std.proofs.Common.{◌∙◌}
 use Rattle.av_cluster.proofs.clusters.owner_near.Goals as goal
 
 pub returns-in_err-at : goal.returns-in_err-at
