@@ -57,7 +57,7 @@ fn seventeen_values_take_342_longs(rt: HostRuntime) -> Result<(), Fail> {
 }
 
 #[test]
-fn lowest_entries_stand_first(rt: HostRuntime) -> Result<(), Fail> {
+fn first_entries_stand_lowest(rt: HostRuntime) -> Result<(), Fail> {
     let longs = pack(rt.alloc(), &remainders(rt.alloc())?, 5)?;
     assert_eq!(rt; longs.len(), 342);
     // place 12 is the first entry of the second long
@@ -68,7 +68,7 @@ fn lowest_entries_stand_first(rt: HostRuntime) -> Result<(), Fail> {
 }
 
 #[test]
-fn an_entry_is_set_alone(rt: HostRuntime) -> Result<(), Fail> {
+fn an_entry_is_set_beside_another(rt: HostRuntime) -> Result<(), Fail> {
     let mut longs = pack(rt.alloc(), &remainders(rt.alloc())?, 5)?;
     assert_eq!(rt; longs.len(), 342);
     let place = Place::new(12);
@@ -98,13 +98,14 @@ fn highest_bits_of_a_long(rt: HostRuntime) -> Result<(), Fail> {
 
 #[test]
 fn longs_that_are_too_few(rt: HostRuntime) -> Result<(), Fail> {
-    let longs = vec![in rt.alloc(); 0; 255]?;
+    let longs = vec![in rt.alloc(); -1; 255]?;
     let short = unpack(rt.alloc(), &longs, 4);
     assert!(rt; matches!(short, Err(Fault::BadPacked)));
     Ok(())
 }
 
-/// The same longs, but that the four highest bits of the first are set, and all above the four entries of the last.
+/// The longs of the remainders, but that the four highest bits of the first are set, and all above the four entries of
+/// the last.
 #[test]
 fn bits_that_hold_no_entry_are_ignored(rt: HostRuntime) -> Result<(), Fail> {
     let values = remainders(rt.alloc())?;
@@ -123,6 +124,7 @@ fn bits_that_hold_no_entry_are_ignored(rt: HostRuntime) -> Result<(), Fail> {
 fn bits_that_hold_no_entry_stay(rt: HostRuntime) -> Result<(), Fail> {
     let mut longs = pack(rt.alloc(), &remainders(rt.alloc())?, 5)?;
     assert_eq!(rt; longs.len(), 342);
+    longs[0] |= 0xF << 60;
     longs[341] |= -1 << 20;
     set_at(&mut longs, 5, Place::new(4095), 0);
     expect_equal(

@@ -17,7 +17,7 @@ fn region_with(alloc: Global, location: [u8; 4], chunk: &[u8]) -> Result<Vec<u8>
 }
 
 #[test]
-fn empty_files(rt: HostRuntime) -> Result<(), Fail> {
+fn files_without_chunks(rt: HostRuntime) -> Result<(), Fail> {
     for len in [0, 8192] {
         let file = vec![in rt.alloc(); 0u8; len]?;
         let region = Region::read(&file)?;
@@ -70,8 +70,8 @@ fn faults_of_a_chunk(rt: HostRuntime) -> Result<(), Fail> {
     Ok(())
 }
 
-/// What is read of chunk 0 where the file is cut after so many bytes. Its length field, in sector 2, is 5: the file is
-/// whole from 8,196 + 5 bytes on.
+/// What is read of chunk 0 where the file is cut after no byte, or after so many from 8,192 on. Its length field, in
+/// sector 2, is 5: the file is whole from 8,196 + 5 bytes on.
 fn cut_payload(len: usize) -> Result<Option<&'static [u8]>, Fault> {
     if len == 0 {
         Ok(None)
@@ -162,7 +162,7 @@ fn chunks_are_written_without_gaps(rt: HostRuntime) -> Result<(), Fail> {
 }
 
 #[test]
-fn a_written_region_is_read(rt: HostRuntime) -> Result<(), Fail> {
+fn stamps_of_a_written_region(rt: HostRuntime) -> Result<(), Fail> {
     let file = written_ends(rt.alloc(), true)?;
     let region = Region::read(&file)?;
     expect_equal(&rt, region.payload(1)?, None);

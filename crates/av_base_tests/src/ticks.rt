@@ -22,7 +22,7 @@ fn made(maker: u64, number: u8) -> Made {
     }
 }
 
-/// Entries of which B, E, C and D are due in tick 5, in this order: an overdue one first, whatever its priority.
+/// An entry that is due in tick 9.
 const A: Entry = Entry {
     pos: Pos { x: 8, y: 64, z: 1 },
     due: 9,
@@ -53,22 +53,32 @@ const E: Entry = Entry {
     priority: -1,
 };
 
-/// A list of these.
+/// How many of some entries a list takes.
+fn count_added(list: &mut TickList, entries: &[Entry]) -> Result<usize, Fault> {
+    let mut count = 0;
+    for entry in entries {
+        if list.add(*entry)? {
+            count += 1;
+        }
+    }
+    Ok(count)
+}
+
+/// A list of A to E. In tick 5 B, E, C and D are due, in this order: an overdue one first, whatever its priority.
 fn five(alloc: Global) -> Result<TickList, Fault> {
     let mut list = TickList::new(alloc);
     list.reserve(5)?;
-    for entry in [A, B, C, D, E] {
-        list.add(entry)?;
-    }
+    count_added(&mut list, &[A, B, C, D, E])?;
     Ok(list)
 }
 
 #[test]
 fn entries_stand_as_they_came(rt: HostRuntime) -> Result<(), Fail> {
-    let list = five(rt.alloc())?;
+    let mut list = TickList::new(rt.alloc());
+    expect_equal(&rt, list.is_empty(), true);
+    expect_equal(&rt, count_added(&mut list, &[A, B, C, D, E])?, 5);
     expect_equal(&rt, list.as_slice(), [A, B, C, D, E].as_slice());
     expect_equal(&rt, (list.len(), list.is_empty()), (5, false));
-    expect_equal(&rt, TickList::new(rt.alloc()).is_empty(), true);
     Ok(())
 }
 
@@ -82,14 +92,15 @@ fn entries_leave_by_time_priority_and_place(rt: HostRuntime) -> Result<(), Fail>
     Ok(())
 }
 
+/// A refused entry changes nothing, and one that left can come again.
 #[test]
 fn a_position_has_one_entry(rt: HostRuntime) -> Result<(), Fail> {
     let mut list = five(rt.alloc())?;
     expect_equal(&rt, list.add(entry(1, 5, 0))?, false);
     list.drop_due(5);
+    expect_equal(&rt, list.as_slice(), [A].as_slice());
     expect_equal(&rt, (list.has(A.pos), list.has(B.pos)), (true, false));
-    expect_equal(&rt, list.add(entry(1, 9, 0))?, false);
-    expect_equal(&rt, list.add(B)?, true);
+    expect_equal(&rt, count_added(&mut list, &[A, B])?, 1);
     expect_equal(&rt, list.iter().count(), 2);
     Ok(())
 }
@@ -114,8 +125,9 @@ fn the_least_time_of_one_entry(rt: HostRuntime) -> Result<(), Fail> {
 #[test]
 fn the_least_time_of_two_entries(rt: HostRuntime) -> Result<(), Fail> {
     let mut list = TickList::new(rt.alloc());
-    list.add(A)?;
-    list.add(B)?;
+    list.reserve(1)?;
+    list.add_new(A);
+    expect_equal(&rt, list.add(entry(2, -3, 0))?, true);
     expect_equal(&rt, (list.soonest(), list.has_due(0)), (-3, true));
     list.drop_due(8);
     expect_equal(&rt, list.soonest(), 9);
@@ -123,26 +135,42 @@ fn the_least_time_of_two_entries(rt: HostRuntime) -> Result<(), Fail> {
     Ok(())
 }
 
-/// 200 entries at z 0 to 199, due in the ticks 0, 1 and 2 by turns: so many that they have an index.
+/// An entry of many: at z 0 to 199, due in the ticks 0, 1 and 2 by turns.
+fn one_of_many(z: i32) -> Entry {
+    entry(z, i64::from(z % 3), 0)
+}
+
+/// A list of 200 entries, which are so many that they have an index.
 fn many(alloc: Global) -> Result<TickList, Fault> {
     let mut list = TickList::new(alloc);
     list.reserve_indexed(42)?;
     for z in 0..200 {
-        list.add(entry(z, i64::from(z % 3), 0))?;
+        count_added(&mut list, &[one_of_many(z)])?;
     }
     list.reserve_indexed(100)?;
     Ok(list)
 }
 
 #[test]
-fn many_entries_are_found_each_once(rt: HostRuntime) -> Result<(), Fail> {
-    let mut list = many(rt.alloc())?;
+fn many_entries_are_added(rt: HostRuntime) -> Result<(), Fail> {
+    let mut list = TickList::new(rt.alloc());
+    for z in 0..200 {
+        expect_equal(&rt, list.add(one_of_many(z))?, true);
+    }
     expect_equal(&rt, (list.len(), list.soonest()), (200, 0));
+    Ok(())
+}
+
+/// Each is found, and a second one of its position is refused and changes nothing.
+#[test]
+fn many_entries_are_found(rt: HostRuntime) -> Result<(), Fail> {
+    let mut list = many(rt.alloc())?;
     for z in 0..200 {
         expect_equal(&rt, list.has(entry(z, 0, 0).pos), true);
         expect_equal(&rt, list.add(entry(z, 7, 0))?, false);
     }
     expect_equal(&rt, list.has(entry(200, 0, 0).pos), false);
+    expect_equal(&rt, (list.len(), list.take_due(0)?.len()), (200, 67));
     Ok(())
 }
 
