@@ -1,4 +1,5 @@
 //! Names and lines. What the program answers, `scripts/check_words.sh` asks of the built one.
+use crate::expecting::expect_equal;
 use av_commands::block::block_text;
 use av_commands::checking::findings;
 use av_commands::names::{file_name, region_of_name};
@@ -38,9 +39,9 @@ fn names_of_regions(rt: HostRuntime) -> Result<(), Fail> {
     ] {
         assert_eq!(rt; region_of_name(alloc, name)?, None, "{name}");
     }
-    assert_eq!(rt; file_name("a/b/r.0.0.mca"), "r.0.0.mca");
-    assert_eq!(rt; file_name("r.0.0.mca"), "r.0.0.mca");
-    assert_eq!(rt; file_name("a/"), "");
+    expect_equal(&rt, file_name("a/b/r.0.0.mca"), "r.0.0.mca");
+    expect_equal(&rt, file_name("r.0.0.mca"), "r.0.0.mca");
+    expect_equal(&rt, file_name("a/"), "");
     Ok(())
 }
 
@@ -62,12 +63,13 @@ fn a_line_for_each_finding(rt: HostRuntime) -> Result<(), Fail> {
     let mut out = Vec::new(alloc);
     let mut err = Vec::new(alloc);
     let surveyed = Ok(found);
-    assert_eq!(rt; findings(&surveyed, &mut out, &mut err), 1);
-    assert_eq!(rt;
+    expect_equal(&rt, findings(&surveyed, &mut out, &mut err), 1);
+    expect_equal(
+        &rt,
         out.as_slice(),
-        b"r.-1.2.mca -31 64 fault 09: Compression 2\nr.3.4.mca fault 04: ShortHeader\n".as_slice()
+        b"r.-1.2.mca -31 64 fault 09: Compression 2\nr.3.4.mca fault 04: ShortHeader\n".as_slice(),
     );
-    assert_eq!(rt; err.len(), 0);
+    expect_equal(&rt, err.len(), 0);
     Ok(())
 }
 
@@ -88,7 +90,7 @@ fn a_line_that_finds_no_room(rt: HostRuntime) {
         &mut out,
         &mut err,
     );
-    assert_eq!(rt; status, 1);
-    assert_eq!(rt; room.as_slice(), b"unlo".as_slice());
-    assert_eq!(rt; err.len(), 0);
+    expect_equal(&rt, status, 1);
+    expect_equal(&rt, room.as_slice(), b"unlo".as_slice());
+    expect_equal(&rt, err.len(), 0);
 }

@@ -2,6 +2,7 @@
 ghost use Rattle.std.specs.Prelude.{◌≡◌, [], ◌∷◌, ◌++◌, OnOk, OnErr, Some, map, string_bytes};
 ghost use Rattle.av_sink.specs.Account.{Account, file_named};
 
+use crate::expecting::expect_equal;
 use av_sink::{RegionFile, Sink, SinkFailed, region_name, save_all};
 use av_types::RegionPos;
 use std::alloc::{AllocError, Global};
@@ -81,10 +82,10 @@ fn three(alloc: Global) -> Result<Vec<RegionFile>, AllocError> {
 
 /// That the sink has the first files, as many as it counts, and no other.
 fn has_the_first(rt: &impl Abort, sink: &Memory) {
-    assert_eq!(rt; sink.files.len() as u64, sink.handed());
+    expect_equal(rt, sink.files.len() as u64, sink.handed());
     for (file, (name, byte)) in sink.files.iter().zip(NAMES.iter().zip(b"012".iter())) {
-        assert_eq!(rt; file.name.as_str(), *name);
-        assert_eq!(rt; file.bytes.as_slice(), [*byte].as_slice());
+        expect_equal(rt, file.name.as_str(), *name);
+        expect_equal(rt, file.bytes.as_slice(), [*byte].as_slice());
     }
 }
 
@@ -100,12 +101,13 @@ fn each_file_once_under_its_name(rt: HostRuntime) -> Result<(), Fail> {
     };
     let files = three(alloc)?;
     save_all(alloc, &mut sink, files.as_slice())?;
-    assert_eq!(rt; sink.handed(), 3);
-    assert_eq!(rt; sink.failures(), 0);
+    expect_equal(&rt, sink.handed(), 3);
+    expect_equal(&rt, sink.failures(), 0);
     has_the_first(&rt, &sink);
-    assert_eq!(rt;
+    expect_equal(
+        &rt,
         region_name(alloc, RegionPos { x: 5, z: -7 })?.as_str(),
-        "r.5.-7.mca"
+        "r.5.-7.mca",
     );
     Ok(())
 }
@@ -130,9 +132,9 @@ fn a_write_that_fails(rt: HostRuntime) -> Result<(), Fail> {
         let fault = save_all(alloc, &mut sink, files.as_slice())
             .err()
             .ok_or("no fault")?;
-        assert_eq!(rt; fault.to_string(alloc)?.as_str(), *line);
-        assert_eq!(rt; sink.handed(), full_at as u64);
-        assert_eq!(rt; sink.failures(), 1);
+        expect_equal(&rt, fault.to_string(alloc)?.as_str(), *line);
+        expect_equal(&rt, sink.handed(), full_at as u64);
+        expect_equal(&rt, sink.failures(), 1);
         has_the_first(&rt, &sink);
     }
     Ok(())

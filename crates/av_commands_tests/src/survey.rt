@@ -1,4 +1,5 @@
 //! What is found wrong with small region files.
+use crate::expecting::expect_equal;
 use av_sink::RegionFile;
 use av_survey::survey;
 use av_types::{ChunkPos, Fault, Height, RegionPos};
@@ -31,11 +32,11 @@ fn the_first_fault_of_each_chunk(rt: HostRuntime) -> Result<(), Fail> {
         (ChunkPos { x: 0, z: 0 }, Fault::Compression(2)),
         (ChunkPos { x: 1, z: 1 }, Fault::BadLength),
     ];
-    assert_eq!(rt; found.len(), 2);
+    expect_equal(&rt, found.len(), 2);
     for (finding, (chunk, fault)) in found.iter().zip(wanted.iter()) {
-        assert_eq!(rt; finding.region, pos);
-        assert_eq!(rt; finding.chunk, Some(*chunk));
-        assert_eq!(rt; finding.fault, *fault);
+        expect_equal(&rt, finding.region, pos);
+        expect_equal(&rt, finding.chunk, Some(*chunk));
+        expect_equal(&rt, &finding.fault, fault);
     }
     Ok(())
 }
@@ -58,11 +59,11 @@ fn files_that_are_cut_short(rt: HostRuntime) -> Result<(), Fail> {
         })?;
     }
     let found = survey(alloc, files, Height::game())?;
-    assert_eq!(rt; found.len(), 4);
+    expect_equal(&rt, found.len(), 4);
     for (finding, (x, z)) in found.iter().zip([(5, -1), (2, 0), (10, 0), (0, 1)].iter()) {
-        assert_eq!(rt; finding.region, RegionPos { x: *x, z: *z });
-        assert!(rt; finding.chunk.is_none());
-        assert_eq!(rt; finding.fault, Fault::ShortHeader);
+        expect_equal(&rt, finding.region, RegionPos { x: *x, z: *z });
+        expect_equal(&rt, finding.chunk, None);
+        expect_equal(&rt, &finding.fault, &Fault::ShortHeader);
     }
     Ok(())
 }
@@ -83,17 +84,20 @@ fn refusal(alloc: Global, regions: &[(i32, i32)]) -> Result<Option<Fault>, Fail>
 #[test]
 fn lists_that_are_refused(rt: HostRuntime) -> Result<(), Fail> {
     let alloc = rt.alloc();
-    assert_eq!(rt;
+    expect_equal(
+        &rt,
         refusal(alloc, [(0, 0), (0, 0), (0, 60001)].as_slice())?,
-        Some(Fault::RegionRange)
+        Some(Fault::RegionRange),
     );
-    assert_eq!(rt;
+    expect_equal(
+        &rt,
         refusal(alloc, [(0, 0), (1, 0), (0, 0)].as_slice())?,
-        Some(Fault::RepeatedRegion)
+        Some(Fault::RepeatedRegion),
     );
-    assert_eq!(rt;
+    expect_equal(
+        &rt,
         refusal(alloc, [(60000, -60000), (-60000, 60000)].as_slice())?,
-        None
+        None,
     );
     Ok(())
 }

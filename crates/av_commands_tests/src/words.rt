@@ -1,4 +1,5 @@
 //! Words. What the program answers, `scripts/check_words.sh` asks of the built one.
+use crate::expecting::expect_equal;
 use av_types::Pos;
 use av_words::command_line::commands::Words;
 use av_words::command_line::words;
@@ -19,23 +20,24 @@ fn words_of_block(rt: HostRuntime) -> Result<(), Fail> {
     let alloc = rt.alloc();
     let plain = ["block", "--", "r.-1.-1.mca", "-1", "64", "-1"];
     let (file, pos, table) = block_of(words(alloc, plain.as_slice())?).ok_or("another command")?;
-    assert_eq!(rt; file, "r.-1.-1.mca");
-    assert_eq!(rt;
+    expect_equal(&rt, file, "r.-1.-1.mca");
+    expect_equal(
+        &rt,
         pos,
         Pos {
             x: -1,
             y: 64,
-            z: -1
-        }
+            z: -1,
+        },
     );
-    assert!(rt; table.is_none());
+    expect_equal(&rt, table, None);
     let with_table = ["block", "--table", "t.toml", "f", "3", "+4", "0005"];
     let (file, pos, table) = block_of(words(alloc, with_table.as_slice())?).ok_or(
         "another command",
     )?;
-    assert_eq!(rt; file, "f");
-    assert_eq!(rt; pos, Pos { x: 3, y: 4, z: 5 });
-    assert!(rt; table == Some("t.toml"));
+    expect_equal(&rt, file, "f");
+    expect_equal(&rt, pos, Pos { x: 3, y: 4, z: 5 });
+    expect_equal(&rt, table, Some("t.toml"));
     Ok(())
 }
 
@@ -58,16 +60,16 @@ fn words_of_check(rt: HostRuntime) -> Result<(), Fail> {
     let (input, table, progress) = check_of(words(alloc, plain.as_slice())?).ok_or(
         "another command",
     )?;
-    assert_eq!(rt; input, "world");
-    assert!(rt; table.is_none());
-    assert!(rt; !progress);
+    expect_equal(&rt, input, "world");
+    expect_equal(&rt, table, None);
+    expect_equal(&rt, progress, false);
     let all = ["check", "--progress", "--table", "t.toml", "--in=world"];
     let (input, table, progress) = check_of(words(alloc, all.as_slice())?).ok_or(
         "another command",
     )?;
-    assert_eq!(rt; input, "world");
-    assert!(rt; table == Some("t.toml"));
-    assert!(rt; progress);
+    expect_equal(&rt, input, "world");
+    expect_equal(&rt, table, Some("t.toml"));
+    expect_equal(&rt, progress, true);
     Ok(())
 }
 
@@ -79,43 +81,51 @@ fn refusal<'a>(alloc: Global, given: &'a [&'a str]) -> Option<ErrorKind> {
 #[test]
 fn words_that_are_refused(rt: HostRuntime) {
     let alloc = rt.alloc();
-    assert_eq!(rt;
+    expect_equal(
+        &rt,
         refusal(alloc, [].as_slice()),
-        Some(ErrorKind::MissingSubcommand)
+        Some(ErrorKind::MissingSubcommand),
     );
     let unknown = ["blok"];
-    assert_eq!(rt;
+    expect_equal(
+        &rt,
         refusal(alloc, unknown.as_slice()),
-        Some(ErrorKind::InvalidSubcommand)
+        Some(ErrorKind::InvalidSubcommand),
     );
     let few = ["block", "f", "1", "2"];
-    assert_eq!(rt;
+    expect_equal(
+        &rt,
         refusal(alloc, few.as_slice()),
-        Some(ErrorKind::MissingRequiredArgument)
+        Some(ErrorKind::MissingRequiredArgument),
     );
     let many = ["block", "f", "1", "2", "3", "4"];
-    assert_eq!(rt;
+    expect_equal(
+        &rt,
         refusal(alloc, many.as_slice()),
-        Some(ErrorKind::UnknownArgument)
+        Some(ErrorKind::UnknownArgument),
     );
     let negative = ["block", "f", "-1", "2", "3"];
-    assert_eq!(rt;
+    expect_equal(
+        &rt,
         refusal(alloc, negative.as_slice()),
-        Some(ErrorKind::UnknownArgument)
+        Some(ErrorKind::UnknownArgument),
     );
     let large = ["block", "f", "1", "2147483648", "3"];
-    assert_eq!(rt;
+    expect_equal(
+        &rt,
         refusal(alloc, large.as_slice()),
-        Some(ErrorKind::ValueValidation)
+        Some(ErrorKind::ValueValidation),
     );
     let twice = ["block", "--table", "a", "--table", "b", "f", "1", "2", "3"];
-    assert_eq!(rt;
+    expect_equal(
+        &rt,
         refusal(alloc, twice.as_slice()),
-        Some(ErrorKind::ArgumentConflict)
+        Some(ErrorKind::ArgumentConflict),
     );
     let help = ["block", "--help"];
-    assert_eq!(rt;
+    expect_equal(
+        &rt,
         refusal(alloc, help.as_slice()),
-        Some(ErrorKind::DisplayHelp)
+        Some(ErrorKind::DisplayHelp),
     );
 }
