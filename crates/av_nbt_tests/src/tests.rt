@@ -1,4 +1,5 @@
 //! Documents by hand.
+use crate::expecting::expect_equal;
 use av_nbt::{
     Named, Tag, TagType, copy_tags, decode, encode, exchange, find, put, remove,
     spelling_is_unique, written_is_spelling,
@@ -71,7 +72,7 @@ fn bytes_in_order(alloc: Global, values: &[(u8, i8)]) -> Result<Vec<Named>, Allo
 /// What is written of the document that these bytes spell is this.
 fn expect_written(rt: &impl Abort, alloc: Global, bytes: &[u8], want: &[u8]) -> Result<(), Fault> {
     let out = rewritten(alloc, bytes)?;
-    assert_eq!(rt; out.as_slice(), want);
+    expect_equal(rt, out.as_slice(), want);
     Ok(())
 }
 
@@ -210,7 +211,7 @@ fn bytes_put(alloc: Global, values: &[(u8, i8)]) -> Result<Vec<Named>, Fault> {
 
 /// The tag of a name is this Byte, or there is none.
 fn expect_found(rt: &impl Abort, tags: &[Named], name: u8, want: Option<i8>) {
-    assert_eq!(rt; find(tags, &[name]), want.map(Tag::byte).as_ref());
+    expect_equal(rt, find(tags, &[name]), want.map(Tag::byte).as_ref());
 }
 
 /// A Byte takes the place of this one of its name, or there was none.
@@ -220,13 +221,13 @@ fn expect_exchanged(
     new: Named,
     want: Option<i8>,
 ) -> Result<(), Fault> {
-    assert_eq!(rt; exchange(tags, new)?, want.map(Tag::byte));
+    expect_equal(rt, exchange(tags, new)?, want.map(Tag::byte));
     Ok(())
 }
 
 /// The tag of a name that is taken out is this Byte, or there was none.
 fn expect_removed(rt: &impl Abort, tags: &mut Vec<Named>, name: u8, want: Option<i8>) {
-    assert_eq!(rt; remove(tags, &[name]), want.map(Tag::byte));
+    expect_equal(rt, remove(tags, &[name]), want.map(Tag::byte));
 }
 
 #[test]
@@ -239,9 +240,10 @@ fn tags_by_name(rt: HostRuntime) -> Result<(), Fail> {
     expect_exchanged(&rt, &mut tags, byte(alloc, b'd', 5)?, None)?;
     expect_removed(&rt, &mut tags, b'b', Some(2));
     expect_removed(&rt, &mut tags, b'b', None);
-    assert_eq!(rt;
+    expect_equal(
+        &rt,
         tags,
-        bytes_in_order(alloc, &[(b'a', 4), (b'c', 3), (b'd', 5)])?
+        bytes_in_order(alloc, &[(b'a', 4), (b'c', 3), (b'd', 5)])?,
     );
     Ok(())
 }
@@ -252,7 +254,7 @@ fn two_tags_of_one_name(rt: HostRuntime) -> Result<(), Fail> {
     let mut tags = bytes_in_order(rt.alloc(), &[(b'a', 4), (b'c', 3), (b'd', 5), (b'a', 6)])?;
     expect_found(&rt, &tags, b'a', Some(4));
     expect_removed(&rt, &mut tags, b'a', Some(4));
-    assert_eq!(rt; tags.len(), 2);
+    expect_equal(&rt, tags.len(), 2);
     Ok(())
 }
 
@@ -260,11 +262,12 @@ fn two_tags_of_one_name(rt: HostRuntime) -> Result<(), Fail> {
 fn an_empty_list_of_a_negative_length(rt: HostRuntime) -> Result<(), Fail> {
     let bytes = [10, 0, 0, 9, 0, 1, 97, 0, 255, 255, 255, 255, 0];
     let root = decode(rt.alloc(), &bytes)?;
-    assert_eq!(rt; root.name.len(), 0);
-    assert_eq!(rt; root.tags.len(), 1);
-    assert_eq!(rt;
+    expect_equal(&rt, root.name.len(), 0);
+    expect_equal(&rt, root.tags.len(), 1);
+    expect_equal(
+        &rt,
         find(&root.tags, b"a"),
-        Some(&Tag::List(TagType::End, Vec::new(rt.alloc())))
+        Some(&Tag::List(TagType::End, Vec::new(rt.alloc()))),
     );
     Ok(())
 }
@@ -289,40 +292,40 @@ fn kinds_by_number(rt: HostRuntime) {
     ];
     for number in 0..13u8 {
         let tag_type = tag_types[usize::from(number)];
-        assert_eq!(rt; tag_type.number(), number);
-        assert_eq!(rt; TagType::from_number(number), Some(tag_type));
-        assert_eq!(rt; tag_type.is_end(), number == 0);
-        assert_eq!(rt; tag_type.is_compound(), number == 10);
+        expect_equal(&rt, tag_type.number(), number);
+        expect_equal(&rt, TagType::from_number(number), Some(tag_type));
+        expect_equal(&rt, tag_type.is_end(), number == 0);
+        expect_equal(&rt, tag_type.is_compound(), number == 10);
     }
-    assert_eq!(rt; TagType::from_number(13), None);
-    assert_eq!(rt; TagType::from_number(255), None);
+    expect_equal(&rt, TagType::from_number(13), None);
+    expect_equal(&rt, TagType::from_number(255), None);
 }
 
 #[test]
 fn numbers_that_are_made(rt: HostRuntime) {
-    assert_eq!(rt; Tag::byte(-7), Tag::Byte(-7));
-    assert_eq!(rt; Tag::int(70_000), Tag::Int(70_000));
+    expect_equal(&rt, Tag::byte(-7), Tag::Byte(-7));
+    expect_equal(&rt, Tag::int(70_000), Tag::Int(70_000));
 }
 
 #[test]
 fn a_text_that_is_made(rt: HostRuntime) -> Result<(), Fail> {
     let text = Tag::text(Vec::from_slice(rt.alloc(), b"stone")?);
-    assert_eq!(rt; text.as_text(), Some(b"stone".as_slice()));
+    expect_equal(&rt, text.as_text(), Some(b"stone".as_slice()));
     Ok(())
 }
 
 #[test]
 fn a_byte_array_that_is_made(rt: HostRuntime) -> Result<(), Fail> {
     let bytes = Tag::byte_array(Vec::from_slice(rt.alloc(), &[1, 255])?);
-    assert_eq!(rt; bytes.tag_type(), TagType::ByteArray);
-    assert_eq!(rt; bytes.as_text(), None);
+    expect_equal(&rt, bytes.tag_type(), TagType::ByteArray);
+    expect_equal(&rt, bytes.as_text(), None);
     Ok(())
 }
 
 #[test]
 fn a_long_array_that_is_made(rt: HostRuntime) -> Result<(), Fail> {
     let longs = Tag::long_array(Vec::from_slice(rt.alloc(), &[-1, 2])?);
-    assert_eq!(rt; longs.as_longs(), Some([-1, 2].as_slice()));
+    expect_equal(&rt, longs.as_longs(), Some([-1, 2].as_slice()));
     Ok(())
 }
 
@@ -330,10 +333,11 @@ fn a_long_array_that_is_made(rt: HostRuntime) -> Result<(), Fail> {
 fn a_list_that_is_made(rt: HostRuntime) -> Result<(), Fail> {
     let items = vec![in rt.alloc(); Tag::byte(1), Tag::byte(2)]?;
     let list = Tag::list(TagType::Byte, items);
-    assert_eq!(rt; list.tag_type(), TagType::List);
-    assert_eq!(rt;
+    expect_equal(&rt, list.tag_type(), TagType::List);
+    expect_equal(
+        &rt,
         list.as_items(),
-        Some([Tag::Byte(1), Tag::Byte(2)].as_slice())
+        Some([Tag::Byte(1), Tag::Byte(2)].as_slice()),
     );
     Ok(())
 }
@@ -342,8 +346,8 @@ fn a_list_that_is_made(rt: HostRuntime) -> Result<(), Fail> {
 fn a_compound_that_is_made(rt: HostRuntime) -> Result<(), Fail> {
     let compound = Tag::compound(bytes_in_order(rt.alloc(), &[(b'a', 1)])?);
     let members = bytes_in_order(rt.alloc(), &[(b'a', 1)])?;
-    assert_eq!(rt; compound.as_members(), Some(members.as_slice()));
-    assert_eq!(rt; compound.as_items(), None);
+    expect_equal(&rt, compound.as_members(), Some(members.as_slice()));
+    expect_equal(&rt, compound.as_items(), None);
     Ok(())
 }
 
@@ -351,8 +355,8 @@ fn a_compound_that_is_made(rt: HostRuntime) -> Result<(), Fail> {
 fn a_text_that_is_taken_out(rt: HostRuntime) -> Result<(), Fail> {
     let text = Tag::text(Vec::from_slice(rt.alloc(), b"air")?);
     let want = Vec::from_slice(rt.alloc(), b"air")?;
-    assert_eq!(rt; text.into_text(), Some(want));
-    assert_eq!(rt; Tag::byte(1).into_text(), None);
+    expect_equal(&rt, text.into_text(), Some(want));
+    expect_equal(&rt, Tag::byte(1).into_text(), None);
     Ok(())
 }
 
@@ -360,7 +364,7 @@ fn a_text_that_is_taken_out(rt: HostRuntime) -> Result<(), Fail> {
 fn longs_that_are_taken_out(rt: HostRuntime) -> Result<(), Fail> {
     let longs = Tag::long_array(Vec::from_slice(rt.alloc(), &[3])?);
     let want = Vec::from_slice(rt.alloc(), &[3])?;
-    assert_eq!(rt; longs.into_longs(), Some(want));
+    expect_equal(&rt, longs.into_longs(), Some(want));
     Ok(())
 }
 
@@ -368,7 +372,7 @@ fn longs_that_are_taken_out(rt: HostRuntime) -> Result<(), Fail> {
 fn items_that_are_taken_out(rt: HostRuntime) -> Result<(), Fail> {
     let list = Tag::list(TagType::Int, vec![in rt.alloc(); Tag::int(4)]?);
     let want = vec![in rt.alloc(); Tag::int(4)]?;
-    assert_eq!(rt; list.into_items(), Some(want));
+    expect_equal(&rt, list.into_items(), Some(want));
     Ok(())
 }
 
@@ -376,16 +380,16 @@ fn items_that_are_taken_out(rt: HostRuntime) -> Result<(), Fail> {
 fn members_that_are_taken_out(rt: HostRuntime) -> Result<(), Fail> {
     let compound = Tag::compound(bytes_in_order(rt.alloc(), &[(b'x', 5)])?);
     let want = bytes_in_order(rt.alloc(), &[(b'x', 5)])?;
-    assert_eq!(rt; compound.into_members(), Some(want));
+    expect_equal(&rt, compound.into_members(), Some(want));
     Ok(())
 }
 
 #[test]
 fn parts_of_a_named_tag(rt: HostRuntime) -> Result<(), Fail> {
     let named = byte(rt.alloc(), b'y', 6)?;
-    assert_eq!(rt; named.name(), b"y".as_slice());
-    assert_eq!(rt; named.tag(), &Tag::Byte(6));
-    assert_eq!(rt; named.into_tag(), Tag::Byte(6));
+    expect_equal(&rt, named.name(), b"y".as_slice());
+    expect_equal(&rt, named.tag(), &Tag::Byte(6));
+    expect_equal(&rt, named.into_tag(), Tag::Byte(6));
     Ok(())
 }
 
@@ -396,24 +400,24 @@ fn tag<'a>(tags: &'a [Named], name: &[u8]) -> Result<&'a Tag, Fail> {
 
 /// Of the tags of `ALL_KINDS`, the numbers have these values.
 fn expect_numbers(rt: &impl Abort, tags: &[Named]) -> Result<(), Fail> {
-    assert_eq!(rt; tag(tags, b"a")?.as_byte(), Some(-1));
+    expect_equal(rt, tag(tags, b"a")?.as_byte(), Some(-1));
     let int = tag(tags, b"c")?;
-    assert_eq!(rt; int.as_int(), Some(0x01020304));
-    assert_eq!(rt; int.as_byte(), None);
-    assert_eq!(rt; tag(tags, b"d")?.tag_type(), TagType::Long);
+    expect_equal(rt, int.as_int(), Some(0x01020304));
+    expect_equal(rt, int.as_byte(), None);
+    expect_equal(rt, tag(tags, b"d")?.tag_type(), TagType::Long);
     Ok(())
 }
 
 /// Of the tags of `ALL_KINDS`, the text, the lists and the Compound have these values.
 fn expect_slices(rt: &impl Abort, tags: &[Named]) -> Result<(), Fail> {
     let text = tag(tags, b"h")?.as_text();
-    assert_eq!(rt; text, Some([b'a', 255, 0].as_slice()));
+    expect_equal(rt, text, Some([b'a', 255, 0].as_slice()));
     let longs = tag(tags, b"l")?.as_longs();
-    assert_eq!(rt; longs, Some([0x0102030405060708].as_slice()));
+    expect_equal(rt, longs, Some([0x0102030405060708].as_slice()));
     let items = tag(tags, b"i")?.as_items();
-    assert_eq!(rt; items, Some([Tag::Byte(5), Tag::Byte(6)].as_slice()));
+    expect_equal(rt, items, Some([Tag::Byte(5), Tag::Byte(6)].as_slice()));
     let members = tag(tags, b"j")?.as_members().ok_or("no Compound")?;
-    assert_eq!(rt; members.len(), 1);
+    expect_equal(rt, members.len(), 1);
     Ok(())
 }
 
@@ -451,7 +455,7 @@ fn an_array_of_one_int_below_zero(rt: HostRuntime) -> Result<(), Fail> {
 #[test]
 fn a_copy_has_the_same_tags(rt: HostRuntime) -> Result<(), Fail> {
     let root = decode(rt.alloc(), &ALL_KINDS)?;
-    assert_eq!(rt; copy_tags(rt.alloc(), &root.tags)?, root.tags);
+    expect_equal(&rt, copy_tags(rt.alloc(), &root.tags)?, root.tags);
     Ok(())
 }
 
@@ -475,10 +479,10 @@ fn values_of_other_types(rt: HostRuntime) -> Result<(), Fail> {
 
 /// The tag of this name in `ALL_KINDS` has a value of its own type alone.
 fn expect_values_of_its_type(rt: &impl Abort, name: &[u8], tag: &Tag) {
-    assert_eq!(rt; tag.as_byte().is_some(), name == b"a".as_slice());
-    assert_eq!(rt; tag.as_int().is_some(), name == b"c".as_slice());
-    assert_eq!(rt; tag.as_text().is_some(), name == b"h".as_slice());
-    assert_eq!(rt; tag.as_items().is_some(), name == b"i".as_slice());
-    assert_eq!(rt; tag.as_members().is_some(), name == b"j".as_slice());
-    assert_eq!(rt; tag.as_longs().is_some(), name == b"l".as_slice());
+    expect_equal(rt, tag.as_byte().is_some(), name == b"a".as_slice());
+    expect_equal(rt, tag.as_int().is_some(), name == b"c".as_slice());
+    expect_equal(rt, tag.as_text().is_some(), name == b"h".as_slice());
+    expect_equal(rt, tag.as_items().is_some(), name == b"i".as_slice());
+    expect_equal(rt, tag.as_members().is_some(), name == b"j".as_slice());
+    expect_equal(rt, tag.as_longs().is_some(), name == b"l".as_slice());
 }
