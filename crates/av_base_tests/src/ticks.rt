@@ -53,22 +53,21 @@ const E: Entry = Entry {
     priority: -1,
 };
 
-/// How many of some entries a list takes.
-fn count_added(list: &mut TickList, entries: &[Entry]) -> Result<usize, Fault> {
-    let mut count = 0;
+/// Whether a list takes all of some entries.
+fn takes(list: &mut TickList, entries: &[Entry]) -> Result<bool, Fault> {
+    let mut all = true;
     for entry in entries {
-        if list.add(*entry)? {
-            count += 1;
-        }
+        let added = list.add(*entry)?;
+        all = all && added;
     }
-    Ok(count)
+    Ok(all)
 }
 
 /// A list of A to E. In tick 5 B, E, C and D are due, in this order: an overdue one first, whatever its priority.
 fn five(alloc: Global) -> Result<TickList, Fault> {
     let mut list = TickList::new(alloc);
     list.reserve(5)?;
-    count_added(&mut list, &[A, B, C, D, E])?;
+    takes(&mut list, &[A, B, C, D, E])?;
     Ok(list)
 }
 
@@ -76,7 +75,7 @@ fn five(alloc: Global) -> Result<TickList, Fault> {
 fn entries_stand_as_they_came(rt: HostRuntime) -> Result<(), Fail> {
     let mut list = TickList::new(rt.alloc());
     expect_equal(&rt, list.is_empty(), true);
-    expect_equal(&rt, count_added(&mut list, &[A, B, C, D, E])?, 5);
+    expect_equal(&rt, takes(&mut list, &[A, B, C, D, E])?, true);
     expect_equal(&rt, list.as_slice(), [A, B, C, D, E].as_slice());
     expect_equal(&rt, (list.len(), list.is_empty()), (5, false));
     Ok(())
@@ -100,7 +99,8 @@ fn a_position_has_one_entry(rt: HostRuntime) -> Result<(), Fail> {
     list.drop_due(5);
     expect_equal(&rt, list.as_slice(), [A].as_slice());
     expect_equal(&rt, (list.has(A.pos), list.has(B.pos)), (true, false));
-    expect_equal(&rt, count_added(&mut list, &[A, B])?, 1);
+    expect_equal(&rt, list.add(entry(1, 9, 0))?, false);
+    expect_equal(&rt, list.add(B)?, true);
     expect_equal(&rt, list.iter().count(), 2);
     Ok(())
 }
@@ -145,7 +145,7 @@ fn many(alloc: Global) -> Result<TickList, Fault> {
     let mut list = TickList::new(alloc);
     list.reserve_indexed(42)?;
     for z in 0..200 {
-        count_added(&mut list, &[one_of_many(z)])?;
+        list.add(one_of_many(z))?;
     }
     list.reserve_indexed(100)?;
     Ok(list)
