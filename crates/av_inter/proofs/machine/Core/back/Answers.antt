@@ -1,6 +1,7 @@
 use Rattle.std.proofs.Common.{◌≡◌, ◌∙◌, refl, sym, ap, subst, slice_get, slice_set, List, Option, None, Some, length, ◌<◌}
 use Rattle.av_rules.specs.Kinds.{kind_count}
 use Rattle.av_world.specs.Views.{grid, blocks, lists, height_of, positions_of}
+use Rattle.av_play.specs.Parts.{part_at}
 use Rattle.av_play.specs.declared.event.Stage.TheVariants.{Held, Ended}
 use Rattle.av_cluster.specs.Clusters.{parts_of, sections_of}
 use Rattle.av_inter.specs.Out.{Out, out_in, outs}
@@ -64,3 +65,8 @@ returns-clause-ok c =
 
 pub returns-clause-same : goal.returns-clause-same
 returns-clause-same c = record { parts = refl; kinds = refl; now = refl; same_site = same_places _ _ c.mend_one.ensures.same }
+
+pub returns-clause-lawful : goal.returns-clause-lawful
+returns-clause-lawful c =
+    ap (λ l. slice_get l c.args.part) (sym c.as_slice.ensures.value) ∙ held_by c.args.worker (slice_get c.as_slice.result.now c.args.part) c.in-Some.done (sym c.in-Some.ensures.done)
+    ∙ ap (λ m. Some (Held c.args.worker m)) (c.if-done-count_of.false ∙ c.count_of.ensures ∙ ap (λ cs. length (part_at (parts_of cs) c.args.part)) c.as_slice-2.ensures.value)
