@@ -80,52 +80,29 @@ fn refusal<'a>(alloc: Global, given: &'a [&'a str]) -> Option<ErrorKind> {
 
 #[test]
 fn words_that_are_refused(rt: HostRuntime) {
-    let alloc = rt.alloc();
-    expect_equal(
-        &rt,
-        refusal(alloc, [].as_slice()),
-        Some(ErrorKind::MissingSubcommand),
-    );
-    let unknown = ["blok"];
-    expect_equal(
-        &rt,
-        refusal(alloc, unknown.as_slice()),
-        Some(ErrorKind::InvalidSubcommand),
-    );
-    let few = ["block", "f", "1", "2"];
-    expect_equal(
-        &rt,
-        refusal(alloc, few.as_slice()),
-        Some(ErrorKind::MissingRequiredArgument),
-    );
-    let many = ["block", "f", "1", "2", "3", "4"];
-    expect_equal(
-        &rt,
-        refusal(alloc, many.as_slice()),
-        Some(ErrorKind::UnknownArgument),
-    );
-    let negative = ["block", "f", "-1", "2", "3"];
-    expect_equal(
-        &rt,
-        refusal(alloc, negative.as_slice()),
-        Some(ErrorKind::UnknownArgument),
-    );
-    let large = ["block", "f", "1", "2147483648", "3"];
-    expect_equal(
-        &rt,
-        refusal(alloc, large.as_slice()),
-        Some(ErrorKind::ValueValidation),
-    );
-    let twice = ["block", "--table", "a", "--table", "b", "f", "1", "2", "3"];
-    expect_equal(
-        &rt,
-        refusal(alloc, twice.as_slice()),
-        Some(ErrorKind::ArgumentConflict),
-    );
-    let help = ["block", "--help"];
-    expect_equal(
-        &rt,
-        refusal(alloc, help.as_slice()),
-        Some(ErrorKind::DisplayHelp),
-    );
+    let cases: [(&[&str], ErrorKind); 8] = [
+        (&[], ErrorKind::MissingSubcommand),
+        (&["blok"], ErrorKind::InvalidSubcommand),
+        (
+            &["block", "f", "1", "2"],
+            ErrorKind::MissingRequiredArgument,
+        ),
+        (
+            &["block", "f", "1", "2", "3", "4"],
+            ErrorKind::UnknownArgument,
+        ),
+        (&["block", "f", "-1", "2", "3"], ErrorKind::UnknownArgument),
+        (
+            &["block", "f", "1", "2147483648", "3"],
+            ErrorKind::ValueValidation,
+        ),
+        (
+            &["block", "--table", "a", "--table", "b", "f", "1", "2", "3"],
+            ErrorKind::ArgumentConflict,
+        ),
+        (&["block", "--help"], ErrorKind::DisplayHelp),
+    ];
+    for (given, kind) in cases {
+        expect_equal(&rt, refusal(rt.alloc(), given), Some(kind));
+    }
 }
