@@ -1,4 +1,5 @@
 //! Blocks of small regions, written by hand.
+use crate::expecting::{expect_equal, expect_true};
 use crate::parts::{fault_of, region};
 use av_chunk::block_at;
 use av_state::State;
@@ -131,17 +132,17 @@ fn is_refused(found: &Result<Option<State>, Fault>, fault: &Fault) -> bool {
 
 /// The block at (x, y, -1) of a region's file has a state of this name.
 fn expect_named(rt: &impl Abort, alloc: Global, file: &[u8], x: i32, y: i32, name: &[u8]) {
-    assert!(rt; is_named(&found(alloc, file, x, y), name));
+    expect_true(rt, is_named(&found(alloc, file, x, y), name));
 }
 
 /// The block at (x, y, -1) of a region's file is of no chunk that is full.
 fn expect_unloaded(rt: &impl Abort, alloc: Global, file: &[u8], x: i32, y: i32) {
-    assert!(rt; is_unloaded(&found(alloc, file, x, y)));
+    expect_true(rt, is_unloaded(&found(alloc, file, x, y)));
 }
 
 /// The block at (-1, y, -1) of a region's file is refused with this fault.
 fn expect_refused(rt: &impl Abort, alloc: Global, file: &[u8], y: i32, fault: &Fault) {
-    assert!(rt; is_refused(&found(alloc, file, -1, y), fault));
+    expect_true(rt, is_refused(&found(alloc, file, -1, y), fault));
 }
 
 #[test]
@@ -373,7 +374,7 @@ fn expect_crowded(
 ) -> Result<(), AllocError> {
     let payload = crowded(alloc, count, last, rest)?;
     let fault = fault_of(alloc, &payload)?;
-    assert!(rt; fault.as_ref() == Some(want));
+    expect_equal(rt, fault.as_ref(), Some(want));
     Ok(())
 }
 
@@ -382,7 +383,7 @@ fn expect_crowded(
 fn states_can_be_too_many(rt: HostRuntime) -> Result<(), Fail> {
     let most = crowded(rt.alloc(), 4085, AIR, &[])?;
     let fault = fault_of(rt.alloc(), &most)?;
-    assert!(rt; fault.is_none());
+    expect_true(&rt, fault.is_none());
     expect_crowded(&rt, rt.alloc(), 4085, STONE, &[], &Fault::TooManyStates)?;
     Ok(())
 }

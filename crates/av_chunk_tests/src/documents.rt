@@ -4,6 +4,7 @@ ghost use Rattle.av_state.specs.Table.{states};
 ghost use Rattle.av_rules.specs.declared.kinds.Kinds.{Kinds};
 ghost use Rattle.av_chunk.specs.Writing.{CanWrite, states_of_kinds};
 
+use crate::expecting::{expect_equal, expect_true};
 use crate::pieces::Piece::{Light, Longs, Number, Tick};
 use crate::pieces::{Piece, joined, push_all, push_light};
 use crate::tags::{
@@ -105,7 +106,7 @@ fn expect_written(
 ) -> Result<(), Fail> {
     let bytes = joined(alloc, document)?;
     let written = rewritten(alloc, &bytes, light)?;
-    assert!(rt; written == joined(alloc, want)?);
+    expect_equal(rt, written, joined(alloc, want)?);
     Ok(())
 }
 
@@ -206,7 +207,7 @@ fn expect_form(
 ) -> Result<(), Fail> {
     let bytes = one_state(alloc, state, WITH_DATA)?;
     let written = rewritten(alloc, &bytes, light)?;
-    assert!(rt; written == one_state(alloc, want, WITHOUT_DATA)?);
+    expect_equal(rt, written, one_state(alloc, want, WITHOUT_DATA)?);
     Ok(())
 }
 
@@ -294,7 +295,7 @@ fn a_section_below_the_height_stands_first(rt: HostRuntime) -> Result<(), Fail> 
     let light = ChunkLight::new(rt.alloc(), 16)?;
     let bytes = joined(rt.alloc(), &[&[ROOT, SECTIONS_1, BELOW, TICKS_0, END]])?;
     let written = rewritten(rt.alloc(), &bytes, &light)?;
-    assert!(rt; written == seventeen_sections(rt.alloc())?);
+    expect_equal(&rt, written, seventeen_sections(rt.alloc())?);
     Ok(())
 }
 
@@ -325,9 +326,9 @@ fn is_pending(chunk: &Chunk, pos: Pos, index: usize) -> bool {
 
 /// The one entry of a chunk of the game's height is pending in the section of this index.
 fn expect_entry(rt: &impl Abort, chunk: &Chunk, entry: Entry, index: usize) {
-    assert_eq!(rt; chunk.ticks.as_slice(), [entry].as_slice());
-    assert_eq!(rt; chunk.sections.len(), 24);
-    assert!(rt; is_pending(chunk, entry.pos, index));
+    expect_equal(rt, chunk.ticks.as_slice(), [entry].as_slice());
+    expect_equal(rt, chunk.sections.len(), 24);
+    expect_true(rt, is_pending(chunk, entry.pos, index));
 }
 
 /// An entry at y 300 is in section 18 of the game's height, the 23rd.
@@ -354,7 +355,11 @@ fn an_entry_lies_in_the_height(rt: HostRuntime) -> Result<(), Fail> {
 fn an_entry_lies_out_of_the_height(rt: HostRuntime) -> Result<(), Fail> {
     let bytes = high_entry(rt.alloc())?;
     assert!(rt; bytes.len() <= MOST_BYTES);
-    assert_eq!(rt; read(rt.alloc(), &bytes, LOW).err(), Some(Fault::BadTick));
+    expect_equal(
+        &rt,
+        read(rt.alloc(), &bytes, LOW).err(),
+        Some(Fault::BadTick),
+    );
     Ok(())
 }
 
@@ -363,7 +368,7 @@ fn an_entry_lies_out_of_the_height(rt: HostRuntime) -> Result<(), Fail> {
 fn a_chunk_that_is_not_full_is_kept(rt: HostRuntime) -> Result<(), Fail> {
     let bytes = b"\x0a\x00\x00\x08\x00\x06Status\x00\x05empty\x00";
     let reading = read(rt.alloc(), bytes, LOW)?;
-    assert!(rt; matches!(reading, Reading::Kept));
+    expect_true(&rt, matches!(reading, Reading::Kept));
     Ok(())
 }
 
@@ -371,9 +376,10 @@ fn a_chunk_that_is_not_full_is_kept(rt: HostRuntime) -> Result<(), Fail> {
 fn new_light_is_dark(rt: HostRuntime) -> Result<(), Fail> {
     let dark = vec![in rt.alloc(); 0u8; 4096]?;
     assert_eq!(rt; dark.len(), 4096);
-    assert_eq!(rt;
+    expect_equal(
+        &rt,
         ChunkLight::new(rt.alloc(), 2)?,
-        ChunkLight::from_bytes(2, dark)
+        ChunkLight::from_bytes(2, dark),
     );
     Ok(())
 }
@@ -388,9 +394,9 @@ fn two_sections(alloc: Global) -> Result<Vec<u8>, AllocError> {
 
 /// A section's light has 2,048 bytes, and these at its ends.
 fn expect_ends(rt: &impl Abort, section: &[u8], first: u8, last: u8) {
-    assert_eq!(rt; section.len(), 2048);
-    assert_eq!(rt; section.first(), Some(&first));
-    assert_eq!(rt; section.last(), Some(&last));
+    expect_equal(rt, section.len(), 2048);
+    expect_equal(rt, section.first(), Some(&first));
+    expect_equal(rt, section.last(), Some(&last));
 }
 
 #[test]

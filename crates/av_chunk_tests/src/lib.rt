@@ -6,6 +6,8 @@ mod blocks;
 #[cfg(test)]
 mod documents;
 #[cfg(test)]
+mod expecting;
+#[cfg(test)]
 mod judging;
 #[cfg(test)]
 mod parts;

@@ -1,4 +1,5 @@
 //! Documents from their tags, and what they are read as.
+use crate::expecting::expect_equal;
 use av_chunk::block_at;
 use av_types::{Fault, Height, Pos, RegionPos};
 use std::alloc::{AllocError, Global};
@@ -159,7 +160,7 @@ fn expect(
 ) -> Result<(), AllocError> {
     let payload = document(alloc, parts)?;
     let fault = fault_of(alloc, &payload)?;
-    assert!(rt; fault.as_ref() == want);
+    expect_equal(rt, fault.as_ref(), want);
     Ok(())
 }
 

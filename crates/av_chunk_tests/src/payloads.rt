@@ -1,4 +1,5 @@
 //! Payloads by hand, read as chunks.
+use crate::expecting::expect_equal;
 use av_chunk::{Reading, read_payload};
 use av_state::StateTable;
 use av_types::{ChunkPos, Fault, Height};
@@ -33,21 +34,21 @@ fn sections_of(alloc: Global, payload: &[u8], x: i32, z: i32) -> Result<Option<u
 
 /// A payload is no document.
 fn expect_bad_nbt(rt: &impl Abort, alloc: Global, payload: &[u8], x: i32, z: i32) {
-    assert_eq!(rt; sections_of(alloc, payload, x, z), Err(Fault::BadNbt));
+    expect_equal(rt, sections_of(alloc, payload, x, z), Err(Fault::BadNbt));
 }
 
 /// A chunk whose making has begun is kept, at whichever place.
 fn expect_kept(rt: &impl Abort, alloc: Global, x: i32, z: i32) {
-    assert_eq!(rt; sections_of(alloc, BEGUN, x, z), Ok(None));
+    expect_equal(rt, sections_of(alloc, BEGUN, x, z), Ok(None));
 }
 
 #[test]
 fn payloads_are_read_as_their_documents(rt: HostRuntime) {
     let alloc = rt.alloc();
     // The game's height has 24 sections, whichever of them the payload names.
-    assert_eq!(rt; sections_of(alloc, FULL, -1, 2), Ok(Some(24)));
+    expect_equal(&rt, sections_of(alloc, FULL, -1, 2), Ok(Some(24)));
     // x before z: (2, -1) is another chunk.
-    assert_eq!(rt; sections_of(alloc, FULL, 2, -1), Err(Fault::WrongPlace));
+    expect_equal(&rt, sections_of(alloc, FULL, 2, -1), Err(Fault::WrongPlace));
     expect_kept(&rt, alloc, -1, 2);
     // A chunk that is kept is at no place.
     expect_kept(&rt, alloc, 2, -1);

@@ -1,4 +1,5 @@
 //! What a section must have.
+use crate::expecting::expect_equal;
 use crate::parts::Part::{Byte, Compound, End, Int, Ints, List, Text};
 use crate::parts::{FULL, Part, X, Z, document, expect_fault, expect_read, fault_of, push_all};
 use av_types::Fault;
@@ -50,7 +51,7 @@ fn expect_bad(
 ) -> Result<(), AllocError> {
     let payload = with_states(alloc, inner)?;
     let fault = fault_of(alloc, &payload)?;
-    assert!(rt; fault.as_ref() == Some(want));
+    expect_equal(rt, fault.as_ref(), Some(want));
     Ok(())
 }
 
@@ -70,7 +71,7 @@ fn block_states_are_a_compound(rt: HostRuntime) -> Result<(), Fail> {
 fn a_palette_entry_has_a_name_and_perhaps_properties(rt: HostRuntime) -> Result<(), Fail> {
     let alloc = rt.alloc();
     let payload = with_states(alloc, &[PALETTE, AIR, Compound("Properties"), End, End])?;
-    assert_eq!(rt; fault_of(alloc, &payload)?, None);
+    expect_equal(&rt, fault_of(alloc, &payload)?, None);
     let byte = [PALETTE, Byte("Name", 0), End];
     expect_bad(&rt, alloc, byte.as_slice(), &Fault::BadPalette)?;
     let listed = [PALETTE, AIR, List("Properties", 10, 0), End];
@@ -116,8 +117,8 @@ fn with_entries(alloc: Global, count: i32) -> Result<Vec<u8>, AllocError> {
 #[test]
 fn a_palette_has_4096_entries_at_most(rt: HostRuntime) -> Result<(), Fail> {
     let most = with_entries(rt.alloc(), 4096)?;
-    assert_eq!(rt; fault_of(rt.alloc(), &most)?, Some(Fault::BadPacked));
+    expect_equal(&rt, fault_of(rt.alloc(), &most)?, Some(Fault::BadPacked));
     let more = with_entries(rt.alloc(), 4097)?;
-    assert_eq!(rt; fault_of(rt.alloc(), &more)?, Some(Fault::BadPalette));
+    expect_equal(&rt, fault_of(rt.alloc(), &more)?, Some(Fault::BadPalette));
     Ok(())
 }

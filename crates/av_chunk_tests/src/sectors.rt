@@ -1,4 +1,5 @@
 //! Where chunks lie in a region's file.
+use crate::expecting::expect_equal;
 use av_chunk::block_at;
 use av_region::{Region, write};
 use av_types::{ChunkPos, Fault, Height, Pos, RegionPos};
@@ -27,7 +28,7 @@ fn file_of(
 fn expect_fault(rt: &impl Abort, file: &[u8], want: &Fault) -> Result<(), Fault> {
     let region = Region::read(file)?;
     let fault = region.payload(0).err();
-    assert!(rt; fault.as_ref() == Some(want));
+    expect_equal(rt, fault.as_ref(), Some(want));
     Ok(())
 }
 
@@ -40,7 +41,7 @@ fn expect_payload(
 ) -> Result<(), Fault> {
     let region = Region::read(file)?;
     assert!(rt; index < 1024);
-    assert_eq!(rt; region.payload(index), Ok(want));
+    expect_equal(rt, region.payload(index), Ok(want));
     Ok(())
 }
 
@@ -56,7 +57,7 @@ fn only_four_zero_bytes_are_no_chunk(rt: HostRuntime) -> Result<(), Fail> {
 fn the_bytes_of_the_length_count(rt: HostRuntime) -> Result<(), Fail> {
     let file = file_of(rt.alloc(), [0, 0, 2, 1], [0; 4], 4092, 3)?;
     let found = Region::read(&file)?.payload(0)?;
-    assert_eq!(rt; found.map_or(0, |bytes| bytes.len()), 4091);
+    expect_equal(&rt, found.map_or(0, |bytes| bytes.len()), 4091);
     Ok(())
 }
 
@@ -97,17 +98,17 @@ fn a_short_header_comes_before_another_region(rt: HostRuntime) -> Result<(), Fai
         pos,
         Height::game(),
     );
-    assert_eq!(rt; found.err(), Some(Fault::ShortHeader));
+    expect_equal(&rt, found.err(), Some(Fault::ShortHeader));
     Ok(())
 }
 
 #[test]
 fn an_index_counts_x_within_z(rt: HostRuntime) {
     let region = RegionPos { x: -1, z: 2 };
-    assert_eq!(rt; ChunkPos { x: 1, z: 0 }.index(), 1);
-    assert_eq!(rt; ChunkPos { x: 0, z: 1 }.index(), 32);
-    assert_eq!(rt; region.chunk_at(1), ChunkPos { x: -31, z: 64 });
-    assert_eq!(rt; region.chunk_at(32), ChunkPos { x: -32, z: 65 });
+    expect_equal(&rt, ChunkPos { x: 1, z: 0 }.index(), 1);
+    expect_equal(&rt, ChunkPos { x: 0, z: 1 }.index(), 32);
+    expect_equal(&rt, region.chunk_at(1), ChunkPos { x: -31, z: 64 });
+    expect_equal(&rt, region.chunk_at(32), ChunkPos { x: -32, z: 65 });
 }
 
 /// The payloads of a region whose chunk of index 1000 alone is there, with one byte too many.
@@ -129,6 +130,6 @@ fn a_chunk_that_is_too_large_is_named(rt: HostRuntime) -> Result<(), Fail> {
     let region = RegionPos { x: -1, z: 2 };
     let fault = write(rt.alloc(), region, &payloads, &stamps).err();
     let chunk = ChunkPos { x: -24, z: 95 };
-    assert_eq!(rt; fault, Some(Fault::ChunkTooLarge(chunk)));
+    expect_equal(&rt, fault, Some(Fault::ChunkTooLarge(chunk)));
     Ok(())
 }

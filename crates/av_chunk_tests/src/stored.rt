@@ -3,6 +3,7 @@ ghost use Rattle.std.specs.Prelude.{length};
 ghost use Rattle.av_state.specs.Table.{states};
 ghost use Rattle.av_section.specs.Section.{HasNumbersBelow};
 
+use crate::expecting::{expect_equal, expect_true};
 use av_nbt::{Named, Tag, TagType};
 use av_section::Section;
 use av_state::StateTable;
@@ -158,7 +159,7 @@ fn expect_bad(
     value: &[u8],
 ) -> Result<(), Fault> {
     let fault = entry_fault(alloc, name, keys, value)?;
-    assert_eq!(rt; fault, Some(Fault::BadPalette));
+    expect_equal(rt, fault, Some(Fault::BadPalette));
     Ok(())
 }
 
@@ -168,7 +169,7 @@ fn expect_bounded(rt: &impl Abort, alloc: Global, long: &[u8], short: &[u8]) -> 
     expect_bad(rt, alloc, short, &[long, b"b"], short)?;
     expect_bad(rt, alloc, short, &[b"a", b"b"], long)?;
     let fault = entry_fault(alloc, short, &[short, b"b"], short)?;
-    assert_eq!(rt; fault, None);
+    expect_equal(rt, fault, None);
     Ok(())
 }
 
@@ -190,7 +191,7 @@ fn sizes(section: &Section) -> (usize, usize, u32) {
 
 /// A section has so many numbers and longs, and an index so many bits.
 fn expect_sizes(rt: &impl Abort, section: &Section, want: (usize, usize, u32)) {
-    assert_eq!(rt; sizes(section), want);
+    expect_equal(rt, sizes(section), want);
 }
 
 /// A place of a section has this number.
@@ -211,8 +212,8 @@ fn expect_written(
     requires { HasNumbersBelow section.now (length (states table.now)) }
 {
     let (written, packed) = section.write(alloc, table)?;
-    assert!(rt; written == *palette);
-    assert!(rt; packed.as_ref() == longs);
+    expect_equal(rt, &written, palette);
+    expect_equal(rt, packed.as_ref(), longs);
     Ok(())
 }
 
@@ -226,7 +227,7 @@ fn expect_one_state(
 ) -> Result<(), Fail> {
     let section = Section::read(alloc, Some(palette), longs, table)?;
     let ends = (section.get(Place::new(0)), section.get(Place::new(4095)));
-    assert_eq!(rt; ends, (10, 10));
+    expect_equal(rt, ends, (10, 10));
     expect_written(rt, alloc, &section, table, palette, None)
 }
 
@@ -243,7 +244,7 @@ fn one_state_has_no_longs(rt: HostRuntime) -> Result<(), Fail> {
     let mut table = StateTable::new(rt.alloc())?;
     expect_one_state(&rt, rt.alloc(), &mut table, &palette, Some(&longs))?;
     expect_one_state(&rt, rt.alloc(), &mut table, &palette, None)?;
-    assert_eq!(rt; table.len(), 11);
+    expect_equal(&rt, table.len(), 11);
     Ok(())
 }
 
@@ -275,7 +276,7 @@ fn two_longs(alloc: Global) -> Result<Vec<i64>, Fault> {
 fn places_have_the_numbers_of_their_states(rt: HostRuntime) -> Result<(), Fail> {
     let mut table = StateTable::new(rt.alloc())?;
     let section = section_of(rt.alloc(), &mut table, 17, two_longs(rt.alloc())?)?;
-    assert_eq!(rt; table.len(), 27);
+    expect_equal(&rt, table.len(), 27);
     expect_sizes(&rt, &section, (17, 342, 5));
     for (place, number) in [(12, 22), (4092, 22), (4095, 25)] {
         expect_number(&rt, &section, place, number);
@@ -288,7 +289,7 @@ fn places_have_the_numbers_of_their_states(rt: HostRuntime) -> Result<(), Fail> 
 fn a_prepared_section_reads_as_before(rt: HostRuntime) -> Result<(), Fail> {
     let mut section = Section::filled(rt.alloc(), 3)?;
     let place = Place::new(700);
-    assert_eq!(rt; sizes(&section).1, 0);
+    expect_equal(&rt, sizes(&section).1, 0);
     section.set(place, 3);
     section.add_pending(place);
     section.prepare(&[0, 1, 2, 3, 4, 5, 6, 7, 8, 9, 10, 11, 12, 13, 14, 15])?;
@@ -300,9 +301,9 @@ fn a_prepared_section_reads_as_before(rt: HostRuntime) -> Result<(), Fail> {
         section.get(Place::new(4095)),
         section.pending(place),
     );
-    assert_eq!(rt; found, (3, 3, true));
+    expect_equal(&rt, found, (3, 3, true));
     section.remove_pending(place);
-    assert!(rt; !section.pending(place));
+    expect_true(&rt, !section.pending(place));
     Ok(())
 }
 
@@ -319,10 +320,10 @@ fn wider_indices_keep_every_place(rt: HostRuntime) -> Result<(), Fail> {
     let mut table = StateTable::new(rt.alloc())?;
     let longs = vec![in rt.alloc(); 0xFEDC_BA98_7654_3210_u64.cast_signed(); 256]?;
     let mut section = section_of(rt.alloc(), &mut table, 16, longs)?;
-    assert_eq!(rt; sizes(&section).2, 4);
+    expect_equal(&rt, sizes(&section).2, 4);
     section.prepare(&[3])?;
     expect_sizes(&rt, &section, (17, 342, 5));
-    assert_eq!(rt; section.parts().1.last(), Some(&506284));
+    expect_equal(&rt, section.parts().1.last(), Some(&506284));
     for index in 0..4096 {
         expect_number(&rt, &section, index, 10 + index % 16);
     }

@@ -1,5 +1,6 @@
 //! Chunks, read and written back.
 use crate::documents::rewritten;
+use crate::expecting::expect_equal;
 use crate::parts::Part::{Byte, Bytes, Compound, End, Int, List, Text, Tick};
 use crate::parts::{FULL, Part, document, push_all};
 use av_chunk::ChunkLight;
@@ -74,7 +75,7 @@ fn odd_tick_first(alloc: Global, x: i32) -> Result<Vec<u8>, AllocError> {
 fn expect(rt: &impl Abort, alloc: Global, bytes: &[u8], want: &[u8]) -> Result<(), Fail> {
     let dark = ChunkLight::new(alloc, 1)?;
     let written = rewritten(alloc, bytes, &dark)?;
-    assert!(rt; written.as_slice() == want);
+    expect_equal(rt, written.as_slice(), want);
     Ok(())
 }
 

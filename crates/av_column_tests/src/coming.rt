@@ -1,4 +1,5 @@
 //! What comes into a block, and what a set wakes.
+use crate::expecting::expect_equal;
 use crate::flat::{
     Block, FALLING, LAVA, SOURCE, at, comes_into, expect_entries, flat_with, kinds, set,
 };
@@ -17,7 +18,7 @@ fn expect(
 ) -> Result<(), Fail> {
     let kinds = kinds(alloc, rt)?;
     let column = flat_with(alloc, blocks)?;
-    assert_eq!(rt; comes_into(rt, &column, &kinds, at(block)), want);
+    expect_equal(rt, comes_into(rt, &column, &kinds, at(block)), want);
     Ok(())
 }
 

@@ -1,4 +1,5 @@
 //! The rule's examples on the small flat world, with a soaked slab by the bare table.
+use crate::expecting::{expect_equal, expect_true};
 use crate::flat::{
     AIR, Block, SOURCE, STONE, at, comes_into, drop_by, drops_at, enters_at, expect_blocks,
     expect_drops, expect_entries, expect_made, flat_with, intern, kind, kinds_by, number_at,
@@ -84,7 +85,7 @@ fn spread(rt: &impl Abort, alloc: Global) -> Result<Column, Fault> {
 fn a_source_spreads_to_four_sides(rt: HostRuntime) -> Result<(), Fail> {
     let column = spread(&rt, rt.alloc())?;
     for side in [(8, 64, 7), (8, 64, 9), (7, 64, 8), (9, 64, 8)] {
-        assert_eq!(rt; number_at(&column, at(side)), Some(LEVEL_1));
+        expect_equal(&rt, number_at(&column, at(side)), Some(LEVEL_1));
     }
     Ok(())
 }
@@ -102,8 +103,8 @@ fn a_source_falls(rt: HostRuntime) -> Result<(), Fail> {
     let entries = [(8, 65, 8), (8, 66, 8)];
     expect_turn(&rt, rt.alloc(), &mut column, (8, 66, 8), &entries)?;
     // level 8
-    assert_eq!(rt; number_at(&column, at((8, 65, 8))), Some(9));
-    assert_eq!(rt; number_at(&column, at((9, 66, 8))), Some(AIR));
+    expect_equal(&rt, number_at(&column, at((8, 65, 8))), Some(9));
+    expect_equal(&rt, number_at(&column, at((9, 66, 8))), Some(AIR));
     Ok(())
 }
 
@@ -162,8 +163,8 @@ fn water_goes_to_the_nearest_drop(rt: HostRuntime) -> Result<(), Fail> {
     let mut column = flat_with(rt.alloc(), &blocks)?;
     let entries = [(9, 64, 8), (8, 64, 8)];
     expect_turn(&rt, rt.alloc(), &mut column, (8, 64, 8), &entries)?;
-    assert_eq!(rt; number_at(&column, at((9, 64, 8))), Some(LEVEL_1));
-    assert_eq!(rt; number_at(&column, at((8, 64, 7))), Some(AIR));
+    expect_equal(&rt, number_at(&column, at((9, 64, 8))), Some(LEVEL_1));
+    expect_equal(&rt, number_at(&column, at((8, 64, 7))), Some(AIR));
     Ok(())
 }
 
@@ -196,7 +197,7 @@ fn the_bottom_of_the_world_is_a_floor(rt: HostRuntime) -> Result<(), Fail> {
         ((9, -64, 8), LEVEL_1),
     ];
     let column = turned_at_bottom(&rt, rt.alloc(), &[((8, -64, 8), SOURCE)], &sides)?;
-    assert_eq!(rt; number_at(&column, at((8, -65, 8))), None);
+    expect_equal(&rt, number_at(&column, at((8, -65, 8))), None);
     Ok(())
 }
 
@@ -229,7 +230,7 @@ fn drop_east(rt: &impl Abort, alloc: Global, blocks: &[(Block, u16)]) -> Result<
 #[test]
 fn a_soaked_block_is_a_hole(rt: HostRuntime) -> Result<(), Fail> {
     let blocks = [((8, 64, 8), SOURCE), ((11, 63, 8), SOAKED_SLAB)];
-    assert_eq!(rt; drop_east(&rt, rt.alloc(), &blocks)?, Some(2));
+    expect_equal(&rt, drop_east(&rt, rt.alloc(), &blocks)?, Some(2));
     Ok(())
 }
 
@@ -237,8 +238,8 @@ fn a_soaked_block_is_a_hole(rt: HostRuntime) -> Result<(), Fail> {
 fn water_without_a_source_dries(rt: HostRuntime) -> Result<(), Fail> {
     let mut column = flat_with(rt.alloc(), &[((8, 64, 8), 4)])?;
     expect_turn(&rt, rt.alloc(), &mut column, (8, 64, 8), &[])?;
-    assert_eq!(rt; number_at(&column, at((8, 64, 8))), Some(AIR));
-    assert_eq!(rt; number_at(&column, at((9, 64, 8))), Some(AIR));
+    expect_equal(&rt, number_at(&column, at((8, 64, 8))), Some(AIR));
+    expect_equal(&rt, number_at(&column, at((9, 64, 8))), Some(AIR));
     Ok(())
 }
 
@@ -253,8 +254,8 @@ fn set_source(rt: &impl Abort, alloc: Global, column: &mut Column) -> Result<usi
 fn a_set_wakes_what_does_not_wait(rt: HostRuntime) -> Result<(), Fail> {
     let mut column = flat_with(rt.alloc(), &[((8, 65, 8), SOURCE)])?;
     for wants in [2, 0] {
-        assert_eq!(rt; set_source(&rt, rt.alloc(), &mut column)?, wants);
-        assert_eq!(rt; column.entries().len(), 2);
+        expect_equal(&rt, set_source(&rt, rt.alloc(), &mut column)?, wants);
+        expect_equal(&rt, column.entries().len(), 2);
     }
     expect_entries(&rt, column.entries(), &[(8, 64, 8), (8, 65, 8)]);
     Ok(())
@@ -282,9 +283,9 @@ fn waits(column: &Column) -> (bool, bool, bool) {
 fn entries_are_taken_in_order(rt: HostRuntime) -> Result<(), Fail> {
     let mut column = flat_with(rt.alloc(), &[((8, 65, 8), SOURCE)])?;
     set_source(&rt, rt.alloc(), &mut column)?;
-    assert_eq!(rt; taken_first(&mut column), Some(at((8, 64, 8))));
-    assert_eq!(rt; waits(&column), (false, true, false));
-    assert_eq!(rt; number_at(&column, at((8, 64, 8))), Some(SOURCE));
+    expect_equal(&rt, taken_first(&mut column), Some(at((8, 64, 8))));
+    expect_equal(&rt, waits(&column), (false, true, false));
+    expect_equal(&rt, number_at(&column, at((8, 64, 8))), Some(SOURCE));
     Ok(())
 }
 
@@ -309,7 +310,7 @@ fn reads_the_kind_of_a_block(rt: HostRuntime) -> Result<(), Fail> {
         ((0, 63, 0), (false, true, Wet::Dry)),
     ];
     for (block, want) in blocks {
-        assert_eq!(rt; read_at(&rt, rt.alloc(), block)?, want);
+        expect_equal(&rt, read_at(&rt, rt.alloc(), block)?, want);
     }
     Ok(())
 }
@@ -319,7 +320,11 @@ fn reads_the_kind_of_a_block(rt: HostRuntime) -> Result<(), Fail> {
 fn kinds_of_a_source_and_of_what_is_not_loaded(rt: HostRuntime) -> Result<(), Fail> {
     let kinds = slab_kinds(rt.alloc(), &rt)?;
     let column = flat_with(rt.alloc(), &[((8, 65, 8), SOURCE)])?;
-    assert_eq!(rt; kind(&rt, &column, &kinds, at((8, 65, 8))).wet, Wet::Source);
-    assert!(rt; kind(&rt, &column, &kinds, at((16, 64, 0))).floor);
+    expect_equal(
+        &rt,
+        kind(&rt, &column, &kinds, at((8, 65, 8))).wet,
+        Wet::Source,
+    );
+    expect_true(&rt, kind(&rt, &column, &kinds, at((16, 64, 0))).floor);
     Ok(())
 }

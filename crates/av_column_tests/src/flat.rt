@@ -1,4 +1,5 @@
 //! A flat world of one chunk: stone at y 63, air from y 60 to 69 elsewhere, and blocks put into it.
+use crate::expecting::expect_equal;
 use arrayvec::ArrayVec;
 use av_cells::{Cells, Kind, can_enter, has_hole, kind_at, set_awake};
 use av_column::Column;
@@ -73,7 +74,7 @@ pub fn intern(
     number: u16,
 ) -> Result<(), Fault> {
     let state = state(alloc, name, pairs)?;
-    assert_eq!(rt; table.intern(&state), Ok(number));
+    expect_equal(rt, table.intern(&state), Ok(number));
     Ok(())
 }
 
@@ -241,7 +242,7 @@ pub fn expect_drops(rt: &impl Abort, column: &Column, kinds: &Kinds, wants: [Opt
         Direction::East,
     ];
     for (direction, want) in directions.iter().zip(&wants) {
-        assert_eq!(rt; drop_by(rt, column, kinds, *direction), *want);
+        expect_equal(rt, drop_by(rt, column, kinds, *direction), *want);
     }
 }
 
@@ -254,7 +255,7 @@ pub fn expect_entries(rt: &impl Abort, entries: &[Entry], wants: &[Block]) {
             due: 6,
             priority: 0,
         };
-        assert_eq!(rt; *entry, want);
+        expect_equal(rt, *entry, want);
     }
 }
 
@@ -269,7 +270,7 @@ pub fn number_at(column: &Column, pos: Pos) -> Option<u16> {
 /// The blocks have these states.
 pub fn expect_blocks(rt: &impl Abort, column: &Column, wants: &[(Block, u16)]) {
     for (block, number) in wants {
-        assert_eq!(rt; number_at(column, at(*block)), Some(*number));
+        expect_equal(rt, number_at(column, at(*block)), Some(*number));
     }
 }
 

@@ -1,4 +1,5 @@
 //! Block tables by hand.
+use crate::expecting::{expect_equal, expect_true};
 use av_rules::{Kinds, Row, Rules};
 use av_state::{Property, State, StateTable};
 use av_types::{Fault, Wet};
@@ -55,9 +56,10 @@ fn expect_height(
     sections: u32,
 ) -> Result<(), Fault> {
     let height = Rules::read(alloc, text)?.height();
-    assert_eq!(rt;
+    expect_equal(
+        rt,
         (height.min_section, height.sections),
-        (min_section, sections)
+        (min_section, sections),
     );
     Ok(())
 }
@@ -132,7 +134,7 @@ fn the_first_row_counts(rt: HostRuntime) -> Result<(), Fail> {
         let rules = Rules::read(alloc, text)?;
         let lit = furnace_emission(alloc, &rules, &[("facing", "north"), ("lit", "true")])?;
         let unlit = furnace_emission(alloc, &rules, &[("lit", "false")])?;
-        assert_eq!(rt; (lit, unlit), (want, want_unlit));
+        expect_equal(&rt, (lit, unlit), (want, want_unlit));
     }
     Ok(())
 }
@@ -211,7 +213,7 @@ fn refuses_other_rows(rt: HostRuntime) -> Result<(), Fail> {
 #[test]
 fn refuses_rows_of_water_and_air(rt: HostRuntime) -> Result<(), Fail> {
     let good = one_row(rt.alloc(), "a:b", OPEN)?;
-    assert!(rt; Rules::read(rt.alloc(), good.as_bytes()).is_ok());
+    expect_true(&rt, Rules::read(rt.alloc(), good.as_bytes()).is_ok());
     for name in ["minecraft:water", "minecraft:air"] {
         expect_refused_row(&rt, rt.alloc(), name, OPEN)?;
     }
@@ -251,7 +253,7 @@ const SOAKED: [(&str, &str, [Wet; 3]); 5] = [
 
 /// A table gives a state this number.
 fn expect_number(rt: &impl Abort, table: &mut StateTable, state: &State, want: u16) {
-    assert_eq!(rt; table.intern(state), Ok(want));
+    expect_equal(rt, table.intern(state), Ok(want));
 }
 
 /// A table in which the slab with `waterlogged=true` is number 10, the one with `waterlogged=false` 11 and kelp 12.
@@ -291,7 +293,7 @@ fn expect_wets(
     wants: [Wet; 3],
 ) -> Result<(), Fault> {
     let kinds = Kinds::new(alloc, soaked_table(rt, alloc)?, rules)?;
-    assert_eq!(rt; (kinds.table().len(), kinds.count()), (13, 13));
+    expect_equal(rt, (kinds.table().len(), kinds.count()), (13, 13));
     let [logged, dry, kelp] = wants;
     for (number, want) in [
         (1, Wet::Source),

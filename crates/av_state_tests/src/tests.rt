@@ -1,4 +1,5 @@
 //! Block states and their numbers, by hand.
+use crate::expecting::{expect_equal, expect_true};
 use av_state::{Property, State, StateTable};
 use av_types::{Fault, Wet};
 use std::alloc::Global;
@@ -24,7 +25,7 @@ fn state(alloc: Global, name: &str, pairs: &[(&str, &str)]) -> Result<State, Fau
 
 /// A table gives a state this number.
 fn expect_number(rt: &impl Abort, table: &mut StateTable, state: &State, want: u16) {
-    assert_eq!(rt; table.intern(state), Ok(want));
+    expect_equal(rt, table.intern(state), Ok(want));
 }
 
 /// A table gives the state of a name, and of keys and values, this number.
@@ -44,7 +45,7 @@ fn expect_interned(
 #[test]
 fn numbers_air(rt: HostRuntime) -> Result<(), Fail> {
     let mut table = StateTable::new(rt.alloc())?;
-    assert_eq!(rt; (table.len(), table.is_empty()), (10, false));
+    expect_equal(&rt, (table.len(), table.is_empty()), (10, false));
     expect_interned(&rt, rt.alloc(), &mut table, "minecraft:air", &[], 0)?;
     expect_interned(
         &rt,
@@ -54,15 +55,15 @@ fn numbers_air(rt: HostRuntime) -> Result<(), Fail> {
         &[("lit", "true")],
         0,
     )?;
-    assert_eq!(rt; table.len(), 10);
+    expect_equal(&rt, table.len(), 10);
     Ok(())
 }
 
 #[test]
 fn air_is_dry(rt: HostRuntime) -> Result<(), Fail> {
     let air = state(rt.alloc(), "minecraft:air", &[("lit", "true")])?;
-    assert_eq!(rt; (air.is_air(), air.is_water()), (true, false));
-    assert_eq!(rt; air.wet(), Wet::Dry);
+    expect_equal(&rt, (air.is_air(), air.is_water()), (true, false));
+    expect_equal(&rt, air.wet(), Wet::Dry);
     Ok(())
 }
 
@@ -70,15 +71,15 @@ fn air_is_dry(rt: HostRuntime) -> Result<(), Fail> {
 fn numbers_a_source(rt: HostRuntime) -> Result<(), Fail> {
     let mut table = StateTable::new(rt.alloc())?;
     expect_interned(&rt, rt.alloc(), &mut table, "minecraft:water", &[], 1)?;
-    assert_eq!(rt; table.len(), 10);
+    expect_equal(&rt, table.len(), 10);
     Ok(())
 }
 
 #[test]
 fn water_without_a_level_is_a_source(rt: HostRuntime) -> Result<(), Fail> {
     let source = state(rt.alloc(), "minecraft:water", &[])?;
-    assert_eq!(rt; (source.is_water(), source.is_air()), (true, false));
-    assert_eq!(rt; source.wet(), Wet::Source);
+    expect_equal(&rt, (source.is_water(), source.is_air()), (true, false));
+    expect_equal(&rt, source.wet(), Wet::Source);
     Ok(())
 }
 
@@ -121,7 +122,7 @@ fn numbers_water_by_its_level(rt: HostRuntime) -> Result<(), Fail> {
         let water = falling_water(rt.alloc(), *level)?;
         expect_level(&rt, &mut table, &water, *level, *want);
     }
-    assert_eq!(rt; table.len(), 10);
+    expect_equal(&rt, table.len(), 10);
     Ok(())
 }
 
@@ -151,7 +152,7 @@ fn tells_how_wet_a_state_is(rt: HostRuntime) -> Result<(), Fail> {
 /// A state prints as this text.
 fn expect_text(rt: &impl Abort, alloc: Global, state: &State, want: &[u8]) -> Result<(), Fail> {
     let text = state.text(alloc)?;
-    assert_eq!(rt; text.as_slice(), want);
+    expect_equal(rt, text.as_slice(), want);
     Ok(())
 }
 
@@ -166,8 +167,8 @@ fn sorts_properties_and_prints(rt: HostRuntime) -> Result<(), Fail> {
     let furnace = furnace(rt.alloc())?;
     let want = b"minecraft:furnace[facing=north,lit=true]";
     expect_text(&rt, rt.alloc(), &furnace, want.as_slice())?;
-    assert_eq!(rt; furnace.value(b"lit"), Some(b"true".as_slice()));
-    assert_eq!(rt; furnace.value(b"li"), None);
+    expect_equal(&rt, furnace.value(b"lit"), Some(b"true".as_slice()));
+    expect_equal(&rt, furnace.value(b"li"), None);
     Ok(())
 }
 
@@ -212,7 +213,7 @@ fn expect_new(
 ) -> Result<(), Fault> {
     let name = block_name(alloc, number)?;
     let block = state(alloc, name.as_str(), &[])?;
-    assert_eq!(rt; table.number_of(&block), None);
+    expect_equal(rt, table.number_of(&block), None);
     expect_number(rt, table, &block, number);
     Ok(())
 }
@@ -226,9 +227,9 @@ fn expect_kept(
 ) -> Result<(), Fault> {
     assert!(rt; (number as usize) < table.len());
     let block = table.state(number);
-    assert_eq!(rt; table.number_of(block), Some(number));
+    expect_equal(rt, table.number_of(block), Some(number));
     let name = block_name(alloc, number)?;
-    assert_eq!(rt; block.name.as_slice(), name.as_bytes());
+    expect_equal(rt, block.name.as_slice(), name.as_bytes());
     Ok(())
 }
 
@@ -238,15 +239,15 @@ fn full_table(rt: &impl Abort, alloc: Global) -> Result<StateTable, Fault> {
     for number in 10u16..65535 {
         expect_new(rt, alloc, &mut table, number)?;
     }
-    assert_eq!(rt; table.len(), 65535);
+    expect_equal(rt, table.len(), 65535);
     Ok(table)
 }
 
 /// A table takes no other state, and stays as it is.
 fn expect_full(rt: &impl Abort, alloc: Global, table: &mut StateTable) -> Result<(), Fault> {
     let one_more = state(alloc, "minecraft:one_more", &[])?;
-    assert_eq!(rt; table.intern(&one_more), Err(Fault::TooManyStates));
-    assert_eq!(rt; table.len(), 65535);
+    expect_equal(rt, table.intern(&one_more), Err(Fault::TooManyStates));
+    expect_equal(rt, table.len(), 65535);
     Ok(())
 }
 
@@ -257,7 +258,10 @@ fn takes_65535_states(rt: HostRuntime) -> Result<(), Fail> {
     for number in 10u16..65535 {
         expect_kept(&rt, rt.alloc(), &table, number)?;
     }
-    assert!(rt; have_the_same_first_ten(&table, &StateTable::new(rt.alloc())?));
+    expect_true(
+        &rt,
+        have_the_same_first_ten(&table, &StateTable::new(rt.alloc())?),
+    );
     Ok(())
 }
 
@@ -299,13 +303,15 @@ fn texts_are_of_65535_bytes_at_most(rt: HostRuntime) -> Result<(), Fail> {
 fn no_key_comes_twice(rt: HostRuntime) -> Result<(), Fail> {
     let alloc = rt.alloc();
     let pairs = [("lit", "true"), ("facing", "north"), ("lit", "false")];
-    assert_eq!(rt;
+    expect_equal(
+        &rt,
         state(alloc, "minecraft:furnace", &pairs),
-        Err(Fault::BadPalette)
+        Err(Fault::BadPalette),
     );
-    assert_eq!(rt;
+    expect_equal(
+        &rt,
         state(alloc, "minecraft:furnace", &pairs[..2]).is_ok(),
-        true
+        true,
     );
     Ok(())
 }
