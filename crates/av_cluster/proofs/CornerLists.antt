@@ -1,5 +1,5 @@
 -- The sections of a reach's corners that are there are those of the list of the territory.
-use Rattle.std.proofs.Common.{◌≡◌, ◌↔◌, ℕ, ◌+◌, ◌<◌, ◌≤◌, pos, ◌+ℤ◌, ◌-ℤ◌, ◌&&◌, Bool, true, false, cond, List, [], ◌∷◌, ◌++◌, length, get_or, take, Some, slice_get, ◌⊎◌, inl, inr, refl, sym, ap, ◌∙◌, subst, append_assoc, IsTrue, arith}
+use Rattle.std.proofs.Common.{◌≡◌, ◌↔◌, ℕ, ◌+◌, ◌<◌, pos, ◌+ℤ◌, ◌-ℤ◌, ◌&&◌, Bool, true, false, cond, List, [], ◌∷◌, ◌++◌, length, get_or, take, Some, slice_get, ◌⊎◌, inl, inr, refl, sym, ap, ◌∙◌, subst, append_assoc, IsTrue, arith}
 use Rattle.std.specs.List.{Contains}
 use Rattle.std.proofs.lemmas.List.{append-nil}
 use Rattle.std.proofs.lemmas.List.Elements.{Contains-append_cases, Contains-append_left, Contains-append_right, Contains-push, Contains-push_cases}
@@ -132,9 +132,6 @@ item_of xs ys e i l d = subst (λ zs. Contains zs (get_or xs i d)) e (i, l, get_
 -- a section with an owner is there
 pub owned_is_there : (g : Grid) (es : List Entry) (ps : List ℕ) (owners : Owners) (D : ℕ → SectionPos → Type 0) → IsNoted (cells_of g) es ps owners D → (s : SectionPos) (k : ℕ) → owners s ≡ Some k → is_here (g s) ≡ true
 owned_is_there g es ps owners D n s k e = let t = (n.done k s (n.owned s k e)).territory in subst (λ u. IsTrue (is_here (g u))) t.lies t.loaded
-
-pub not_first : (n : ℕ) → (n ≡ 0 → ⊥) → 1 ≤ n
-not_first n e = omega (arith, e)
 
 -- reaches that meet the same sections have the same territory
 module _ (g : Grid) where

@@ -15,7 +15,7 @@ ghost use Rattle.av_cluster.specs.Joining.{key_of, owner_in, IsTouchedIf, IsNote
 
 use crate::cluster_part::Cluster;
 use crate::forest::{find, join};
-use crate::territories::{corners, meet_same_sections};
+use crate::territories::{corners, fourth, meet_same_sections, reach_index};
 use av_cells::Cells;
 use av_play::Placed;
 use av_types::{Entry, Fault, Height, Pos, SectionPos};
@@ -42,18 +42,21 @@ fn no_owners(alloc: Global, entries: usize) -> Result<Owners, AllocError>
     IndexMap::with_capacity(alloc, entries.min(LIKELY))
 }
 
+/// What was looked up last. A look-up checks it.
+#[derive(Drop)]
+struct Near {
+    /// Where the owners of sections stand, by `near_index`.
+    owners: [usize; 64],
+
+    /// The last entries, by `reach_index`.
+    entries: [usize; 256],
+}
+
 /// The key of a section.
 fn key(section: SectionPos) -> (i32, i32, i32)
     ensures { result ≡ key_of section }
 {
     (section.x, section.y, section.z)
-}
-
-/// A number's remainder by 4.
-fn fourth(number: i32) -> usize
-    ensures { result < 4 }
-{
-    number.rem_euclid(4) as usize
 }
 
 /// Sections that are near each other have each another of these.
@@ -148,14 +151,14 @@ fn touch_all(
     Ok(())
 }
 
-/// Notes that the entry at a place touches the sections of its territory. Where these are the sections of the entry
-/// before it, the two are joined, and no section is looked up.
+/// Notes that the entry at a place touches the sections of its territory. Where these are the sections of an entry
+/// before it, as was noted, the two are joined, and no section is looked up.
 fn touch_next(
     world: &World,
     entries: &[Entry],
     place: usize,
     owners: &mut Owners,
-    near: &mut [usize; 64],
+    near: &mut Near,
     parents: &mut [usize],
 ) -> Result<(), AllocError>
     requires place { place < length entries.now }
@@ -163,12 +166,14 @@ fn touch_next(
     requires noted { IsNoted (blocks world.now) entries.now parents.old (owner_in owners.old.entries) (IsBefore (blocks world.now) entries.now place) }
     ensures { OnOk result (IsNoted (blocks world.now) entries.now parents.new (owner_in owners.new.entries) (IsBefore (blocks world.now) entries.now (place + 1))) }
 {
-    if place == 0 {
-        return touch_all(world, entries, place, owners, near, parents);
+    let index = reach_index(entries[place].pos);
+    let before = near.entries[index];
+    near.entries[index] = place;
+    if before >= place {
+        return touch_all(world, entries, place, owners, &mut near.owners, parents);
     }
-    let before = place - 1;
     if !meet_same_sections(entries[before].pos, entries[place].pos) {
-        return touch_all(world, entries, place, owners, near, parents);
+        return touch_all(world, entries, place, owners, &mut near.owners, parents);
     }
     join(parents, before, place);
     Ok(())
@@ -185,7 +190,10 @@ fn connect(
     requires noted { IsNoted (blocks world.now) entries.now parents.old (owner_in owners.old.entries) (IsBefore (blocks world.now) entries.now 0) }
     ensures { OnOk result (IsNoted (blocks world.now) entries.now parents.new (owner_in owners.new.entries) (IsBefore (blocks world.now) entries.now (length entries.now))) }
 {
-    let mut near = [0; 64];
+    let mut near = Near {
+        owners: [0; 64],
+        entries: [0; 256],
+    };
     for place in 0..entries.len() {
         touch_next(world, entries, place, owners, &mut near, parents)?;
     }

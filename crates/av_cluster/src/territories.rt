@@ -157,6 +157,23 @@ pub(crate) fn meet_same_sections(a: Pos, b: Pos) -> bool
     )
 }
 
+/// A number's remainder by 4.
+pub(crate) fn fourth(number: i32) -> usize
+    ensures { result < 4 }
+{
+    number.rem_euclid(4) as usize
+}
+
+/// Blocks whose reaches meet the same sections have the same of these, and most others near have another.
+pub(crate) fn reach_index(at: Pos) -> usize
+    requires { IsNearOrigin at }
+    ensures { result < 256 }
+{
+    let low = corner_of(at, false, false, false).section();
+    let high = corner_of(at, true, true, true).section();
+    fourth(low.x) + 4 * fourth(low.z) + 16 * fourth(high.x) + 64 * fourth(high.z)
+}
+
 /// Appends the section of a block, where that is loaded.
 fn add_loaded(world: &World, block: Pos, found: &mut ArrayVec<SectionPos, 8>)
     requires { array_vec_len found.old < 8 }

@@ -15,7 +15,8 @@ ghost use Rattle.av_world.specs.Views.{sections, grid, blocks, lists, height_of,
 
 use crate::chunks::{exchange_in, offset};
 use crate::finding::near_index;
-use crate::parcels::{Parcel, nowhere};
+use crate::notes::Notes;
+use crate::parcels::Parcel;
 use crate::worlds::World;
 use av_section::Section;
 use av_ticks::TickList;
@@ -117,14 +118,14 @@ impl World {
         }
         let alloc = *self.positions.allocator();
         let positions = Vec::from_slice(alloc, at)?;
+        let notes = Box::new(alloc, Notes::new())?;
         let slots = empty_slots(alloc, at.len())?;
         let sections = self.take_out(at, slots);
         Ok(Parcel {
             positions,
             sections,
             aside: TickList::new(alloc),
-            near: [0; 8],
-            absent: nowhere(),
+            notes,
         })
     }
 

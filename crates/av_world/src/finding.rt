@@ -16,12 +16,20 @@ use av_chunk::Chunk;
 use av_section::Section;
 use av_types::{ChunkPos, Pos, SectionPos};
 
-/// The chunks of a reach have each another of these.
+/// A number's remainder by 4.
 #[inline(always)]
-pub(crate) fn near_index(at: ChunkPos) -> usize
+fn fourth(number: i32) -> usize
     ensures { result < 4 }
 {
-    (at.x.rem_euclid(2) + 2 * at.z.rem_euclid(2)) as usize
+    number.rem_euclid(4) as usize
+}
+
+/// The chunks of a square of 4 by 4 have each another of these.
+#[inline(always)]
+pub(crate) fn near_index(at: ChunkPos) -> usize
+    ensures { result < 16 }
+{
+    fourth(at.x) + 4 * fourth(at.z)
 }
 
 impl World {

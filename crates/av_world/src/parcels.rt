@@ -1,12 +1,13 @@
 //! Parcels: sections that are out of a world, with the entries that were put aside for it.
-ghost use Rattle.std.specs.Prelude.{◌≡◌, ◌≤◌, ◌<◌, ◌+◌, ℕ, List, IsTrue, IsOk, true, false, not, length, option_copied, OnOk, All, [], ◌∷◌};
+ghost use Rattle.std.specs.Prelude.{◌≡◌, ◌≤◌, ◌<◌, ◌+◌, ℕ, IsTrue, IsOk, true, false, length, option_copied, OnOk, All, [], ◌∷◌};
 ghost use Rattle.std.proofs.Props.{props};
 ghost use Rattle.av_ticks.specs.Ticks.{entries};
 ghost use Rattle.av_types.specs.declared.place.SectionPos.{SectionPos};
-ghost use Rattle.av_world.specs.Parcels.{IsParcel, IsSectionInLimits, AreAbsent};
+ghost use Rattle.av_world.specs.Parcels.{IsParcel, AreAbsent, AreMarked};
 ghost use Rattle.av_world.specs.Parts.{index};
 
 use crate::chunks::{append, prepare_slot, set_slot};
+use crate::notes::{Notes, near_index};
 use crate::turned::{corners, turned};
 use av_cells::Cells;
 use av_section::Section;
@@ -21,23 +22,10 @@ pub struct Parcel {
     pub(crate) sections: Vec<Option<Section>>,
     pub(crate) aside: TickList,
 
-    /// Where the sections stand that were looked up last, by whether their x, y and z are odd. A look-up checks it.
-    pub(crate) near: [usize; 8],
-
-    /// Sections that were looked up last and are not there, by the same.
-    pub(crate) absent: [SectionPos; 8],
+    pub(crate) notes: Box<Notes>,
     pub ghost lawful: { IsParcel positions.items sections.items (entries aside) } by { Prim.hlevel props },
-    pub ghost nowhere: { AreAbsent positions.items absent } by { Prim.hlevel props },
-}
-
-/// A section above those of all worlds.
-const NOWHERE: SectionPos = SectionPos { x: 0, y: 64, z: 0 };
-
-/// Sections that no parcel has.
-pub(crate) fn nowhere() -> [SectionPos; 8]
-    ensures { (at : List SectionPos) → All IsSectionInLimits at → AreAbsent at result }
-{
-    [NOWHERE; 8]
+    pub ghost nowhere: { AreAbsent positions.items notes.value.absent } by { Prim.hlevel props },
+    pub ghost marked: { AreMarked (entries aside) notes.value.marks } by { Prim.hlevel props },
 }
 
 /// The index of a section, and the length where it is not there.
@@ -52,21 +40,6 @@ fn index(positions: &[SectionPos], at: SectionPos) -> usize
     positions.len()
 }
 
-/// Whether a number is odd, as 0 or 1.
-fn parity(number: i32) -> usize
-    ensures { result < 2 }
-{
-    number.rem_euclid(2) as usize
-}
-
-/// The sections of a reach have each another of these.
-#[inline(always)]
-fn near_index(at: SectionPos) -> usize
-    ensures { result < 8 }
-{
-    parity(at.x) + 2 * parity(at.z) + 4 * parity(at.y)
-}
-
 impl Parcel {
     ghost use Rattle.av_types.specs.declared.place.Pos.{Pos};
     ghost use Rattle.av_types.specs.declared.place.SectionPos.{SectionPos};
@@ -74,7 +47,8 @@ impl Parcel {
     ghost use Rattle.av_cells.specs.Positions.{IsNearOrigin};
     ghost use Rattle.av_cells.specs.Grid.{is_here};
     ghost use Rattle.av_cells.specs.World.{with_number, with_entry_if, listed_if};
-    ghost use Rattle.av_world.specs.ParcelViews.{parts, kept_grid, blocks, lists, room, CanSetAt, CanSetAll, IsParcelKept};
+    ghost use Rattle.av_ticks.specs.Entries.{is_pending};
+    ghost use Rattle.av_world.specs.ParcelViews.{parts, kept_grid, aside, blocks, lists, room, CanSetAt, CanSetAll, IsParcelKept};
     ghost use Rattle.av_world.specs.Turned.{turned};
 
     /// Where a section stands, by a search, unless it was looked up last and is not there.
@@ -82,7 +56,7 @@ impl Parcel {
     fn search(&self, at: SectionPos) -> usize
         ensures { result ≡ index self.now.positions.items at }
     {
-        if self.absent[near_index(at)] == at {
+        if self.notes.absent[near_index(at)] == at {
             return self.positions.len();
         }
         index(self.positions.as_slice(), at)
@@ -93,7 +67,7 @@ impl Parcel {
     fn slot_of(&self, at: SectionPos) -> usize
         ensures { result ≡ index self.now.positions.items at }
     {
-        let near = self.near[near_index(at)];
+        let near = self.notes.near[near_index(at)];
         if near < self.positions.len() && self.positions[near] == at {
             return near;
         }
@@ -106,9 +80,9 @@ impl Parcel {
         ensures { IsParcelKept self.old self.new }
     {
         let place = near_index(section);
-        self.near[place] = slot;
+        self.notes.near[place] = slot;
         if slot == self.positions.len() {
-            self.absent[place] = section;
+            self.notes.absent[place] = section;
         }
     }
 
@@ -148,6 +122,14 @@ impl Parcel {
         set_slot(&mut self.sections[index], pos.place(), number);
     }
 
+    /// Whether an entry of a block was put aside. Most blocks of which none was are known by their place, at once.
+    #[inline(always)]
+    fn has_aside(&self, pos: Pos) -> bool
+        ensures { result ≡ is_pending pos (aside self.now) }
+    {
+        self.notes.marks.contains(pos.place()) && self.aside.has(pos)
+    }
+
     /// Puts the entry of a block aside that is not pending.
     fn add_new(&mut self, entry: Entry)
         requires room { 0 < room self.old }
@@ -157,6 +139,7 @@ impl Parcel {
         ensures room { room self.old ≤ room self.new + 1 }
         ensures prepared { (s : SectionPos) (n : ℕ) → CanSetAt self.old s n → CanSetAt self.new s n }
     {
+        self.notes.marks.insert(entry.pos.place());
         append(&mut self.aside, entry);
     }
 
@@ -280,7 +263,7 @@ impl Cells for Parcel {
     }
 
     fn pending(&self, pos: Pos) -> bool {
-        if self.aside.has(pos) {
+        if self.has_aside(pos) {
             return true;
         }
         match self.section(pos.section()) {

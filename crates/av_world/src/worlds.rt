@@ -19,8 +19,8 @@ pub struct World {
     pub(crate) chunks: Vec<Chunk>,
     pub(crate) broken: bool,
 
-    /// Where the chunks stand that were looked up last, by whether their x and z are odd. A look-up checks it.
-    pub(crate) near: [usize; 4],
+    /// Where the chunks stand that were looked up last, by their x and z modulo 4. A look-up checks it.
+    pub(crate) near: [usize; 16],
     pub ghost lawful: { IsWorld height positions.items chunks.items } by { Prim.hlevel props },
 }
 
@@ -47,7 +47,7 @@ impl World {
             positions: Vec::new(alloc),
             chunks: Vec::new(alloc),
             broken: false,
-            near: [0; 4],
+            near: [0; 16],
         }
     }
 

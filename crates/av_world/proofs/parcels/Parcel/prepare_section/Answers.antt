@@ -19,6 +19,7 @@ invariant_of-self c =
     record {
       lawful = parcel_with at slots (slice_set slots i new) (entries w.aside) w.lawful (length-set slots i new) (λ p h. subst (λ (g : Grid). (cells_of g).pending p ≡ false) (sym same) h);
       nowhere = w.nowhere;
+      marked = w.marked;
     }
 
 pub returns-clause-kept : goal.returns-clause-kept

@@ -40,6 +40,7 @@ invariant_of-self c =
     record {
       lawful = parcel_with at slots (slice_set slots i new) (entries w.aside) w.lawful (length-set slots i new) (λ p h. subst (λ (v : cells.World). v.pending p ≡ false) (sym changed) h);
       nowhere = w.nowhere;
+      marked = w.marked;
     }
 
 pub returns-clause-changed : goal.returns-clause-changed

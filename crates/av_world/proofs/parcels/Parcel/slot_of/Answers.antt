@@ -11,7 +11,7 @@ zero_section = record { x = pos 0; y = pos 0; z = pos 0 }
 
 pub returns-then-eq : goal.returns-then-eq
 returns-then-eq c =
-    let w = c.args.self.now in let ts = w.positions.items in let i = get_or w.near c.near_index.result 0 in
+    let w = c.args.self.now in let ts = w.positions.items in let i = get_or c.deref.result.now.near c.near_index.result 0 in
     let below : i < length ts = search rules in
     let found : same_section c.index.result.now c.args.at ≡ true = search rules in
     let same : same_section (get_or ts i zero_section) c.args.at ≡ true = ap (λ p. same_section p c.args.at) (get_or_default ts i zero_section c.index.result.now below ∙ sym c.index.ensures) ∙ found in

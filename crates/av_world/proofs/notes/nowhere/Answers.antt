@@ -8,7 +8,7 @@ use Rattle.av_cells.specs.Positions.{same_section}
 use Rattle.av_world.specs.Parcels.{IsSectionInLimits}
 use Rattle.av_world.specs.Parts.{index}
 use Rattle.av_world.proofs.Parts.{index_past}
-use Rattle.av_world.proofs.parcels.nowhere.Goals as goal
+use Rattle.av_world.proofs.notes.nowhere.Goals as goal
 
 abbrev above : SectionPos
 above = record { x = pos 0; y = pos 64; z = pos 0 }
@@ -21,4 +21,4 @@ absent : (ts : List SectionPos) → All IsSectionInLimits ts → index ts above 
 absent ts limits = index_past ts above above (λ j l. not_above (get_or ts j above) (limits j above l) (same_section (get_or ts j above) above) refl)
 
 pub returns : goal.returns
-returns c = λ ts limits. All-replicate (λ s. index ts s ≡ length ts) 8 above (absent ts limits)
+returns c = λ ts limits. All-replicate (λ s. index ts s ≡ length ts) 32 above (absent ts limits)
