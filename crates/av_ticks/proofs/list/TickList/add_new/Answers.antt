@@ -17,3 +17,6 @@ invariant_of-self c =
     let sooner : c.sooner-self.result ≡ int_min old.soonest c.args.entry.due = rw (to_z-of_z w64 old.soonest one, to_z-of_z w64 c.args.entry.due other) at c.sooner-self.ensures in
     let least = sooner ∙ (ap (λ s. int_min s c.args.entry.due) old.least ∙ sym (least_push es c.args.entry _)) in
     rw c.put.ensures.entries (record { apart = are_apart-push es c.args.entry old.apart c.requires.new; least = to_z-of_z w64 c.sooner-self.result new ∙ least })
+
+pub returns-clause-entries : goal.returns-clause-entries
+returns-clause-entries c = c.put.ensures.entries

@@ -14,3 +14,6 @@ invariant_of-self c =
       apart = rw c.drop_due.ensures.entries (are_apart-filter (λ e. not (is_due c.args.now e)) (stored old.store) old.apart);
       least = to_z-of_z w64 c.soonest_of-self.result fits ∙ (c.soonest_of-self.ensures ∙ ap least_due c.as_slice.ensures);
     }
+
+pub returns-clause-entries : goal.returns-clause-entries
+returns-clause-entries c = c.drop_due.ensures.entries

@@ -1,0 +1,4 @@
+use Rattle.av_ticks.proofs.list.TickList.reserve_indexed.Goals as goal
+
+pub returns-clause-ok : goal.returns-clause-ok
+returns-clause-ok c = c.in_ok-reserve_indexed.ensures.ok
