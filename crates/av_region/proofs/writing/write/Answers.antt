@@ -17,3 +17,6 @@ returns-clause-holds g c =
     subst (λ bytes. HoldsAll bytes (map (option_map g.P.AsSlice.items) c.args.payloads.now) c.args.stamps.now) (sym written)
     (holds_all (map (option_map g.P.AsSlice.items) c.args.payloads.now) c.args.stamps.now (length-map c.args.payloads.now (option_map g.P.AsSlice.items) ∙ c.requires.payloads) c.requires.stamps none
     (All-from_get_or (λ stamp. stamp < 2 ^ 32) c.args.stamps.now 0 (λ i lt. below i)))
+
+pub returns-in-Some-clause-err : goal.returns-in-Some-clause-err
+returns-in-Some-clause-err g c = search rules
