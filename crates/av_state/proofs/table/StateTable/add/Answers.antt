@@ -21,3 +21,8 @@ returns-clause-ok c =
     let h = Numbers-insert _ (λ a b. same_views a b) old c.insert.new.self.keys c.in_ok-clone.field-0 (state_of s) c.in_ok-clone.ensures.cases c.in_ok-insert.ensures.keys c.requires.same c.requires.new in
     let Q : ℕ → Type 0 = λ k. Numbers (states c.args.self.now) (state_of s) (map state_of c.insert.new.self.keys) k in
     subst Q n h
+
+pub returns-clause-too_many : goal.returns-clause-too_many
+returns-clause-too_many c =
+    let room : length (states c.args.self.now) < 65535 = omega (arith, length-map c.args.self.now.numbers.keys state_of, c.len-number.ensures.len) in
+    (λ refused. absurd cc, λ full. absurd (omega (arith, room, full)))

@@ -1,4 +1,4 @@
-use Rattle.std.proofs.Common.{sym}
+use Rattle.std.proofs.Common.{refl, sym}
 use Rattle.av_state.specs.Table.{states}
 use Rattle.av_state.specs.States.{state_of}
 use Rattle.av_state.proofs.Numbering.{Numbers-first, Numbers-old}
@@ -9,3 +9,9 @@ returns-in-Fixed-clause-ok c = Numbers-first (states c.args.self.now) (state_of 
 
 pub returns-in-Some-clause-ok : goal.returns-in-Some-clause-ok
 returns-in-Some-clause-ok c = Numbers-old (states c.args.self.now) (state_of c.args.state.now) (state_of c.args.state.now) c.in-Some.number c.in-Same.ensures (sym c.in-Some.ensures)
+
+pub returns-in-NoLevel-clause-ok : goal.returns-in-NoLevel-clause-ok
+returns-in-NoLevel-clause-ok c = tt
+
+pub returns-in-NoLevel-clause-no_level : goal.returns-in-NoLevel-clause-no_level
+returns-in-NoLevel-clause-no_level c = (λ refused. c.in-NoLevel.ensures, λ none. refl)

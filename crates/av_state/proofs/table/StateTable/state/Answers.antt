@@ -6,6 +6,9 @@ use Rattle.av_state.specs.Table.{states}
 use Rattle.av_state.proofs.Numbering.{number_in-state}
 use Rattle.av_state.proofs.table.StateTable.state.Goals as goal
 
+pub returns-clause-there : goal.returns-clause-there
+returns-clause-there c = slice_get-map state_of c.args.self.now.numbers.keys c.args.number ∙ ap (option_map state_of) c.index.ensures
+
 pub returns-clause-only : goal.returns-clause-only
 returns-clause-only c =
     let keys = c.args.self.now.numbers.keys in
