@@ -18,7 +18,7 @@ use av_types::{ChunkPos, Pos, SectionPos};
 
 /// A number's remainder by 4.
 #[inline(always)]
-fn fourth(number: i32) -> usize
+pub(crate) fn fourth(number: i32) -> usize
     ensures { result < 4 }
 {
     number.rem_euclid(4) as usize

@@ -1,10 +1,10 @@
 //! What a parcel remembers of its look-ups.
-ghost use Rattle.std.specs.Prelude.{List};
+ghost use Rattle.std.specs.Prelude.{◌≡◌, ◌<◌, ℕ, List, All, false};
 ghost use Rattle.av_types.specs.declared.place.SectionPos.{SectionPos};
 ghost use Rattle.av_section.specs.Places.{has_place};
-ghost use Rattle.std.specs.Prelude.{◌≡◌, ◌<◌, ℕ, All, false};
 ghost use Rattle.av_world.specs.Parcels.{IsSectionInLimits, AreAbsent};
 
+use crate::finding::fourth;
 use av_section::places::PlaceSet;
 use av_types::SectionPos;
 
@@ -31,14 +31,6 @@ fn nowhere() -> [SectionPos; 32]
     ensures { (at : List SectionPos) → All IsSectionInLimits at → AreAbsent at result }
 {
     [NOWHERE; 32]
-}
-
-/// A number's remainder by 4.
-#[inline(always)]
-fn fourth(number: i32) -> usize
-    ensures { result < 4 }
-{
-    number.rem_euclid(4) as usize
 }
 
 /// Whether a number is odd, as 0 or 1.

@@ -21,7 +21,6 @@ pub struct Parcel {
     pub(crate) positions: Vec<SectionPos>,
     pub(crate) sections: Vec<Option<Section>>,
     pub(crate) aside: TickList,
-
     pub(crate) notes: Box<Notes>,
     pub ghost lawful: { IsParcel positions.items sections.items (entries aside) } by { Prim.hlevel props },
     pub ghost nowhere: { AreAbsent positions.items notes.value.absent } by { Prim.hlevel props },
