@@ -1,0 +1,35 @@
+//! A digest of results, in their order.
+use av_sink::RegionFile;
+
+/// A number that depends on all that was added.
+#[derive(Clone, Copy, Default)]
+pub(crate) struct Digest {
+    pub(crate) sum: u64,
+}
+
+impl Digest {
+    /// Adds a number.
+    pub(crate) fn add(&mut self, number: u64) {
+        let mixed = (self.sum ^ number).wrapping_mul(0x9E37_79B9_7F4A_7C15);
+        self.sum = mixed ^ mixed >> 31;
+    }
+
+    /// Adds bytes and how many they are.
+    pub(crate) fn add_bytes(&mut self, bytes: &[u8]) {
+        let (words, rest) = bytes.as_chunks::<8>();
+        for word in words {
+            self.add(u64::from_le_bytes(*word));
+        }
+        for byte in rest {
+            self.add(u64::from(*byte));
+        }
+        self.add(bytes.len() as u64);
+    }
+
+    /// Adds files.
+    pub(crate) fn add_files(&mut self, files: &[RegionFile]) {
+        for file in files {
+            self.add_bytes(file.bytes.as_slice());
+        }
+    }
+}
