@@ -1,3 +1,4 @@
 pub mod KindFacts
 pub mod Fronts
 pub mod MapFacts
+pub mod FirstRows

@@ -5,3 +5,4 @@ pub mod Tables
 pub mod KindLists
 pub mod Kinds
 pub mod Reads
+pub mod FirstRows

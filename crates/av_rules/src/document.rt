@@ -8,6 +8,7 @@ ghost use Rattle.av_rules.specs.Tables.{table_of};
 ghost use Rattle.toml.specs.Data.{get_member, as_table};
 ghost use Rattle.toml.specs.View.{view, array_view, table_view};
 
+use crate::first_rows::first_rows;
 use crate::row::{Row, TableRow};
 use crate::rules::Rules;
 use av_state::Property;
@@ -346,10 +347,12 @@ fn read_version(alloc: Global, version: Version, table: &Table) -> Result<Rules,
         return Err(Fault::BadTable);
     };
     let rows = blocks_in(alloc, version, table)?;
+    let first = first_rows(alloc, rows.as_slice())?;
     Ok(Rules {
         soaks: soaks_in(version),
         rows,
         height,
+        first,
     })
 }
 

@@ -2,6 +2,7 @@
 #![tactic(auto)]
 
 mod document;
+mod first_rows;
 pub mod kinds;
 pub mod row;
 pub mod rules;

@@ -1,8 +1,14 @@
 //! Block tables.
 ghost use Rattle.std.specs.Prelude.{◌≡◌, ◌≢◌, Some, None, IfOk, IfErr, IsUtf8};
 ghost use Rattle.av_types.specs.declared.fault.Fault.TheVariants.{OutOfMemory, BadTable};
+ghost use Rattle.av_state.specs.States.{state_of};
+ghost use Rattle.av_rules.specs.FirstRows.{noted_for, AreFirstRows};
+ghost use Rattle.av_rules.specs.Rows.{first_row};
+ghost use Rattle.av_rules.specs.Views.{table_rows_of};
+ghost use Rattle.std.proofs.Props.{props};
 
 use crate::document::read_table;
+use crate::first_rows::{FirstRows, first_of};
 use crate::row::{Row, TableRow, has_property};
 use av_state::State;
 use av_types::{Fault, Height};
@@ -14,15 +20,28 @@ pub struct Rules {
     pub(crate) soaks: bool,
     pub(crate) rows: Vec<TableRow>,
     pub(crate) height: Height,
+    pub(crate) first: FirstRows,
+    ghost firsts: { AreFirstRows (table_rows_of rows.items) (noted_for first.entries) } by { Prim.hlevel props },
 }
 
 const WATERLOGGED: &[u8] = b"waterlogged";
 
 const TRUE: &[u8] = b"true";
 
+/// The first of rows that is for a state.
+fn first_row(rows: &[TableRow], state: &State) -> Row
+    ensures { result ≡ first_row (table_rows_of rows.now) (state_of state.now) }
+{
+    for table_row in rows {
+        if table_row.is_for(state) {
+            return table_row.row;
+        }
+    }
+    Row::SHUT
+}
+
 impl Rules {
-    ghost use Rattle.av_state.specs.States.{state_of};
-    ghost use Rattle.av_rules.specs.Rows.{row_of, first_row};
+    ghost use Rattle.av_rules.specs.Rows.{row_of};
     ghost use Rattle.av_rules.specs.Tables.{table_of};
     ghost use Rattle.av_rules.specs.Document.{table_spelled};
 
@@ -67,12 +86,11 @@ impl Rules {
     fn first_row(&self, state: &State) -> Row
         ensures { result ≡ first_row (table_of self.now).rows (state_of state.now) }
     {
-        for table_row in &self.rows {
-            if table_row.is_for(state) {
-                return table_row.row;
-            }
-        }
-        Row::SHUT
+        // The search begins at the first row of the state's name.
+        let Some(first) = first_of(&self.first, state.name.as_slice()) else {
+            return Row::SHUT;
+        };
+        first_row(&self.rows[first..], state)
     }
 
     /// The height of the world: the table's, or the game's where the table is of version 1 or 2.
