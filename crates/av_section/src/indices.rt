@@ -1,5 +1,5 @@
 //! The indices of a section's places into its palette.
-ghost use Rattle.std.specs.Prelude.{◌≡◌, ◌<◌, ◌≤◌, ◌^◌, ◌+◌, ◌⊎◌, ℕ, nat_eq, Some, true, false, map, option_map, length, slice_index, slice_index_or, All, Contains, IfOk, IfErr, OnOk};
+ghost use Rattle.std.specs.Prelude.{◌≡◌, ◌<◌, ◌≤◌, ◌^◌, ◌+◌, ◌⊎◌, ℕ, nat_eq, ◌-◌, IsTrue, Some, true, false, map, option_map, length, slice_index, slice_index_or, All, Contains, IfOk, IfErr, OnOk};
 ghost use Rattle.indexmap.specs.IndexSet.{insert_key};
 ghost use Rattle.std.specs.Option.{option_copied};
 ghost use Rattle.av_nbt.specs.View.{view};
@@ -121,13 +121,26 @@ pub(crate) fn distinct(alloc: Global, numbers: &[u16]) -> Result<Vec<u16>, Alloc
     Vec::from_slice(alloc, once.as_slice())
 }
 
-/// The index of a number that is in the palette.
+/// The index of a number that is in the palette. One that was just put at its end is found there at once.
 pub(crate) fn index_of(palette: &[u16], number: u16) -> usize
     requires { Contains palette.now number }
     ensures bound { result < length palette.now }
     ensures value { slice_index palette.now result ≡ number }
 {
+    if ends_with(palette, number) {
+        return palette.len() - 1;
+    }
     palette.iter().position(|known| *known == number).unwrap()
+}
+
+/// Whether a number is the last one.
+fn ends_with(palette: &[u16], number: u16) -> bool
+    ensures { IsTrue result → (0 < length palette.now) × (slice_index palette.now (length palette.now - 1) ≡ number) }
+{
+    match palette.last() {
+        Some(last) => *last == number,
+        None => false,
+    }
 }
 
 /// Marks a number, if it is one of those that are marked.

@@ -259,8 +259,19 @@ impl Section {
             return Ok(());
         }
         self.prepare_each(numbers)?;
-        self.ready = first_missing(self.palette.as_slice());
+        self.ready = self.ready_with(numbers);
         Ok(())
+    }
+
+    /// Below which number each can be set, once there is room for some: the palette is gone through only where one of
+    /// these is low enough to change that.
+    fn ready_with(&self, numbers: &[u16]) -> u16
+        ensures { HasAllBelow self.now.palette.items result }
+    {
+        if numbers.iter().all(|number| *number >= 16) {
+            return self.ready;
+        }
+        first_missing(self.palette.as_slice())
     }
 
     /// Makes room for numbers, one after the other.
