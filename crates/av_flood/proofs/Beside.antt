@@ -1,5 +1,5 @@
 -- The blocks beside one of the board.
-use Rattle.std.proofs.Common.{IsTrue, ◌≡◌, ℕ, ℤ, pos, ◌+◌, ◌-◌, ◌*◌, ◌<◌, ◌≤◌, ◌+ℤ◌, ◌-ℤ◌, ◌<ℤ◌, ◌≤ℤ◌, true, ◌&&◌, Option, Some, None, MatchOption, sym, subst, arith}
+use Rattle.std.proofs.Common.{IsTrue, ◌≡◌, ℕ, ℤ, pos, ◌+◌, ◌-◌, ◌*◌, ◌<◌, ◌+ℤ◌, ◌-ℤ◌, ◌<ℤ◌, ◌≤ℤ◌, true, ◌&&◌, Option, Some, None, MatchOption, sym, subst, arith}
 use Rattle.std.proofs.lemmas.Int.{ints}
 use Rattle.std.specs.Prelude.{int_le, int_lt}
 use Rattle.av_types.specs.declared.place.Pos.{Pos}

@@ -170,6 +170,10 @@ IsOffered-dim t c n k lit todo q is most = record { has = λ l v positive e m. a
 pub IsOffered-far : (t : Terrain) (c : ChunkPos) (n k : ℕ) (lit : Pos → ℕ) (todo : Levels) (q : Pos) → k ≡ cost t q → (Matters c (n - k) q → ⊥) → IsOffered t c n lit todo q
 IsOffered-far t c n k lit todo q is far = record { has = λ l v positive e m. absurd (far (subst (λ w. Matters c w q) (let f : v ≡ n - k = omega arith in f) m)) }
 
+-- not even the light that a step leaves matters there
+pub IsOffered-far_off : (t : Terrain) (c : ChunkPos) (n : ℕ) (lit : Pos → ℕ) (todo : Levels) (q : Pos) → (Matters c (n - 1) q → ⊥) → IsOffered t c n lit todo q
+IsOffered-far_off t c n lit todo q far = record { has = λ l v positive e m. absurd (far (record { over_x = m.over_x; over_z = m.over_z; less = let h = m.less in omega arith; along_x = m.along_x; along_z = m.along_z })) }
+
 pub IsOffered-bright : (t : Terrain) (c : ChunkPos) (n : ℕ) (lit : Pos → ℕ) (todo : Levels) (q : Pos) → n ≤ lit q → IsOffered t c n lit todo q
 IsOffered-bright t c n lit todo q most = record { has = λ l v positive e m. inl (omega arith) }
 

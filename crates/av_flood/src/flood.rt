@@ -45,6 +45,10 @@ fn offer<B: Blocks>(
     if level.saturating_sub(1) <= seen {
         return Ok(());
     }
+    // Each block takes at least 1: where no more than that left does not matter, the block is not looked up.
+    if !matters(flood.chunk, spot.pos, level.saturating_sub(1)) {
+        return Ok(());
+    }
     let Some(cost) = blocks.cost(spot.pos) else {
         return Ok(());
     };
