@@ -15,6 +15,9 @@ use std::alloc::Global;
 /// How deep Lists and Compounds may nest, the root's own Compound among them.
 const DEPTH: u32 = 512;
 
+/// For how many tags of a List memory is asked before the first is read.
+const ROOM: usize = 64;
+
 /// A tag of a type that holds no tags.
 #[tactic(auto, unfolding(crate::specs::Reading::leaf_at))]
 fn leaf(alloc: Global, tag_type: TagType, bytes: &[u8]) -> Result<(Tag, &[u8]), Fault>
@@ -76,7 +79,8 @@ fn items(
 ) -> Result<(Vec<Tag>, &[u8]), Fault>
     ensures { Gives (λ p. (views p.0.items, p.1.now)) result (repeat_at (payload_at depth tag_type) count bytes.now) }
 {
-    let mut items = Vec::new(alloc);
+    // most Lists are short: their memory is asked for once, and no count in a file asks for much
+    let mut items = Vec::with_capacity(alloc, count.min(ROOM))?;
     let mut rest = bytes;
     for _ in 0..count {
         let (tag, after) = payload(alloc, depth, tag_type, rest)?;

@@ -10,6 +10,7 @@ ghost use Rattle.av_nbt.specs.Laws.{WrittenSpells, WrittenReadsBack};
 ghost use Rattle.av_nbt.specs.Appending.{Writes};
 ghost use Rattle.av_nbt.specs.Writing.{signed_bytes, text_bytes, written, written_items, written_members, written_named, written_document, IsWellFormed, Fits, FitItems, FitMembers};
 
+use crate::size::root_size;
 use crate::tag::{Named, Root, Tag, TagType};
 use av_types::Fault;
 use std::alloc::{AllocError, Global};
@@ -181,7 +182,8 @@ pub fn encode(alloc: Global, root: &Root) -> Result<Vec<u8>, Fault>
     ensures written { IfOk result (λ bytes. bytes.items ≡ written_document (document root.now)) }
     ensures fault { IfErr result (λ e. e ≡ OutOfMemory) }
 {
-    let mut out = Vec::new(alloc);
+    // memory is asked for once, where a vector that doubles would copy its bytes
+    let mut out = Vec::with_capacity(alloc, root_size(root))?;
     write_root(&mut out, root)?;
     Ok(out)
 }

@@ -9,7 +9,7 @@ pub items-returns-in_err-tag : goal.items-returns-in_err-tag
 items-returns-in_err-tag t c =
     let read = payload_at c.args.depth c.args.tag_type in
     let whole = repeat_at read c.args.count c.args.bytes.now in
-    gives_err (λ p. (views p.0.items, p.1.now)) c.from_residual.result c.in_err-tag.field-0.0 whole c.from_residual.ensures.1
+    gives_err (λ p. (views p.0.items, p.1.now)) c.from_residual-in_err-tag.result c.in_err-tag.field-0.0 whole c.from_residual-in_err-tag.ensures.1
     (fails_whole c.in_err-tag.field-0.0 (read c.loop.rest.now) whole (repeat_stops read (views c.loop.items.items) c.args.count c.loop.counter c.loop.rest.now whole c.loop-test.true c.loop.invariant) c.in_err-tag.ensures)
 
 pub items-loop-preserved : goal.items-loop-preserved

@@ -8,4 +8,4 @@ pub write_root-requires-clause-tags : goal.write_root-requires-clause-tags
 write_root-requires-clause-tags c = tags_fit (document c.args.root.now) c.requires
 
 pub returns-clause-written : goal.returns-clause-written
-returns-clause-written c = c.in_ok-write_root.ensures ∙ ap (λ o. o ++ written_document (document c.args.root.now)) c.new-out.ensures.items
+returns-clause-written c = c.in_ok-write_root.ensures ∙ ap (λ o. o ++ written_document (document c.args.root.now)) c.in_ok-out.ensures.items
