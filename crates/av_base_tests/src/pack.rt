@@ -2,7 +2,10 @@
 ghost use Rattle.std.specs.Prelude.{◌≡◌, ◌<◌, ◌^◌, IfOk, length, All};
 
 use crate::expecting::expect_equal;
-use av_pack::{bits_for, get_at, longs_for, nibble, pack, set_at, set_nibble, unpack};
+use av_pack::{
+    bits_for, cleaned, entries_below, get_at, longs_for, nibble, pack, set_at, set_nibble, unpack,
+    used_in_order,
+};
 use av_types::{Fault, Place};
 use std::alloc::{AllocError, Global};
 use std::test::Fail;
@@ -132,6 +135,55 @@ fn bits_that_hold_no_entry_stay(rt: HostRuntime) -> Result<(), Fail> {
         longs.last().copied(),
         Some((-1 << 20) + 12 + 13 * 32 + 14 * 1024),
     );
+    Ok(())
+}
+
+#[test]
+fn unused_bits_are_cleared(rt: HostRuntime) -> Result<(), Fail> {
+    let longs = pack(rt.alloc(), &remainders(rt.alloc())?, 5)?;
+    let mut others = Vec::from_slice(rt.alloc(), &longs)?;
+    assert_eq!(rt; others.len(), 342);
+    others[0] |= 0xF << 60;
+    others[341] |= -1 << 20;
+    let same = cleaned(rt.alloc(), &others, 5)?;
+    expect_equal(&rt, same.as_slice(), longs.as_slice());
+    Ok(())
+}
+
+#[test]
+fn sixteen_is_the_greatest_remainder(rt: HostRuntime) -> Result<(), Fail> {
+    let mut longs = pack(rt.alloc(), &remainders(rt.alloc())?, 5)?;
+    assert_eq!(rt; longs.len(), 342);
+    // 31 in place 4096, which is none
+    longs[341] |= 31 << 20;
+    expect_equal(&rt, entries_below(&longs, 5, 17), true);
+    expect_equal(&rt, entries_below(&longs, 5, 16), false);
+    Ok(())
+}
+
+/// Longs of 16 entries of 4 bits each, from 0 up in the first one where `rising`, and else 1 before 0.
+fn digits(alloc: Global, rising: bool) -> Result<Vec<i64>, AllocError>
+    ensures { IfOk result (λ longs. length longs.items ≡ 256) }
+{
+    let first = if rising {
+        0xFEDC_BA98_7654_3210u64
+    } else {
+        0xFEDC_BA98_7654_3201
+    };
+    vec![in alloc; first.cast_signed(); 256]
+}
+
+#[test]
+fn digits_come_in_order(rt: HostRuntime) -> Result<(), Fail> {
+    let longs = digits(rt.alloc(), true)?;
+    expect_equal(&rt, used_in_order(&longs, 4, 16), true);
+    Ok(())
+}
+
+#[test]
+fn one_before_zero_is_out_of_order(rt: HostRuntime) -> Result<(), Fail> {
+    let longs = digits(rt.alloc(), false)?;
+    expect_equal(&rt, used_in_order(&longs, 4, 16), false);
     Ok(())
 }
 

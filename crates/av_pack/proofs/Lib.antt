@@ -6,3 +6,4 @@ pub mod LowFirst
 pub mod Unpacked
 pub mod Packed
 pub mod Laws
+pub mod Walks

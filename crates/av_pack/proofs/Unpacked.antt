@@ -17,7 +17,7 @@ entries_of-more b n i v values old ev e =
     ∙ ap (λ x. old ++ (entries_of b n i ++ x ∷ [])) ev
     ∙ ap (λ xs. old ++ xs) (sym (map-range_with_len_more (entry_of b n) 0 i i (omega arith)))
 
-map_range-append : (f : ℕ → ℕ) (n k : ℕ) → map f (range_with_len 0 n) ++ map f (range_with_len n k) ≡ map f (range_with_len 0 (n + k))
+pub map_range-append : (f : ℕ → ℕ) (n k : ℕ) → map f (range_with_len 0 n) ++ map f (range_with_len n k) ≡ map f (range_with_len 0 (n + k))
 map_range-append f n zero =
     let e : n ≡ n + 0 = omega arith in
     append-nil (map f (range_with_len 0 n)) ∙ ap (λ m. map f (range_with_len 0 m)) e

@@ -1,3 +1,4 @@
 pub mod Packing
 pub mod Nibbles
 pub mod Fields
+pub mod Order

@@ -11,7 +11,7 @@ use av_types::{Fault, Place};
 use std::alloc::{AllocError, Global};
 
 /// How many entries a section has.
-const ENTRIES: usize = 4096;
+pub(crate) const ENTRIES: usize = 4096;
 
 /// The bits of an entry for a palette of `len` entries, at most 65,536: the least that will do,
 /// and at least 4.
@@ -124,7 +124,7 @@ fn slot_of(bits: u32, place: Place) -> Slot
 /// So many bits of a long, from bit `shift` on.
 #[inline(always)]
 #[tactic(auto, using(crate::proofs::Fields::field_is))]
-fn field(long: u64, shift: u32, bits: u32) -> u16
+pub(crate) fn field(long: u64, shift: u32, bits: u32) -> u16
     requires low { 4 ≤ bits }
     requires high { bits ≤ 16 }
     requires within { shift + bits ≤ 64 }
@@ -175,7 +175,7 @@ pub fn set_at(longs: &mut [i64], bits: u32, place: Place, value: u16)
 /// How many entries a long holds, of 4 to 16 bits each.
 #[inline(always)]
 #[tactic(auto, using(crate::proofs::Slots::few_in_long))]
-fn entries_in_long(bits: u32) -> usize
+pub(crate) fn entries_in_long(bits: u32) -> usize
     requires low { 4 ≤ bits }
     requires high { bits ≤ 16 }
     ensures value { result ≡ 64 / bits }

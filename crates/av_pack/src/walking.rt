@@ -1,0 +1,220 @@
+//! Packed entries that are looked through in their longs, without a list of them.
+ghost use Rattle.std.specs.Prelude.{◌≡◌, ◌<◌, ◌≤◌, ◌+◌, ◌*◌, ◌/◌, ◌%◌, ◌-◌, ◌^◌, ℕ, IfOk, length, min, nat_lt};
+ghost use Rattle.std.specs.List.{list_all};
+ghost use Rattle.std.specs.Int.{cast_signed, cast_unsigned, w64};
+ghost use Rattle.av_pack.specs.Packing.{longs_for, packed_at, packed, unpacked};
+ghost use Rattle.av_pack.specs.Fields.{entries_of};
+ghost use Rattle.av_pack.specs.Order.{seen_with, seen_after, are_in_order};
+
+use crate::packing::{ENTRIES, entries_in_long, field};
+use std::alloc::{AllocError, Global};
+
+/// What stands for "one was left out": more than any number of entries.
+const LEFT_OUT: usize = 65537;
+
+/// How many of the 4,096 entries a long holds, which is the one of an index.
+#[inline(always)]
+#[tactic(auto, using(crate::proofs::Walks::begins_below))]
+fn entries_held(bits: u32, index: usize) -> usize
+    requires low { 4 ≤ bits }
+    requires high { bits ≤ 16 }
+    requires within { index < longs_for bits }
+    ensures value { result ≡ min (64 / bits) (4096 - 64 / bits * index) }
+    ensures some { 0 < result }
+    ensures few { result ≤ 64 / bits }
+{
+    let full = entries_in_long(bits);
+    full.min(ENTRIES - full * index)
+}
+
+/// Whether the first entries of a long are below a number.
+#[inline(always)]
+fn first_below(long: u64, bits: u32, few: usize, count: usize) -> bool
+    requires low { 4 ≤ bits }
+    requires high { bits ≤ 16 }
+    requires few { few ≤ 64 / bits }
+    ensures { result ≡ list_all (λ entry. nat_lt entry count) (entries_of bits long few) }
+{
+    for i in 0..few {
+        if usize::from(field(long, bits * i as u32, bits)) >= count {
+            return false;
+        }
+    }
+    true
+}
+
+/// Whether the first entries of a long are below a number. A full long has a loop of a known length.
+#[inline(always)]
+fn long_below(long: u64, bits: u32, few: usize, count: usize) -> bool
+    requires low { 4 ≤ bits }
+    requires high { bits ≤ 16 }
+    requires few { few ≤ 64 / bits }
+    ensures { result ≡ list_all (λ entry. nat_lt entry count) (entries_of bits long few) }
+{
+    if few == entries_in_long(bits) {
+        first_below(long, bits, entries_in_long(bits), count)
+    } else {
+        first_below(long, bits, few, count)
+    }
+}
+
+/// Whether each entry is below a number, as `entries_below` says.
+#[inline(always)]
+fn below_by(longs: &[i64], bits: u32, count: usize) -> bool
+    requires low { 4 ≤ bits }
+    requires high { bits ≤ 16 }
+    requires count { length longs.now ≡ longs_for bits }
+    ensures { result ≡ list_all (λ entry. nat_lt entry count) (unpacked bits longs.now) }
+{
+    for (i, long) in longs.iter().enumerate() {
+        if !long_below(long.cast_unsigned(), bits, entries_held(bits, i), count) {
+            return false;
+        }
+    }
+    true
+}
+
+/// Whether each of the 4,096 entries is below a number. The longs are as many as `longs_for` says. Entries of 4 and of 5
+/// bits, which most sections have, have loops of their own, and where every entry is small enough none is looked at.
+pub fn entries_below(longs: &[i64], bits: u32, count: usize) -> bool
+    requires low { 4 ≤ bits }
+    requires high { bits ≤ 16 }
+    requires count { length longs.now ≡ longs_for bits }
+    ensures { result ≡ list_all (λ entry. nat_lt entry count) (unpacked bits longs.now) }
+{
+    if count >= 1 << bits {
+        return true;
+    }
+    if bits == 4 {
+        below_by(longs, 4, count)
+    } else if bits == 5 {
+        below_by(longs, 5, count)
+    } else {
+        below_by(longs, bits, count)
+    }
+}
+
+/// Below which number all entries came, once one more came.
+#[inline(always)]
+fn seen_with(next: usize, entry: u16) -> usize
+    requires { next ≤ 65537 }
+    ensures value { result ≡ seen_with next entry }
+    ensures bound { result ≤ 65537 }
+{
+    let entry = usize::from(entry);
+    if entry == next {
+        return next + 1;
+    }
+    if entry < next {
+        return next;
+    }
+    LEFT_OUT
+}
+
+/// The same once the first entries of a long came.
+#[inline(always)]
+fn seen_in_long(long: u64, bits: u32, few: usize, start: usize) -> usize
+    requires low { 4 ≤ bits }
+    requires high { bits ≤ 16 }
+    requires few { few ≤ 64 / bits }
+    requires start { start ≤ 65537 }
+    ensures value { result ≡ seen_after start (entries_of bits long few) }
+    ensures bound { result ≤ 65537 }
+{
+    let mut next = start;
+    for i in 0..few {
+        next = seen_with(next, field(long, bits * i as u32, bits));
+    }
+    next
+}
+
+/// Whether the entries come in order, as `used_in_order` says.
+#[inline(always)]
+fn in_order_by(longs: &[i64], bits: u32, count: usize) -> bool
+    requires low { 4 ≤ bits }
+    requires high { bits ≤ 16 }
+    requires count { length longs.now ≡ longs_for bits }
+    requires few { count ≤ 65536 }
+    requires below { (i : ℕ) → i < 4096 → packed_at bits longs.now i < count }
+    ensures { result ≡ are_in_order count (unpacked bits longs.now) }
+{
+    let mut next = 0;
+    for (i, long) in longs.iter().enumerate() {
+        // All came, or one was left out: what is left changes nothing.
+        if next >= count {
+            return next == count;
+        }
+        next = seen_in_long(long.cast_unsigned(), bits, entries_held(bits, i), next);
+    }
+    next == count
+}
+
+/// Whether each number below `count` is one of the 4,096 entries, and comes first after all smaller ones. The longs are as
+/// many as `longs_for` says, and each entry is below `count`. Entries of 4 and of 5 bits, which most sections have, have
+/// loops of their own.
+pub fn used_in_order(longs: &[i64], bits: u32, count: usize) -> bool
+    requires low { 4 ≤ bits }
+    requires high { bits ≤ 16 }
+    requires count { length longs.now ≡ longs_for bits }
+    requires few { count ≤ 65536 }
+    requires below { (i : ℕ) → i < 4096 → packed_at bits longs.now i < count }
+    ensures { result ≡ are_in_order count (unpacked bits longs.now) }
+{
+    if bits == 4 {
+        in_order_by(longs, 4, count)
+    } else if bits == 5 {
+        in_order_by(longs, 5, count)
+    } else {
+        in_order_by(longs, bits, count)
+    }
+}
+
+/// How many bits of the long of an index hold entries.
+#[inline(always)]
+#[tactic(auto, using(crate::proofs::Walks::width_few))]
+fn bits_held(bits: u32, index: usize) -> u32
+    requires low { 4 ≤ bits }
+    requires high { bits ≤ 16 }
+    requires within { index < longs_for bits }
+    ensures value { result ≡ bits * min (64 / bits) (4096 - 64 / bits * index) }
+    ensures few { result ≤ 64 }
+{
+    bits * entries_held(bits, index) as u32
+}
+
+/// The low bits of a long, so many of them.
+#[inline(always)]
+#[tactic(auto, using(crate::proofs::Walks::masked))]
+fn low_bits(long: u64, width: u32) -> u64
+    requires { width ≤ 64 }
+    ensures { result ≡ long % 2 ^ width }
+{
+    if width == 64 {
+        return long;
+    }
+    long & ((1 << width) - 1)
+}
+
+/// A long with 0 in all but its low bits.
+#[inline(always)]
+fn low_long(long: i64, width: u32) -> i64
+    requires { width ≤ 64 }
+    ensures { result ≡ cast_signed w64 (cast_unsigned w64 long % 2 ^ width) }
+{
+    low_bits(long.cast_unsigned(), width).cast_signed()
+}
+
+/// The longs of the same 4,096 entries, with 0 in all bits that hold none: what `pack` gives of what `unpack` gives. The
+/// longs are as many as `longs_for` says.
+pub fn cleaned(alloc: Global, longs: &[i64], bits: u32) -> Result<Vec<i64>, AllocError>
+    requires low { 4 ≤ bits }
+    requires high { bits ≤ 16 }
+    requires count { length longs.now ≡ longs_for bits }
+    ensures { IfOk result (λ cleaned. cleaned.items ≡ packed bits (unpacked bits longs.now)) }
+{
+    let mut cleaned = Vec::with_capacity(alloc, longs.len())?;
+    for (i, long) in longs.iter().enumerate() {
+        cleaned.push(low_long(*long, bits_held(bits, i)))?;
+    }
+    Ok(cleaned)
+}
