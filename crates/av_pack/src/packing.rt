@@ -231,8 +231,8 @@ fn unpack_by(alloc: Global, longs: &[i64], bits: u32) -> Result<Vec<u16>, Fault>
 }
 
 /// The 4,096 entries of the longs, or `BadPacked` where the longs are not as many as `longs_for`
-/// says. The bits that hold no entry are not looked at. Most sections have entries of 4 bits, so these
-/// have a loop of their own.
+/// says. The bits that hold no entry are not looked at. Most sections have entries of 4 to 8 bits, so
+/// each of these has a loop of its own.
 pub fn unpack(alloc: Global, longs: &[i64], bits: u32) -> Result<Vec<u16>, Fault>
     requires low { 4 ≤ bits }
     requires high { bits ≤ 16 }
@@ -240,10 +240,13 @@ pub fn unpack(alloc: Global, longs: &[i64], bits: u32) -> Result<Vec<u16>, Fault
     ensures bad_packed { (result ≡ Err BadPacked) ↔ (length longs.now ≢ longs_for bits) }
     ensures others { IfErr result (λ e. (e ≡ BadPacked) ⊎ (e ≡ OutOfMemory)) }
 {
-    if bits == 4 {
-        unpack_by(alloc, longs, 4)
-    } else {
-        unpack_by(alloc, longs, bits)
+    match bits {
+        4 => unpack_by(alloc, longs, 4),
+        5 => unpack_by(alloc, longs, 5),
+        6 => unpack_by(alloc, longs, 6),
+        7 => unpack_by(alloc, longs, 7),
+        8 => unpack_by(alloc, longs, 8),
+        _ => unpack_by(alloc, longs, bits),
     }
 }
 
@@ -315,8 +318,8 @@ fn pack_by(alloc: Global, values: &[u16], bits: u32) -> Result<Vec<i64>, AllocEr
     Ok(longs)
 }
 
-/// The longs that hold 4,096 values, each below 2^`bits`. The bits that hold no value are 0. Entries of 4 and of 5 bits,
-/// which most sections have, have loops of their own.
+/// The longs that hold 4,096 values, each below 2^`bits`. The bits that hold no value are 0. Most sections have
+/// entries of 4 to 8 bits, so each of these has a loop of its own.
 pub fn pack(alloc: Global, values: &[u16], bits: u32) -> Result<Vec<i64>, Fault>
     requires low { 4 ≤ bits }
     requires high { bits ≤ 16 }
@@ -326,11 +329,12 @@ pub fn pack(alloc: Global, values: &[u16], bits: u32) -> Result<Vec<i64>, Fault>
     ensures meaning { IfOk result (λ longs. IsPacked bits values.now longs.items) }
     ensures err { IfErr result (λ e. e ≡ OutOfMemory) }
 {
-    Ok(if bits == 4 {
-        pack_by(alloc, values, 4)?
-    } else if bits == 5 {
-        pack_by(alloc, values, 5)?
-    } else {
-        pack_by(alloc, values, bits)?
+    Ok(match bits {
+        4 => pack_by(alloc, values, 4)?,
+        5 => pack_by(alloc, values, 5)?,
+        6 => pack_by(alloc, values, 6)?,
+        7 => pack_by(alloc, values, 7)?,
+        8 => pack_by(alloc, values, 8)?,
+        _ => pack_by(alloc, values, bits)?,
     })
 }

@@ -74,7 +74,7 @@ fn below_by(longs: &[i64], bits: u32, count: usize) -> bool
     true
 }
 
-/// Whether each of the 4,096 entries is below a number. The longs are as many as `longs_for` says. Entries of 4 and of 5
+/// Whether each of the 4,096 entries is below a number. The longs are as many as `longs_for` says. Entries of 4 to 8
 /// bits, which most sections have, have loops of their own, and where every entry is small enough none is looked at.
 pub fn entries_below(longs: &[i64], bits: u32, count: usize) -> bool
     requires low { 4 ≤ bits }
@@ -85,12 +85,13 @@ pub fn entries_below(longs: &[i64], bits: u32, count: usize) -> bool
     if count >= 1 << bits {
         return true;
     }
-    if bits == 4 {
-        below_by(longs, 4, count)
-    } else if bits == 5 {
-        below_by(longs, 5, count)
-    } else {
-        below_by(longs, bits, count)
+    match bits {
+        4 => below_by(longs, 4, count),
+        5 => below_by(longs, 5, count),
+        6 => below_by(longs, 6, count),
+        7 => below_by(longs, 7, count),
+        8 => below_by(longs, 8, count),
+        _ => below_by(longs, bits, count),
     }
 }
 
@@ -150,7 +151,7 @@ fn in_order_by(longs: &[i64], bits: u32, count: usize) -> bool
 }
 
 /// Whether each number below `count` is one of the 4,096 entries, and comes first after all smaller ones. The longs are as
-/// many as `longs_for` says, and each entry is below `count`. Entries of 4 and of 5 bits, which most sections have, have
+/// many as `longs_for` says, and each entry is below `count`. Entries of 4 to 8 bits, which most sections have, have
 /// loops of their own.
 pub fn used_in_order(longs: &[i64], bits: u32, count: usize) -> bool
     requires low { 4 ≤ bits }
@@ -160,12 +161,13 @@ pub fn used_in_order(longs: &[i64], bits: u32, count: usize) -> bool
     requires below { (i : ℕ) → i < 4096 → packed_at bits longs.now i < count }
     ensures { result ≡ are_in_order count (unpacked bits longs.now) }
 {
-    if bits == 4 {
-        in_order_by(longs, 4, count)
-    } else if bits == 5 {
-        in_order_by(longs, 5, count)
-    } else {
-        in_order_by(longs, bits, count)
+    match bits {
+        4 => in_order_by(longs, 4, count),
+        5 => in_order_by(longs, 5, count),
+        6 => in_order_by(longs, 6, count),
+        7 => in_order_by(longs, 7, count),
+        8 => in_order_by(longs, 8, count),
+        _ => in_order_by(longs, bits, count),
     }
 }
 
