@@ -14,3 +14,4 @@ pub mod WrittenStates
 pub mod InOrder
 pub mod StoredEntries
 pub mod WrittenOne
+pub mod FirstUse

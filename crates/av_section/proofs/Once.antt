@@ -13,7 +13,7 @@ or_true : (b : Bool) → b || true ≡ true
 or_true true = refl
 or_true false = refl
 
-any_at : (ks : List ℕ) (n k : ℕ) → k < length ks → get_or ks k n ≡ n → list_any (nat_eq n) ks ≡ true
+pub any_at : (ks : List ℕ) (n k : ℕ) → k < length ks → get_or ks k n ≡ n → list_any (nat_eq n) ks ≡ true
 any_at [] n k low e = absurd (omega arith)
 any_at (x ∷ ks) n zero low e = rw (eq-eqb n x (sym e)) refl
 any_at (x ∷ ks) n (suc k) low e = rw (any_at ks n k (omega arith) e) (or_true (nat_eq n x))

@@ -1,7 +1,8 @@
 //! A section in memory: numbers of block states by place.
 ghost use Rattle.std.specs.Prelude.{◌≡◌, ◌≢◌, ◌<◌, ◌≤◌, ◌^◌, ◌+◌, ◌↔◌, ◌++◌, [], ◌∷◌, ℕ, IsTrue, IfOk, IfErr, is_ok, if◌then◌else◌, length, slice_index, Contains};
 ghost use Rattle.av_types.specs.declared.fault.Fault.TheVariants.{OutOfMemory};
-ghost use Rattle.av_pack.specs.Packing.{bits_for, longs_for};
+ghost use Rattle.av_pack.specs.Packing.{bits_for, longs_for, unpacked};
+ghost use Rattle.av_pack.specs.Order.{are_in_order};
 ghost use Rattle.av_section.specs.Packed.{HasAllBelow, IsPackedSection};
 ghost use Rattle.std.proofs.Props.{props};
 
@@ -15,7 +16,7 @@ use crate::palette::palette_states;
 use crate::places::PlaceSet;
 use crate::writing::{indices_tag, palette_tag};
 use av_nbt::Tag;
-use av_pack::{bits_for, get_at, longs_for, pack, set_at};
+use av_pack::{bits_for, cleaned, get_at, longs_for, pack, set_at, used_in_order};
 use av_state::{State, StateTable};
 use av_types::{Fault, Place};
 use std::alloc::{AllocError, Global};
@@ -378,6 +379,49 @@ impl Section {
 
     /// What is written of a palette of several entries.
     fn write_any(&self, alloc: Global, table: &StateTable) -> Result<(Tag, Option<Tag>), AllocError>
+        requires below { HasNumbersBelow self.now (length (states table.now)) }
+        requires several { length self.now.palette.items ≢ 1 }
+        ensures palette { IfOk result (λ tags. view tags.0 ≡ palette_tag (section_states (states table.now) self.now)) }
+        ensures longs { IfOk result (λ tags. option_map view tags.1 ≡ data_tag (section_states (states table.now) self.now)) }
+    {
+        // Most palettes stand as they are written: then nothing is unpacked.
+        if self.is_in_order() {
+            return self.write_in_order(alloc, table);
+        }
+        self.write_reordered(alloc, table)
+    }
+
+    /// Whether each entry of the palette is at some place, and first after all entries before it.
+    fn is_in_order(&self) -> bool
+        requires { length self.now.palette.items ≢ 1 }
+        ensures { result ≡ are_in_order (length self.now.palette.items) (unpacked self.now.bits self.now.longs.items) }
+    {
+        used_in_order(self.longs.as_slice(), self.bits, self.palette.len())
+    }
+
+    /// What is written of a palette of several entries that stand in the order of their first places.
+    fn write_in_order(
+        &self,
+        alloc: Global,
+        table: &StateTable,
+    ) -> Result<(Tag, Option<Tag>), AllocError>
+        requires below { HasNumbersBelow self.now (length (states table.now)) }
+        requires several { length self.now.palette.items ≢ 1 }
+        requires ordered { are_in_order (length self.now.palette.items) (unpacked self.now.bits self.now.longs.items) ≡ true }
+        ensures palette { IfOk result (λ tags. view tags.0 ≡ palette_tag (section_states (states table.now) self.now)) }
+        ensures longs { IfOk result (λ tags. option_map view tags.1 ≡ data_tag (section_states (states table.now) self.now)) }
+    {
+        let palette = palette_tag(alloc, table, self.palette.as_slice())?;
+        let longs = cleaned(alloc, self.longs.as_slice(), self.bits)?;
+        Ok((palette, Some(Tag::long_array(longs))))
+    }
+
+    /// What is written of a palette of several entries that stand in any order.
+    fn write_reordered(
+        &self,
+        alloc: Global,
+        table: &StateTable,
+    ) -> Result<(Tag, Option<Tag>), AllocError>
         requires below { HasNumbersBelow self.now (length (states table.now)) }
         requires several { length self.now.palette.items ≢ 1 }
         ensures palette { IfOk result (λ tags. view tags.0 ≡ palette_tag (section_states (states table.now) self.now)) }

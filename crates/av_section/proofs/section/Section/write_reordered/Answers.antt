@@ -8,7 +8,7 @@ use Rattle.av_state.specs.Table.{states}
 use Rattle.av_section.specs.Palette.{states_tag}
 use Rattle.av_section.specs.BlockStates.{indices_tag}
 use Rattle.av_section.proofs.WrittenStates.{writes_section}
-use Rattle.av_section.proofs.section.Section.write_any.Goals as goal
+use Rattle.av_section.proofs.section.Section.write_reordered.Goals as goal
 
 pub written_order-requires-clause-below : goal.written_order-requires-clause-below
 written_order-requires-clause-below c k d low =
