@@ -3,14 +3,14 @@ ghost use Rattle.std.specs.Prelude.{◌≡◌, ◌<◌, ◌≤◌, ◌^◌, ◌+
 ghost use Rattle.indexmap.specs.IndexSet.{insert_key};
 ghost use Rattle.std.specs.Option.{option_copied};
 ghost use Rattle.av_nbt.specs.View.{view};
-ghost use Rattle.av_pack.specs.Packing.{longs_for, packed_at, unpacked};
+ghost use Rattle.av_pack.specs.Packing.{bits_for, longs_for, packed_at, unpacked};
 ghost use Rattle.av_section.specs.BlockStates.{data_of, packed_indices, are_below};
 ghost use Rattle.av_section.specs.Distinct.{AreEachOnce, ArePlaces};
 ghost use Rattle.av_section.specs.Judged.{AreNoIndices};
 ghost use Rattle.av_section.specs.Packed.{HasAllBelow, IsRepacked};
 
 use av_nbt::Tag;
-use av_pack::{bits_for, pack, unpack};
+use av_pack::{bits_for, entries_below, longs_for, pack, unpack};
 use av_types::Fault;
 use indexmap::IndexSet;
 use std::alloc::{AllocError, Global};
@@ -35,18 +35,21 @@ pub(crate) fn are_below(indices: &[u16], count: usize) -> bool
     indices.iter().all(|index| usize::from(*index) < count)
 }
 
-/// The indices that longs hold, into a palette of so many entries. `BadPacked` where the longs are not as many as it
-/// needs, or where an index is not below its length.
-pub(crate) fn longs_indices(alloc: Global, longs: &[i64], count: usize) -> Result<Vec<u16>, Fault>
+/// Judges whether longs hold indices into a palette of so many entries: `BadPacked` where the longs are not as many as it
+/// needs, or where an index is not below its length. They are looked through in the longs, and no list is made.
+pub(crate) fn judge_longs(longs: &[i64], count: usize) -> Result<(), Fault>
     requires { count ≤ 65536 }
-    ensures ok { IfOk result (λ indices. packed_indices count longs.now ≡ Some indices.items) }
+    ensures ok { OnOk result (packed_indices count longs.now ≡ Some (unpacked (bits_for count) longs.now)) }
     ensures err { IfErr result (AreNoIndices (packed_indices count longs.now)) }
 {
-    let indices = unpack(alloc, longs, bits_for(count))?;
-    if !are_below(indices.as_slice(), count) {
+    let bits = bits_for(count);
+    if longs.len() != longs_for(bits) {
         return Err(Fault::BadPacked);
     }
-    Ok(indices)
+    if !entries_below(longs, bits, count) {
+        return Err(Fault::BadPacked);
+    }
+    Ok(())
 }
 
 /// The indices that longs hold. The longs are as many as these need, so nothing but memory can be wanted.

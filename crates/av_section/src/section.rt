@@ -7,7 +7,7 @@ ghost use Rattle.av_section.specs.Packed.{HasAllBelow, IsPackedSection};
 ghost use Rattle.std.proofs.Props.{props};
 
 use crate::indices::{
-    are_below, data_longs, distinct, first_missing, index_of, longs_indices, mapped, places_in,
+    are_below, data_longs, distinct, first_missing, index_of, judge_longs, mapped, places_in,
     repacked, unpacked,
 };
 use crate::numbering::number_states;
@@ -119,28 +119,23 @@ impl Section {
         ensures err { IfErr result (IsNoSection (map state_of entries.now) (packed_indices (length entries.now) longs.now) (states table.old)) }
         ensures table { OnlyGrows (states table.old) (states table.new) }
     {
-        let indices = longs_indices(alloc, longs, entries.len())?;
+        judge_longs(longs, entries.len())?;
         let numbers = number_states(alloc, entries, table)?;
-        let section = Section::indexed(alloc, numbers.as_slice(), longs, indices.as_slice())?;
+        let section = Section::indexed(alloc, numbers.as_slice(), longs)?;
         Ok(section)
     }
 
-    /// The section of numbers and the longs that hold the index of each place into them. The longs stay as they are,
-    /// unless a number is there twice.
-    fn indexed(
-        alloc: Global,
-        numbers: &[u16],
-        longs: &[i64],
-        indices: &[u16],
-    ) -> Result<Self, AllocError>
+    /// The section of numbers and the longs that hold the index of each place into them. The longs stay as they are, and
+    /// nothing is unpacked, unless a number is there twice.
+    fn indexed(alloc: Global, numbers: &[u16], longs: &[i64]) -> Result<Self, AllocError>
         requires some { 0 < length numbers.now }
         requires few { length numbers.now ≤ 4096 }
-        requires indices { packed_indices (length numbers.now) longs.now ≡ Some indices.now }
-        ensures ok { IfOk result (HasNumbers numbers.now indices.now) }
+        requires indices { packed_indices (length numbers.now) longs.now ≡ Some (unpacked (bits_for (length numbers.now)) longs.now) }
+        ensures ok { IfOk result (HasNumbers numbers.now (unpacked (bits_for (length numbers.now)) longs.now)) }
     {
         let palette = distinct(alloc, numbers)?;
         if palette.len() != numbers.len() {
-            return Section::reindexed(alloc, palette, numbers, indices);
+            return Section::repeated(alloc, palette, numbers, longs);
         }
         Ok(Section {
             palette,
@@ -149,6 +144,22 @@ impl Section {
             pending: PlaceSet::boxed(alloc)?,
             ready: 0,
         })
+    }
+
+    /// The same, with another palette that has each number.
+    fn repeated(
+        alloc: Global,
+        palette: Vec<u16>,
+        numbers: &[u16],
+        longs: &[i64],
+    ) -> Result<Self, AllocError>
+        requires palette { AreEachOnce numbers.now palette.items }
+        requires few { length numbers.now ≤ 4096 }
+        requires indices { packed_indices (length numbers.now) longs.now ≡ Some (unpacked (bits_for (length numbers.now)) longs.now) }
+        ensures ok { IfOk result (HasNumbers numbers.now (unpacked (bits_for (length numbers.now)) longs.now)) }
+    {
+        let indices = unpacked(alloc, longs, bits_for(numbers.len()))?;
+        Section::reindexed(alloc, palette, numbers, indices.as_slice())
     }
 
     /// The section of numbers and the index of each place into them, with another palette that has each number.
