@@ -12,6 +12,11 @@ pub trait Gate {
     /// In clauses: `after` was called with this answer.
     ghost saw_done: { Self → Done → Type 0 };
 
+    /// Whether it has to be told of all jobs. If not, entries may be turned without jobs, of which it is told nothing.
+    fn watches(&self) -> bool {
+        true
+    }
+
     /// Before the first turn of a job.
     fn before(&self, job: &Job)
         ensures { saw_job self.now job.now };
@@ -28,6 +33,10 @@ impl Gate for NoGate {
     ghost saw_job = { λ _ _. Unit {0} };
 
     ghost saw_done = { λ _ _. Unit {0} };
+
+    fn watches(&self) -> bool {
+        false
+    }
 
     fn before(&self, _job: &Job) {}
 

@@ -1,11 +1,13 @@
 //! The tick on several workers.
-ghost use Rattle.std.specs.Prelude.{nat_eq, ◌≡◌, ◌≢◌, ◌≤◌, ◌<◌, nat_lt, nat_le, ◌||◌, true, false, All, OnOk, OnErr, IfOk, IfErr, if◌then◌else◌, length};
+ghost use Rattle.std.specs.Prelude.{nat_eq, ◌≡◌, ◌≢◌, ◌≤◌, ◌<◌, nat_lt, nat_le, ◌||◌, true, false, All, OnOk, OnErr, IfOk, IfErr, if◌then◌else◌, length, vec_len};
+ghost use Rattle.std.specs.List.{list_all};
 ghost use Rattle.av_types.specs.declared.fault.Fault.TheVariants.{OutOfMemory, BadCount, Broken};
 ghost use Rattle.av_rules.specs.Kinds.{kind_count};
 ghost use Rattle.av_cells.specs.Kinds.{kinds_of};
 ghost use Rattle.av_land.specs.Tick.{set_in, edited, turned_all, ticked, tick_count, due_entries, without_due};
 ghost use Rattle.av_world.specs.Views.{is_broken, blocks};
 ghost use Rattle.av_world.specs.Lands.{land_of};
+ghost use Rattle.av_cluster.specs.Clusters.{ArePlanned};
 ghost use Rattle.av_edits.specs.Numbered.{number_sets};
 ghost use Rattle.av_serial.specs.Ready.{IsReady, IsSamePlace, CanApply};
 ghost use Rattle.av_crew.specs.Counts.{is_count_of_workers};
@@ -13,17 +15,91 @@ ghost use Rattle.av_crew.specs.Counts.{is_count_of_workers};
 use crate::counts::Workers;
 use crate::gates::Gate;
 use crate::ticking::turn_parts;
-use av_cluster::plan;
+use av_cluster::{Cluster, plan};
 use av_edits::Edit;
 use av_rules::Kinds;
-use av_serial::apply_all;
-use av_types::Fault;
+use av_serial::{apply_all, turn_all};
+use av_types::{Entry, Fault};
 use av_world::World;
-use std::alloc::AllocError;
+use std::alloc::{AllocError, Global};
 use std::sync::Wait;
 use std::thread::Threads;
 
-/// Takes what is due, and turns it in parts.
+/// So many entries of a tick cost less than their plan.
+const FEW: usize = 32;
+
+/// Whether entries are turned without a plan.
+fn skips_plan<G: Gate>(gate: &G, workers: usize, entries: usize) -> bool {
+    if gate.watches() {
+        return false;
+    }
+    workers == 1 || entries <= FEW
+}
+
+/// Turns the parts of a plan, and appends what they made.
+fn turn_planned<R: Threads + Wait + Sync, G: Gate + Sync>(
+    rt: &R,
+    world: &mut World,
+    kinds: &Kinds,
+    now: u32,
+    clusters: Vec<Cluster>,
+    entries: &[Entry],
+    workers: usize,
+    gate: &G,
+) -> Result<(), AllocError>
+    requires workers { (0 < workers) × (workers ≤ 8) }
+    requires ready { IsReady (kind_count kinds.now) world.old }
+    requires sound { is_broken world.old ≡ false }
+    requires loaded { list_all (λ e. (blocks world.old).loaded e.pos) entries.now ≡ true }
+    requires planned { ArePlanned (blocks world.old) entries.now clusters.items }
+    requires few { vec_len clusters ≤ 4294967295 }
+    ensures done { OnOk result (land_of world.new ≡ turned_all (kinds_of kinds.now) now entries.now (land_of world.old)) }
+    ensures ready { OnOk result (IsReady (kind_count kinds.now) world.new) }
+    ensures place { OnOk result (IsSamePlace world.old world.new) }
+{
+    let Ok(made) = turn_parts(rt, world, kinds, now, clusters, workers, gate) else {
+        return Err(AllocError);
+    };
+    let Ok(()) = world.append(made.as_slice()) else {
+        return Err(AllocError);
+    };
+    Ok(())
+}
+
+/// Turns the blocks of entries: in parts, or one after the other where that is the same to the gate and costs less.
+fn turn_taken<R: Threads + Wait + Sync, G: Gate + Sync>(
+    rt: &R,
+    alloc: Global,
+    world: &mut World,
+    kinds: &Kinds,
+    now: u32,
+    entries: &[Entry],
+    workers: usize,
+    gate: &G,
+) -> Result<(), AllocError>
+    requires workers { (0 < workers) × (workers ≤ 8) }
+    requires ready { IsReady (kind_count kinds.now) world.old }
+    requires sound { is_broken world.old ≡ false }
+    requires loaded { list_all (λ e. (blocks world.old).loaded e.pos) entries.now ≡ true }
+    ensures done { OnOk result (land_of world.new ≡ turned_all (kinds_of kinds.now) now entries.now (land_of world.old)) }
+    ensures ready { OnOk result (IsReady (kind_count kinds.now) world.new) }
+    ensures place { OnOk result (IsSamePlace world.old world.new) }
+{
+    // One worker or few entries pay no plan, no parcels and no ring.
+    if skips_plan(gate, workers, entries.len()) {
+        return turn_all(world, kinds, now, entries);
+    }
+    let Ok(clusters) = plan(alloc, world, entries) else {
+        return Err(AllocError);
+    };
+    // A single part is the whole tick: nothing of it is moved.
+    if clusters.len() == 1 && !gate.watches() {
+        return turn_all(world, kinds, now, entries);
+    }
+    turn_planned(rt, world, kinds, now, clusters, entries, workers, gate)
+}
+
+/// Takes what is due, and turns it.
 fn turn_due<R: Threads + Wait + Sync, G: Gate + Sync>(
     rt: &R,
     world: &mut World,
@@ -44,15 +120,8 @@ fn turn_due<R: Threads + Wait + Sync, G: Gate + Sync>(
         return Err(AllocError);
     };
     let alloc = *entries.allocator();
-    let Ok(clusters) = plan(alloc, world, entries.as_slice()) else {
-        return Err(AllocError);
-    };
-    let Ok(made) = turn_parts(rt, world, kinds, now, clusters, workers, gate) else {
-        return Err(AllocError);
-    };
-    let Ok(()) = world.append(made.as_slice()) else {
-        return Err(AllocError);
-    };
+    let due = entries.as_slice();
+    turn_taken(rt, alloc, world, kinds, now, due, workers, gate)?;
     Ok(entries.len() as u64)
 }
 

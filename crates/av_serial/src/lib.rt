@@ -8,4 +8,4 @@ mod ticks;
 
 pub use runs::{run_ticks, run_ticks_with};
 pub use steps::apply;
-pub use ticks::{apply_all, tick};
+pub use ticks::{apply_all, tick, turn_all};

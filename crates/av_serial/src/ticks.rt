@@ -17,8 +17,16 @@ use av_types::{Entry, Fault};
 use av_world::World;
 use std::alloc::AllocError;
 
-/// Turns the blocks of some entries, one after the other.
-fn turn_all(world: &mut World, kinds: &Kinds, now: u32, entries: &[Entry]) -> Result<(), AllocError>
+/// Turns the blocks of some entries in tick `now`, one after the other. The entries themselves are in no list any more.
+///
+/// # Errors
+/// Where memory is refused, and then only some first blocks are turned.
+pub fn turn_all(
+    world: &mut World,
+    kinds: &Kinds,
+    now: u32,
+    entries: &[Entry],
+) -> Result<(), AllocError>
     requires ready { IsReady (kind_count kinds.now) world.old }
     requires loaded { list_all (λ e. (blocks world.old).loaded e.pos) entries.now ≡ true }
     ensures done { OnOk result (land_of world.new ≡ turned_all (kinds_of kinds.now) now entries.now (land_of world.old)) }
