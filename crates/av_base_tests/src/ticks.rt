@@ -186,6 +186,19 @@ fn many_entries_leave(rt: HostRuntime) -> Result<(), Fail> {
     Ok(())
 }
 
+/// Of 200 entries, 67 are due in tick 0, at z 0, 3 and so on to 198. The others stand in their order.
+#[test]
+fn many_entries_leave_without_an_index(rt: HostRuntime) -> Result<(), Fail> {
+    let mut list = many(rt.alloc())?.without_index()?;
+    expect_equal(&rt, (list.len(), list.soonest()), (200, 0));
+    expect_equal(&rt, list.has(entry(199, 0, 0).pos), true);
+    list.drop_due(0);
+    expect_equal(&rt, (list.len(), list.soonest()), (133, 1));
+    expect_equal(&rt, list.iter().next().copied(), Some(one_of_many(1)));
+    expect_equal(&rt, list.has(entry(198, 0, 0).pos), false);
+    Ok(())
+}
+
 #[test]
 fn made_entries_go_by_maker_and_number(rt: HostRuntime) -> Result<(), Fail> {
     let first = [made(2, 0), made(2, 1)].to_vec(rt.alloc())?;

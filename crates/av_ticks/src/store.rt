@@ -247,6 +247,21 @@ impl Store {
         append(&mut self.many, entry)
     }
 
+    /// The same entries without an index.
+    pub(crate) fn without_index(self) -> Result<Store, AllocError>
+        ensures { IfOk result (λ store. stored store ≡ stored self) }
+    {
+        if !self.is_indexed {
+            return Ok(self);
+        }
+        let alloc = self.allocator();
+        Ok(Store {
+            few: Vec::from_slice(alloc, self.as_slice())?,
+            many: IndexMap::new(alloc),
+            is_indexed: false,
+        })
+    }
+
     /// Lets the entries go that are due in tick `now` or before it.
     pub(crate) fn drop_due(&mut self, now: u32)
         ensures entries { stored self.new ≡ filter (λ e. not (is_due now e)) (stored self.old) }
