@@ -189,7 +189,7 @@ pub(crate) fn places_in(
     requires few { length palette.now ≤ 65536 }
     ensures { IfOk result (λ places. ArePlaces palette.now numbers.now places.items) }
 {
-    let mut places = Vec::new(alloc);
+    let mut places = Vec::with_capacity(alloc, numbers.len())?;
     for number in numbers {
         places.push(index_of(palette, *number) as u16)?;
     }

@@ -40,7 +40,7 @@ pub(crate) fn number_states(
     if !have_forms(entries) {
         return Err(Fault::BadWaterLevel);
     }
-    let mut numbers = Vec::new(alloc);
+    let mut numbers = Vec::with_capacity(alloc, entries.len())?;
     for entry in entries {
         numbers.push(table.intern(entry)?)?;
     }

@@ -54,7 +54,7 @@ pub(crate) fn written_order(
     ensures { IfOk result (λ order. IsWritten palette.now indices.now order.numbers.items order.indices.items) }
 {
     let mut seen = vec![in alloc; UNSEEN; palette.len()]?;
-    let mut numbers = Vec::new(alloc);
+    let mut numbers = Vec::with_capacity(alloc, palette.len())?;
     let mut found = Vec::with_capacity(alloc, indices.len())?;
     for index in indices {
         found.push(written_index(palette, &mut seen, &mut numbers, *index)?)?;

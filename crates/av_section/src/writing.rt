@@ -28,7 +28,7 @@ fn property_tag(alloc: Global, property: &Property) -> Result<Named, AllocError>
 fn property_tags(alloc: Global, properties: &[Property]) -> Result<Vec<Named>, AllocError>
     ensures { IfOk result (λ tags. named_views tags.items ≡ map property_tag (properties_of properties.now)) }
 {
-    let mut tags = Vec::new(alloc);
+    let mut tags = Vec::with_capacity(alloc, properties.len())?;
     for property in properties {
         tags.push(property_tag(alloc, property)?)?;
     }
@@ -82,7 +82,7 @@ fn state_tags(alloc: Global, table: &StateTable, numbers: &[u16]) -> Result<Vec<
     requires { All (λ number. number < length (states table.now)) numbers.now }
     ensures { IfOk result (λ tags. views tags.items ≡ map (λ n. state_tag (slice_index_or (states table.now) n air)) numbers.now) }
 {
-    let mut tags = Vec::new(alloc);
+    let mut tags = Vec::with_capacity(alloc, numbers.len())?;
     for number in numbers {
         tags.push(state_tag(alloc, table.state(*number))?)?;
     }

@@ -14,7 +14,7 @@ returns-then-not-have_forms-clause-err c = no_forms (map state_of c.args.entries
 
 pub returns-in_err-intern-clause-err : goal.returns-in_err-intern-clause-err
 returns-in_err-intern-clause-err c =
-    let p = err_from_is_err_and c.from_residual.result c.from_residual.ensures.1 in
+    let p = err_from_is_err_and c.from_residual-in_err-intern.result c.from_residual-in_err-intern.ensures.1 in
     let i = c.loop-entry.entry-index in
     let d = c.entry-item.result in
     let e = c.in_err-intern.field-0.0 in
