@@ -358,6 +358,17 @@ fn unused_numbers_are_not_written(rt: HostRuntime) -> Result<(), Fail> {
     expect_written(&rt, rt.alloc(), &section, &table, &palette, Some(&longs))
 }
 
+/// 16 states, the index of place i being i mod 16: they are written as they were read.
+#[test]
+fn a_palette_in_order_is_written_as_it_stands(rt: HostRuntime) -> Result<(), Fail> {
+    let mut table = StateTable::new(rt.alloc())?;
+    let palette = palette(rt.alloc(), 16)?;
+    let digits = vec![in rt.alloc(); 0xFEDC_BA98_7654_3210_u64.cast_signed(); 256]?;
+    let longs = Tag::long_array(digits);
+    let section = Section::read(rt.alloc(), Some(&palette), Some(&longs), &mut table)?;
+    expect_written(&rt, rt.alloc(), &section, &table, &palette, Some(&longs))
+}
+
 /// A section of air alone has no longs.
 #[test]
 fn air_is_written_without_longs(rt: HostRuntime) -> Result<(), Fail> {
