@@ -1,12 +1,14 @@
 //! Flat worlds, and ticks of them with the edits of a text.
 ghost use Rattle.std.specs.Prelude.{◌≡◌, true, All, IfOk, OnOk};
+ghost use Rattle.std.specs.List.{list_all};
 ghost use Rattle.av_rules.specs.Kinds.{kind_count};
+ghost use Rattle.av_world.specs.Views.{blocks};
 ghost use Rattle.av_world_tests.specs.Flat.{IsPlain};
 ghost use Rattle.av_serial.specs.Ready.{IsReady, CanApply};
 
 use av_edits::{Edit, read};
 use av_rules::{Kinds, Rules};
-use av_serial::{apply, run_ticks, tick};
+use av_serial::{apply, run_ticks, tick, turn_all};
 use av_types::{ChunkPos, Entry, Fault, Height, Pos};
 use av_world::{Cells, World};
 use av_world_tests::flat::stone_table;
@@ -193,5 +195,31 @@ pub fn applied(mut world: World, kinds: &Kinds, now: u32, edit: &Edit) -> Result
         return Err(Fault::EditOutside(0));
     }
     apply(&mut world, kinds, now, edit)?;
+    Ok(world)
+}
+
+/// Whether the block of each entry is loaded.
+fn all_loaded(world: &World, entries: &[Entry]) -> bool
+    ensures { result ≡ list_all (λ e. (blocks world.now).loaded e.pos) entries.now }
+{
+    for entry in entries {
+        if !world.loaded(entry.pos) {
+            return false;
+        }
+    }
+    true
+}
+
+/// A world after the blocks of entries were turned in tick `now`.
+pub fn turned(mut world: World, kinds: &Kinds, now: u32, entries: &[Entry]) -> Result<World, Fault>
+    requires { IsPlain world }
+{
+    if kinds.count() < 11 {
+        return Err(Fault::BadTable);
+    }
+    if !all_loaded(&world, entries) {
+        return Err(Fault::EditOutside(0));
+    }
+    turn_all(&mut world, kinds, now, entries)?;
     Ok(world)
 }

@@ -1,5 +1,5 @@
 //! Ticks by hand, on one or two chunks with stone at y 63 and air elsewhere. Stone is shut and a floor.
-use crate::runs::{After, applied, edits_and_kinds, flat_ran, ran, ticked, world_of};
+use crate::runs::{After, applied, edits_and_kinds, flat_ran, ran, ticked, turned, world_of};
 use av_serial::{apply, run_ticks, tick};
 use av_types::{ChunkPos, Entry, Fault, Pos};
 use av_world::World;
@@ -313,6 +313,32 @@ fn overdue_entries_are_turned_first(rt: HostRuntime) -> Result<(), Fail> {
         (5, 64, 4),
     ];
     expect_list(&rt, &after.world, ORIGIN, 6, &want);
+    Ok(())
+}
+
+/// Entries that were taken are turned as they are given, also one of a later tick.
+#[test]
+fn taken_entries_are_turned_as_given(rt: HostRuntime) -> Result<(), Fail> {
+    let alloc = rt.alloc();
+    let (west, east) = (at(4, 64, 4), at(8, 64, 8));
+    let world = world_of(alloc, &[ORIGIN], &[west, east], &[])?;
+    let (_, kinds) = edits_and_kinds(alloc, 1, &world, "", 0)?;
+    let world = turned(world, &kinds, 1, &[entry(east, 9), entry(west, 1)])?;
+    let want = [
+        (8, 64, 7),
+        (8, 64, 8),
+        (8, 64, 9),
+        (7, 64, 8),
+        (9, 64, 8),
+        (4, 64, 3),
+        (4, 64, 4),
+        (4, 64, 5),
+        (3, 64, 4),
+        (5, 64, 4),
+    ];
+    expect_list(&rt, &world, ORIGIN, 6, &want);
+    assert_eq!(rt; sides(&world, 64), [Some(2); 4]);
+    assert_eq!(rt; water_in(alloc, &world)?.len(), 10);
     Ok(())
 }
 
