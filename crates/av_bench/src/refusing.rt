@@ -4,7 +4,7 @@ ghost use Rattle.av_rules.specs.Kinds.{kind_count};
 ghost use Rattle.av_serial.specs.Ready.{IsReady};
 ghost use Rattle.av_world_tests.specs.Flat.{IsPlain};
 
-use av_crew::NoGate;
+use av_crew::{Done, Gate, Job};
 use av_edits::Edit;
 use av_image::{Rest, save};
 use av_light::light_all;
@@ -26,6 +26,19 @@ const LINES: &str = "1 8 72 8 minecraft:water[level=0]
 
 const TICKS: u32 = 6;
 
+/// A gate that watches, so that each part is a job, however few its entries are.
+struct Told;
+
+impl Gate for Told {
+    ghost saw_job = { λ _ _. Unit {0} };
+
+    ghost saw_done = { λ _ _. Unit {0} };
+
+    fn before(&self, _job: &Job) {}
+
+    fn after(&self, _done: &Done) {}
+}
+
 /// A tick on so many workers, or that of one thread where there are none.
 fn tick_once<R: Threads + Wait + Sync>(
     rt: &R,
@@ -44,7 +57,7 @@ fn tick_once<R: Threads + Wait + Sync>(
     if workers == 0 {
         return av_serial::tick(world, kinds, now, edits);
     }
-    av_crew::tick(rt, world, kinds, now, edits, workers, &NoGate)
+    av_crew::tick(rt, world, kinds, now, edits, workers, &Told)
 }
 
 /// How many entries the ticks took.
@@ -129,7 +142,7 @@ fn refused_ticks<R: Threads + Wait + Sync>(
         return (0, 0);
     }
     let alone = av_serial::tick(world, kinds, TICKS, edits).err();
-    let together = av_crew::tick(rt, world, kinds, TICKS, edits, 2, &NoGate).err();
+    let together = av_crew::tick(rt, world, kinds, TICKS, edits, 2, &Told).err();
     (number_of(alone), number_of(together))
 }
 

@@ -68,8 +68,8 @@ fn finish<R: Threads + Wait + Sync, G: Gate + Sync>(
 
 /// Runs edits and water over the world of region files, lights it, and answers the files that it is written as. `table`
 /// is a block table, `edits` are lines of edits, and `workers` is how many threads turn blocks, the calling one among them;
-/// the answer is the same for each number of them. `gate` is told of each part of a tick before and after its turns. A
-/// refused run hands out nothing.
+/// the answer is the same for each number of them. `gate`, if it watches, is told of each part of a tick before and after its
+/// turns. A refused run hands out nothing.
 ///
 /// # Errors
 /// The first of these: `BadCount` where there are not 1 to 8 workers, or more than 1,000,000 ticks or 1,024 files;
