@@ -2,7 +2,8 @@
 ghost use Rattle.std.specs.Prelude.{◌<◌};
 
 use crate::crews::{Contents, contents, crew_ran};
-use av_crew::NoGate;
+use crate::gates::Counting;
+use av_crew::{Gate, NoGate};
 use av_edits::Edit;
 use av_rules::Kinds;
 use av_serial_tests::runs::{edits_and_kinds, run_edits, world_of};
@@ -69,23 +70,25 @@ fn drawn_edits(alloc: Global, draw: &mut Draw) -> Result<Vec<Edit>, AllocError> 
 }
 
 /// Twelve ticks with these edits give this count, these blocks and these entries by so many workers.
-fn expect_crew<R: Threads + Wait + Sync + Abort>(
+fn expect_crew<R: Threads + Wait + Sync + Abort, G: Gate + Sync>(
     rt: &R,
     alloc: Global,
     kinds: &Kinds,
     edits: &[Edit],
     workers: u32,
+    gate: &G,
     count: u128,
     want: &Contents,
 ) -> Result<(), Fault> {
     let flat = world_of(alloc, &CHUNKS, &[], &[])?;
-    let after = crew_ran(rt, alloc, flat, kinds, edits, 12, workers, &NoGate)?;
+    let after = crew_ran(rt, alloc, flat, kinds, edits, 12, workers, gate)?;
     assert_eq!(rt; after.count, count);
     assert!(rt; contents(alloc, &after.world)? == *want);
     Ok(())
 }
 
-/// Twelve ticks with these edits give the same count, blocks and entries by each number of workers as on one thread.
+/// Twelve ticks with these edits give the same count, blocks and entries by each number of workers as on one thread, in
+/// parts, and also without.
 fn expect_same<R: Threads + Wait + Sync + Abort>(
     rt: &R,
     alloc: Global,
@@ -95,10 +98,11 @@ fn expect_same<R: Threads + Wait + Sync + Abort>(
     let flat = world_of(alloc, &CHUNKS, &[], &[])?;
     let serial = run_edits(alloc, flat, kinds, edits, 12)?;
     let want = contents(alloc, &serial.world)?;
+    let gate = Counting::of(true);
     for workers in 1..9 {
-        expect_crew(rt, alloc, kinds, edits, workers, serial.count, &want)?;
+        expect_crew(rt, alloc, kinds, edits, workers, &gate, serial.count, &want)?;
     }
-    Ok(())
+    expect_crew(rt, alloc, kinds, edits, 2, &NoGate, serial.count, &want)
 }
 
 /// A thousand worlds.

@@ -1,9 +1,19 @@
-//! Jobs that can only be done at once, shown by gates that wait for each other.
-use crate::crews::flat_crew_ran;
-use crate::gates::{Holding, Meeting, Watching};
-use av_types::{ChunkPos, Entry, Pos};
+//! Jobs that can only be done at once, shown by gates that wait for each other, and ticks without jobs, by gates that count them.
+ghost use Rattle.std.specs.Prelude.{IfOk};
+ghost use Rattle.av_world_tests.specs.Flat.{IsPlain};
+
+use crate::crews::{contents, crew_ran, flat_crew_ran};
+use crate::gates::{Counting, Holding, Meeting, Watching};
+use av_crew::{Gate, NoGate};
+use av_serial_tests::runs::{edits_and_kinds, world_of};
+use av_types::{ChunkPos, Entry, Fault, Pos};
+use av_world::World;
 use av_world_tests::reads::entries_in;
+use std::alloc::Global;
+use std::process::Abort;
+use std::sync::Wait;
 use std::test::Fail;
+use std::thread::Threads;
 
 /// Four chunks in a row.
 const ROW: [ChunkPos; 4] = [
@@ -75,5 +85,125 @@ fn entries_go_by_their_makers(rt: HostRuntime) -> Result<(), Fail> {
         };
         assert_eq!(rt; *entry, want);
     }
+    Ok(())
+}
+
+/// A source at z 8 that waits for tick 1.
+fn waiting(x: i32) -> Entry {
+    Entry {
+        pos: Pos { x, y: 64, z: 8 },
+        due: 1,
+        priority: 0,
+    }
+}
+
+/// The row of chunks with sources that wait for tick 1, at each x of some ranges.
+fn rows_of(alloc: Global, ranges: &[(i32, i32)]) -> Result<World, Fault>
+    ensures { IfOk result IsPlain }
+{
+    let mut sources = Vec::new(alloc);
+    let mut entries = Vec::new(alloc);
+    for (from, to) in ranges {
+        for x in *from..*to {
+            sources.push(waiting(x).pos)?;
+            entries.push(waiting(x))?;
+        }
+    }
+    world_of(alloc, &ROW, sources.as_slice(), entries.as_slice())
+}
+
+/// How many of some numbers are those of water.
+fn wet_of(numbers: &[Option<u16>]) -> usize {
+    let mut wet = 0usize;
+    for number in numbers {
+        if let Some(1..=9) = number {
+            wet = wet.wrapping_add(1);
+        }
+    }
+    wet
+}
+
+/// One tick of sources in a row of chunks.
+#[derive(Clone, Copy, Drop)]
+struct RowTick<'a> {
+    ranges: &'a [(i32, i32)],
+    workers: u32,
+    /// How many entries it takes, and how many blocks of water there are then.
+    count: u128,
+    wet: usize,
+}
+
+/// How many jobs a gate is told of, which watches or not.
+fn told<R: Threads + Wait + Sync + Abort>(
+    rt: &R,
+    alloc: Global,
+    watching: bool,
+    row: RowTick<'_>,
+) -> Result<u64, Fault> {
+    let gate = Counting::of(watching);
+    let world = rows_of(alloc, row.ranges)?;
+    let (_, kinds) = edits_and_kinds(alloc, 1, &world, "", 0)?;
+    let after = crew_ran(rt, alloc, world, &kinds, &[], 1, row.workers, &gate)?;
+    assert_eq!(rt; after.count, row.count);
+    let (numbers, _) = contents(alloc, &after.world)?;
+    assert_eq!(rt; wet_of(numbers.as_slice()), row.wet);
+    Ok(gate.count())
+}
+
+/// Twenty entries of one part. Each source has water to its north and south, and the last one to its east.
+const FEW: RowTick<'static> = RowTick {
+    ranges: &[(0, 20)],
+    workers: 8,
+    count: 20,
+    wet: 61,
+};
+
+/// Sixty-four entries of one part, from one end to the other.
+const LONG: RowTick<'static> = RowTick {
+    ranges: &[(0, 64)],
+    workers: 8,
+    count: 64,
+    wet: 192,
+};
+
+/// Forty entries of two parts.
+const TWO_ROWS: RowTick<'static> = RowTick {
+    ranges: &[(0, 20), (44, 64)],
+    workers: 2,
+    count: 40,
+    wet: 122,
+};
+
+/// The same with one worker.
+const ALONE: RowTick<'static> = RowTick {
+    workers: 1,
+    ..TWO_ROWS
+};
+
+/// A gate that watches is told of each part, whatever it costs.
+#[test]
+fn a_watching_gate_is_told_of_each_part(rt: HostRuntime) -> Result<(), Fail> {
+    let alloc = rt.alloc();
+    for (row, parts) in [(FEW, 1), (LONG, 1), (TWO_ROWS, 2), (ALONE, 2)] {
+        assert_eq!(rt; told(&rt, alloc, true, row)?, parts);
+    }
+    Ok(())
+}
+
+/// For another one few entries, those of one part and those of one worker are turned without jobs, and others in parts.
+#[test]
+fn another_gate_is_told_of_parts_of_many_entries(rt: HostRuntime) -> Result<(), Fail> {
+    let alloc = rt.alloc();
+    for (row, parts) in [(FEW, 0), (LONG, 0), (TWO_ROWS, 2), (ALONE, 0)] {
+        assert_eq!(rt; told(&rt, alloc, false, row)?, parts);
+    }
+    Ok(())
+}
+
+/// A gate watches if it does not say otherwise, and the one that does nothing does not.
+#[test]
+fn a_gate_watches_if_it_says_no_other(rt: HostRuntime) -> Result<(), Fail> {
+    assert!(rt; Meeting::of(1).watches());
+    assert!(rt; !NoGate.watches());
     Ok(())
 }

@@ -166,3 +166,40 @@ impl Gate for Watching {
         }
     }
 }
+
+/// Counts the jobs that it is told of, whether it has to be told or not.
+#[derive(Drop)]
+pub struct Counting {
+    watching: bool,
+    told: AtomicU64,
+}
+
+impl Counting {
+    pub fn of(watching: bool) -> Counting {
+        Counting {
+            watching,
+            told: AtomicU64::new(0),
+        }
+    }
+
+    /// How many jobs it was told of.
+    pub fn count(&self) -> u64 {
+        self.told.load(SeqCst)
+    }
+}
+
+impl Gate for Counting {
+    ghost saw_job = { λ _ _. Unit {0} };
+
+    ghost saw_done = { λ _ _. Unit {0} };
+
+    fn watches(&self) -> bool {
+        self.watching
+    }
+
+    fn before(&self, _job: &Job) {
+        self.told.fetch_add(1, SeqCst);
+    }
+
+    fn after(&self, _done: &Done) {}
+}

@@ -2,8 +2,9 @@
 use crate::crews::{
     Contents, broken_refusals, contents, crew_ran, crew_run, crew_tick, flat_crew_ran,
 };
+use crate::gates::Counting;
 use av_cells::Cells;
-use av_crew::NoGate;
+use av_crew::{Gate, NoGate};
 use av_edits::Edit;
 use av_rules::Kinds;
 use av_serial_tests::runs::{edits_and_kinds, flat_ran, world_of};
@@ -88,16 +89,29 @@ fn expect_four(
     Ok(())
 }
 
-/// Four parts, by any number of workers.
+/// Four sources spread by any number of workers, with a gate.
+fn expect_four_with<R: Threads + Wait + Sync + Abort, G: Gate + Sync>(
+    rt: &R,
+    alloc: Global,
+    gate: &G,
+) -> Result<(), Fault> {
+    let serial = contents(alloc, &flat_ran(alloc, &ROW, FOUR, 6)?.world)?;
+    for workers in [1, 2, 3, 8] {
+        let after = flat_crew_ran(rt, alloc, &ROW, FOUR, 6, workers, gate)?;
+        assert_eq!(rt; after.count, 4);
+        expect_four(rt, alloc, &after.world, &serial)?;
+    }
+    Ok(())
+}
+
+/// Four parts, which are worked off where a gate watches, and else without a plan.
 #[test]
 fn four_sources_spread(rt: HostRuntime) -> Result<(), Fail> {
     let alloc = rt.alloc();
-    let serial = contents(alloc, &flat_ran(alloc, &ROW, FOUR, 6)?.world)?;
-    for workers in [1, 2, 3, 8] {
-        let after = flat_crew_ran(&rt, alloc, &ROW, FOUR, 6, workers, &NoGate)?;
-        assert_eq!(rt; after.count, 4);
-        expect_four(&rt, alloc, &after.world, &serial)?;
-    }
+    expect_four_with(&rt, alloc, &NoGate)?;
+    let gate = Counting::of(true);
+    expect_four_with(&rt, alloc, &gate)?;
+    assert_eq!(rt; gate.count(), 16);
     Ok(())
 }
 
