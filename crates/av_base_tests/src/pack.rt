@@ -188,6 +188,21 @@ fn one_before_zero_is_out_of_order(rt: HostRuntime) -> Result<(), Fail> {
 }
 
 #[test]
+fn unused_number_is_out_of_order(rt: HostRuntime) -> Result<(), Fail> {
+    let longs = digits(rt.alloc(), true)?;
+    expect_equal(&rt, used_in_order(&longs, 4, 17), false);
+    Ok(())
+}
+
+#[test]
+fn fifteen_is_the_greatest_digit(rt: HostRuntime) -> Result<(), Fail> {
+    let longs = digits(rt.alloc(), true)?;
+    expect_equal(&rt, entries_below(&longs, 4, 16), true);
+    expect_equal(&rt, entries_below(&longs, 4, 15), false);
+    Ok(())
+}
+
+#[test]
 fn half_bytes_are_read(rt: HostRuntime) -> Result<(), Fail> {
     let mut bytes = vec![in rt.alloc(); 0; 2048]?;
     bytes[64] = 0xDE;

@@ -6,4 +6,6 @@ pub mod LowFirst
 pub mod Unpacked
 pub mod Packed
 pub mod Laws
-pub mod Walks
+pub mod FirstUses
+pub mod InLongs
+pub mod Halves

@@ -1,5 +1,5 @@
 -- Working definitions: fields of bits within a number.
-use Rattle.std.specs.Prelude.{◌≡◌, ◌<◌, ◌≤◌, ℕ, ◌+◌, ◌*◌, ◌/◌, ◌%◌, ◌^◌, List, map}
+use Rattle.std.specs.Prelude.{◌≡◌, ◌<◌, ◌≤◌, ℕ, zero, suc, ◌+◌, ◌*◌, ◌/◌, ◌%◌, ◌^◌, List, map}
 use Rattle.std.specs.List.{range_with_len}
 
 -- n with its b bits from bit s on replaced by v
@@ -18,3 +18,12 @@ entries_of b n m = map (entry_of b n) (range_with_len 0 m)
 pub record DividesPlaces (m r : ℕ) : Type 0 where
   pub quotient : (i : ℕ) → i < 4096 → i * r / 2 ^ 16 ≡ i / m
   pub small : r ≤ 16384
+
+-- so many ones, w bits apart
+abbrev pub ones : ℕ → ℕ → ℕ
+ones w zero = 0
+ones w (suc k) = ones w k * 2 ^ w + 1
+
+-- every other of the entries of n, from the first on, is below `count`
+pub record IsHalfBelow (b count n : ℕ) : Type 0 where
+  pub each : (i : ℕ) → i < (64 / b + 1) / 2 → n / 2 ^ (2 * b * i) % 2 ^ b < count

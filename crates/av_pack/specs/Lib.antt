@@ -2,3 +2,4 @@ pub mod Packing
 pub mod Nibbles
 pub mod Fields
 pub mod Order
+pub mod Seen

@@ -1,15 +1,13 @@
 -- Numbers in the order of their first use.
-use Rattle.std.specs.Prelude.{ℕ, ◌+◌, ◌==◌, nat_lt, List, [], ◌∷◌, Bool, if◌then◌else◌}
+use Rattle.std.specs.Prelude.{◌≡◌, ◌<◌, ℕ, List, length, slice_index_or}
 
--- Below which number all came, once n came after those below `next`: 65,537 where n is neither one of those nor `next`.
-abbrev pub seen_with : ℕ → ℕ → ℕ
-seen_with next n = if n == next then next + 1 else (if nat_lt n next then next else 65537)
+-- n stands at a place behind smaller numbers alone
+pub record ComesAfterSmaller (ns : List ℕ) (n : ℕ) : Type 0 where
+  pub place : ℕ
+  pub within : place < length ns
+  pub there : slice_index_or ns place 0 ≡ n
+  pub smaller : (i : ℕ) → i < place → slice_index_or ns i 0 < n
 
--- the same once all of these came, in order
-abbrev pub seen_after : ℕ → List ℕ → ℕ
-seen_after next [] = next
-seen_after next (n ∷ ns) = seen_after (seen_with next n) ns
-
--- whether each of the numbers below `count` is there, and first after all smaller ones
-unfoldable pub are_in_order : ℕ → List ℕ → Bool
-are_in_order count ns = seen_after 0 ns == count
+-- each number below `count` is there, and first after smaller ones alone
+pub record AreInOrder (count : ℕ) (ns : List ℕ) : Type 0 where
+  pub each : (n : ℕ) → n < count → ComesAfterSmaller ns n

@@ -1,14 +1,16 @@
 -- A palette that is in the order of first use, as it is written.
 use Rattle.std.proofs.Common.{◌≡◌, ◌≢◌, ℕ, suc, ◌<◌, ◌≤◌, ◌+◌, nat_eq, ℤ, List, [], ◌∷◌, ◌++◌, length, get_or, map, take, Bool, true, false, cond, All, AllPairs, refl, sym, ap, subst, ◌∙◌, arith, inl, inr, get_or-take, length-append}
 use Rattle.std.specs.List.{list_any}
-use Rattle.std.proofs.lemmas.Bool.{cases_order, eq-eqb, eqb-true, ne_eqb, lt-ltb, le-ltb}
+use Rattle.std.proofs.lemmas.Bool.{cases_order, ne_eqb}
 use Rattle.std.proofs.lemmas.List.{take_more, take_all, length-take-le, length-map, get_or_default}
 use Rattle.std.proofs.lemmas.List.Elements.{All-head, All-tail}
 use Rattle.indexmap.specs.IndexSet.{insert_key, insert_all}
 use Rattle.av_pack.specs.Packing.{unpacked}
 use Rattle.av_pack.proofs.Laws.{length-unpacked, get_or-unpacked}
 use Rattle.av_section.specs.Packed.{IsPackedSection}
-use Rattle.av_pack.specs.Order.{seen_with, seen_after, are_in_order}
+use Rattle.av_pack.specs.Seen.{seen_with, seen_after}
+use Rattle.av_pack.specs.Order.{AreInOrder}
+use Rattle.av_pack.proofs.FirstUses.{seen_same, seen_before, seen_past, lost, in_order-seen}
 use Rattle.av_section.specs.WrittenPalette.{IsWritten, numbers_of}
 use Rattle.av_section.proofs.Once.{any_at}
 
@@ -17,15 +19,6 @@ none_of [] n h = refl
 none_of (k ∷ ks) n h = rw (ne_eqb n k (h 0 (omega arith)), none_of ks n (λ i low. h (suc i) (omega arith))) refl
 
 -- ---- one more
-
-seen_same : (k n : ℕ) → n ≡ k → seen_with k n ≡ k + 1
-seen_same k n e = rw (eq-eqb n k e) refl
-
-seen_before : (k n : ℕ) → n < k → seen_with k n ≡ k
-seen_before k n low = rw (ne_eqb n k (λ e. absurd (omega (arith, e, low))), lt-ltb n k low) refl
-
-seen_past : (k n : ℕ) → k < n → seen_with k n ≡ 65537
-seen_past k n high = rw (ne_eqb n k (λ e. absurd (omega (arith, e, high))), le-ltb n k (omega (arith, high))) refl
 
 module _ (palette : List ℕ) (distinct : AllPairs (λ x y. x ≢ y) palette) (few : length palette ≤ 65536) where
   abbrev number : ℕ → ℕ
@@ -46,12 +39,6 @@ module _ (palette : List ℕ) (distinct : AllPairs (λ x y. x ≢ y) palette) (f
       let at : get_or (take k palette) n (number n) ≡ number n = get_or_default (take k palette) n (number n) 0 within ∙ get_or-take k palette n 0 before in
       ap (λ b. cond b (take k palette) (take k palette ++ number n ∷ [])) (any_at (take k palette) (number n) n within at)
 
-  lost : (ns : List ℕ) → All (λ n. n < length palette) ns → seen_after 65537 ns ≡ 65537
-  lost [] all = refl
-  lost (n ∷ ns) all =
-      let low = All-head (λ n. n < length palette) n ns all in
-      ap (λ k. seen_after k ns) (seen_before 65537 n (omega (arith, low, few))) ∙ lost ns (All-tail (λ n. n < length palette) n ns all)
-
   inserted : (k : ℕ) (ns : List ℕ) → k ≤ length palette → All (λ n. n < length palette) ns → seen_after k ns ≤ length palette
       → insert_all nat_eq (take k palette) (map number ns) ≡ take (seen_after k ns) palette
   inserted k [] le all end = refl
@@ -71,7 +58,7 @@ module _ (palette : List ℕ) (distinct : AllPairs (λ x y. x ≢ y) palette) (f
               let left : seen_after k ns ≤ length palette = subst (λ i. seen_after i ns ≤ length palette) s end in
               ap (λ ks. insert_all nat_eq ks (map number ns)) (insert_known k n before le) ∙ inserted k ns le rest left ∙ ap (λ i. take (seen_after i ns) palette) (sym s))
           | inr past ↦ absurd (
-              let end_is : seen_after (seen_with k n) ns ≡ 65537 = ap (λ i. seen_after i ns) (seen_past k n past) ∙ lost ns rest in
+              let end_is : seen_after (seen_with k n) ns ≡ 65537 = ap (λ i. seen_after i ns) (seen_past k n past) ∙ lost (length palette) ns few rest in
               omega (arith, end_is, end, few))
         ]
       ]
@@ -87,11 +74,10 @@ insert_all-short ks [] = omega arith
 insert_all-short ks (x ∷ xs) = omega (arith, insert_all-short (insert_key nat_eq ks x) xs, short_if (list_any (nat_eq x) ks) ks x)
 
 -- such a palette is written as it is
-pub written_in_order : (palette indices : List ℕ) → AllPairs (λ x y. x ≢ y) palette → length palette ≤ 65536 → All (λ i. i < length palette) indices → are_in_order (length palette) indices ≡ true
+pub written_in_order : (palette indices : List ℕ) → AllPairs (λ x y. x ≢ y) palette → length palette ≤ 65536 → All (λ i. i < length palette) indices → AreInOrder (length palette) indices
     → IsWritten palette indices palette indices
-unfolding are_in_order
 written_in_order palette indices distinct few below ordered =
-    let end : seen_after 0 indices ≡ length palette = eqb-true (seen_after 0 indices) (length palette) ordered in
+    let end : seen_after 0 indices ≡ length palette = in_order-seen (length palette) indices below ordered in
     let all : insert_all nat_eq [] (numbers_of palette indices) ≡ palette =
     inserted palette distinct few 0 indices (omega arith) below (omega (arith, end)) ∙ ap (λ k. take k palette) end ∙ take_all (length palette) palette (omega arith) in
     record {

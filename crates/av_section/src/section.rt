@@ -2,7 +2,7 @@
 ghost use Rattle.std.specs.Prelude.{◌≡◌, ◌≢◌, ◌<◌, ◌≤◌, ◌^◌, ◌+◌, ◌↔◌, ◌++◌, [], ◌∷◌, ℕ, IsTrue, IfOk, IfErr, is_ok, if◌then◌else◌, length, slice_index, Contains};
 ghost use Rattle.av_types.specs.declared.fault.Fault.TheVariants.{OutOfMemory};
 ghost use Rattle.av_pack.specs.Packing.{bits_for, longs_for, unpacked};
-ghost use Rattle.av_pack.specs.Order.{are_in_order};
+ghost use Rattle.av_pack.specs.Order.{AreInOrder};
 ghost use Rattle.av_section.specs.Packed.{HasAllBelow, IsPackedSection};
 ghost use Rattle.std.proofs.Props.{props};
 
@@ -402,10 +402,10 @@ impl Section {
         self.write_reordered(alloc, table)
     }
 
-    /// Whether each entry of the palette is at some place, and first after all entries before it.
+    /// Whether each entry of the palette is at some place that has only earlier ones before it.
     fn is_in_order(&self) -> bool
         requires { length self.now.palette.items ≢ 1 }
-        ensures { result ≡ are_in_order (length self.now.palette.items) (unpacked self.now.bits self.now.longs.items) }
+        ensures { IsTrue result ↔ AreInOrder (length self.now.palette.items) (unpacked self.now.bits self.now.longs.items) }
     {
         used_in_order(self.longs.as_slice(), self.bits, self.palette.len())
     }
@@ -418,7 +418,7 @@ impl Section {
     ) -> Result<(Tag, Option<Tag>), AllocError>
         requires below { HasNumbersBelow self.now (length (states table.now)) }
         requires several { length self.now.palette.items ≢ 1 }
-        requires ordered { are_in_order (length self.now.palette.items) (unpacked self.now.bits self.now.longs.items) ≡ true }
+        requires ordered { AreInOrder (length self.now.palette.items) (unpacked self.now.bits self.now.longs.items) }
         ensures palette { IfOk result (λ tags. view tags.0 ≡ palette_tag (section_states (states table.now) self.now)) }
         ensures longs { IfOk result (λ tags. option_map view tags.1 ≡ data_tag (section_states (states table.now) self.now)) }
     {

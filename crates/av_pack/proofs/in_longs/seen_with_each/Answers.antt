@@ -1,5 +1,5 @@
-use Rattle.av_pack.proofs.Walks.{seen_more}
-use Rattle.av_pack.proofs.walking.seen_in_long.Goals as goal
+use Rattle.av_pack.proofs.InLongs.{seen_more}
+use Rattle.av_pack.proofs.in_longs.seen_with_each.Goals as goal
 
 pub loop-i-preserved : goal.loop-i-preserved
 loop-i-preserved c =

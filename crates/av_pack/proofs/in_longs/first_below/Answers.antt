@@ -1,7 +1,7 @@
 use Rattle.std.proofs.Common.{◌≡◌, ◌∙◌, sym, nat_lt, false, true, arith}
 use Rattle.std.proofs.lemmas.Bool.{lt-ltb, le-ltb}
-use Rattle.av_pack.proofs.Walks.{below-next, below-not}
-use Rattle.av_pack.proofs.walking.first_below.Goals as goal
+use Rattle.av_pack.proofs.InLongs.{below-next, below-not}
+use Rattle.av_pack.proofs.in_longs.first_below.Goals as goal
 
 pub returns-then-from-count : goal.returns-then-from-count
 returns-then-from-count c =

@@ -3,7 +3,7 @@ use Rattle.std.proofs.Common.{◌≡◌, ℕ, zero, suc, ◌+◌, ◌-◌, ◌*�
 use Rattle.std.specs.List.{range_with_len, list_all}
 use Rattle.std.proofs.lemmas.List.{same_lists, take_min}
 use Rattle.std.proofs.lemmas.List.FromFn.{length-map-range_with_len, get_or-map-range_with_len, map-range_with_len_more}
-use Rattle.std.proofs.lemmas.Bool.{lt-ltb, ne_eqb, cases_lt}
+use Rattle.std.proofs.lemmas.Bool.{lt-ltb, cases_lt}
 use Rattle.std.proofs.lemmas.Nat.{mod-pow-add, div-add-mod', and_mask, one_shl}
 use Rattle.std.proofs.lemmas.List.Folds.{list_all-append}
 use Rattle.std.proofs.lemmas.List.FromFn.{take-map-range_with_len}
@@ -11,7 +11,8 @@ use Rattle.std.proofs.Math.Seq.{drop-append_seam}
 use Rattle.std.proofs.Math.Nat.{mul-le-mul_left, mul-div-le, mod-one}
 use Rattle.av_pack.specs.Packing.{packed_at, long_at, longs_for, unpacked, packed, packed_long, low_first}
 use Rattle.av_pack.specs.Fields.{entry_of, entries_of}
-use Rattle.av_pack.specs.Order.{seen_with, seen_after, are_in_order}
+use Rattle.av_pack.specs.Seen.{seen_with, seen_after}
+use Rattle.av_pack.proofs.FirstUses.{seen_before}
 use Rattle.av_pack.proofs.Slots.{some_in_long}
 use Rattle.av_pack.proofs.Laws.{packed_at-lt}
 use Rattle.av_pack.proofs.LowFirst.{low_first-push}
@@ -140,16 +141,20 @@ below-refused b j count longs h =
     ∙ list_all-append (λ x. nat_lt x count) (walked b longs j) (left b longs j)
     ∙ and_unless (below count (walked b longs j)) (below count (left b longs j)) h
 
-all_small : (f : ℕ → ℕ) (count a n : ℕ) → ((i : ℕ) → f i < count) → below count (map f (range_with_len a n)) ≡ true
+all_small : (f : ℕ → ℕ) (count a n : ℕ) → ((i : ℕ) → i < a + n → f i < count) → below count (map f (range_with_len a n)) ≡ true
 all_small f count a zero h = refl
-all_small f count a (suc n) h = and_if (nat_lt (f a) count) (below count (map f (range_with_len (a + 1) n))) (lt-ltb (f a) count (h a)) ∙ all_small f count (a + 1) n h
+all_small f count a (suc n) h = and_if (nat_lt (f a) count) (below count (map f (range_with_len (a + 1) n))) (lt-ltb (f a) count (h a (omega arith))) ∙ all_small f count (a + 1) n (λ i low. h i (omega arith))
+
+-- a long whose entries are all below
+pub below-at_once : (b n few count : ℕ) → few ≤ 64 / b → ((i : ℕ) → i < 64 / b → entry_of b n i < count) → below count (entries_of b n few) ≡ true
+below-at_once b n few count within h = all_small (entry_of b n) count 0 few (λ i low. h i (omega (arith, low, within)))
 
 -- no entry is too great
 pub below-all : (b count : ℕ) (longs : List ℤ) → b ≤ 16 → 1 * 2 ^ b % 2 ^ 64 ≤ count → below count (unpacked b longs) ≡ true
 unfolding unpacked
 below-all b count longs high le =
     let fits : 2 ^ b ≤ count = subst (λ k. k ≤ count) (shl_one b high) le in
-    all_small (packed_at b longs) count 0 4096 (λ i. omega (arith, fits, packed_at-lt b longs i))
+    all_small (packed_at b longs) count 0 4096 (λ i low. omega (arith, fits, packed_at-lt b longs i))
 
 -- ---- in order
 
@@ -185,8 +190,7 @@ seen_long b j n next new longs low high within en s is few = record {
   few = few;
 }
 
-pub seen_all : (b j next count : ℕ) (longs : List ℤ) → 4 ≤ b → b ≤ 16 → j ≡ longs_for b → SeenSome b longs next j → (next == count) ≡ are_in_order count (unpacked b longs)
-unfolding are_in_order
+pub seen_all : (b j next count : ℕ) (longs : List ℤ) → 4 ≤ b → b ≤ 16 → j ≡ longs_for b → SeenSome b longs next j → (next == count) ≡ (seen_after 0 (unpacked b longs) == count)
 seen_all b j next count longs low high all s = ap (λ k. k == count) (s.next_is ∙ ap (seen_after 0) (walked-all b j longs low high all))
 
 seen_stays : (f : ℕ → ℕ) (next a n : ℕ) → ((i : ℕ) → i < a + n → f i < next) → seen_after next (map f (range_with_len a n)) ≡ next
@@ -194,13 +198,13 @@ seen_stays f next a zero h = refl
 seen_stays f next a (suc n) h =
     ap (λ k. seen_after k (map f (range_with_len (a + 1) n))) (seen_before next (f a) (h a (omega arith)))
     ∙ seen_stays f next (a + 1) n (λ i low. h i (omega arith))
-  where
-    seen_before : (next n : ℕ) → n < next → seen_with next n ≡ next
-    seen_before next n low = rw (ne_eqb n next (λ e. absurd (omega (arith, e, low))), lt-ltb n next low) refl
+
+-- a long of entries that all came before
+pub seen_none_new : (b n few next : ℕ) → few ≤ 64 / b → ((i : ℕ) → i < 64 / b → entry_of b n i < next) → seen_after next (entries_of b n few) ≡ next
+seen_none_new b n few next within h = seen_stays (entry_of b n) next 0 few (λ i low. h i (omega (arith, low, within)))
 
 -- those that are left change nothing
-pub seen_enough : (b j next count : ℕ) (longs : List ℤ) → ((i : ℕ) → i < 4096 → packed_at b longs i < count) → count ≤ next → SeenSome b longs next j → (next == count) ≡ are_in_order count (unpacked b longs)
-unfolding are_in_order
+pub seen_enough : (b j next count : ℕ) (longs : List ℤ) → ((i : ℕ) → i < 4096 → packed_at b longs i < count) → count ≤ next → SeenSome b longs next j → (next == count) ≡ (seen_after 0 (unpacked b longs) == count)
 seen_enough b j next count longs small enough s =
     let whole : min 4096 (64 / b * j) + (4096 - min 4096 (64 / b * j)) ≡ 4096 = omega arith in
     ap (λ k. k == count)

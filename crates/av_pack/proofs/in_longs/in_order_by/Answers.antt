@@ -2,12 +2,13 @@ use Rattle.std.proofs.Common.{◌≡◌, ◌<◌, ◌^◌, ◌∙◌, ap, arith,
 use Rattle.std.proofs.lemmas.Int.{of_z-to_z}
 use Rattle.av_pack.specs.Packing.{longs_for}
 use Rattle.av_pack.specs.Fields.{entries_of}
-use Rattle.av_pack.specs.Order.{seen_after}
-use Rattle.av_pack.proofs.Walks.{seen_long, seen_all, seen_enough}
-use Rattle.av_pack.proofs.walking.in_order_by.Goals as goal
+use Rattle.av_pack.specs.Seen.{seen_after}
+use Rattle.av_pack.proofs.FirstUses.{order_told}
+use Rattle.av_pack.proofs.InLongs.{seen_long, seen_all, seen_enough}
+use Rattle.av_pack.proofs.in_longs.in_order_by.Goals as goal
 
 pub returns-then-next-count : goal.returns-then-next-count
-returns-then-next-count c = seen_enough c.args.bits c.loop-i.i c.loop-i.next c.args.count c.args.longs.now c.requires.below c.if-next-count.true c.loop-i.invariant
+returns-then-next-count c = order_told c.args.bits c.args.count c.args.longs.now _ c.requires.few c.requires.below (seen_enough c.args.bits c.loop-i.i c.loop-i.next c.args.count c.args.longs.now c.requires.below c.if-next-count.true c.loop-i.invariant)
 
 pub loop-i-preserved : goal.loop-i-preserved
 loop-i-preserved c =
@@ -19,4 +20,4 @@ loop-i-preserved c =
 pub returns : goal.returns
 returns c =
     let all : c.loop-i.i ≡ length c.args.longs.now = omega arith in
-    seen_all c.args.bits c.loop-i.i c.loop-i.next c.args.count c.args.longs.now c.requires.low c.requires.high (all ∙ c.requires.count) c.loop-i.invariant
+    order_told c.args.bits c.args.count c.args.longs.now _ c.requires.few c.requires.below (seen_all c.args.bits c.loop-i.i c.loop-i.next c.args.count c.args.longs.now c.requires.low c.requires.high (all ∙ c.requires.count) c.loop-i.invariant)

@@ -1,8 +1,8 @@
 use Rattle.std.proofs.Common.{◌≡◌, ◌<◌, ◌%◌, ◌^◌, ◌∙◌, ap, arith, rules, length, of_z, to_z, w64, pos, get_or, FitsSigned}
 use Rattle.std.proofs.lemmas.Int.{of_z-to_z, to_z-of_z}
 use Rattle.av_pack.specs.Packing.{longs_for}
-use Rattle.av_pack.proofs.Walks.{cleaned-more, cleaned-all}
-use Rattle.av_pack.proofs.walking.cleaned.Goals as goal
+use Rattle.av_pack.proofs.InLongs.{cleaned-more, cleaned-all}
+use Rattle.av_pack.proofs.in_longs.cleaned.Goals as goal
 
 pub loop-i-preserved : goal.loop-i-preserved
 loop-i-preserved c =

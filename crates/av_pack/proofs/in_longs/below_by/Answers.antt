@@ -2,8 +2,8 @@ use Rattle.std.proofs.Common.{◌≡◌, ◌<◌, ◌+◌, ◌^◌, ◌∙◌, s
 use Rattle.std.proofs.lemmas.Int.{of_z-to_z}
 use Rattle.av_pack.specs.Packing.{longs_for}
 use Rattle.av_pack.specs.Fields.{entries_of}
-use Rattle.av_pack.proofs.Walks.{below, below-walked, below-refused, walked-all}
-use Rattle.av_pack.proofs.walking.below_by.Goals as goal
+use Rattle.av_pack.proofs.InLongs.{below, below-walked, below-refused, walked-all}
+use Rattle.av_pack.proofs.in_longs.below_by.Goals as goal
 
 pub returns-then-not-long_below : goal.returns-then-not-long_below
 returns-then-not-long_below c =
