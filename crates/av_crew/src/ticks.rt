@@ -36,6 +36,17 @@ fn skips_plan<G: Gate>(gate: &G, workers: usize, entries: usize) -> bool {
     workers == 1 || entries <= FEW
 }
 
+/// Whether one part has two thirds of the entries, or more. A part costs half as much again as its entries turned on the
+/// world itself, so the worker that has such a part is not done sooner than they all are there.
+fn is_lopsided(clusters: &[Cluster], entries: usize) -> bool {
+    for cluster in clusters {
+        if cluster.entries.len() >= entries - entries / 3 {
+            return true;
+        }
+    }
+    false
+}
+
 /// Turns the parts of a plan, and appends what they made.
 fn turn_planned<R: Threads + Wait + Sync, G: Gate + Sync>(
     rt: &R,
@@ -92,8 +103,8 @@ fn turn_taken<R: Threads + Wait + Sync, G: Gate + Sync>(
     let Ok(clusters) = plan(alloc, world, entries) else {
         return Err(AllocError);
     };
-    // A single part is the whole tick: nothing of it is moved.
-    if clusters.len() == 1 && !gate.watches() {
+    // Nothing is moved where all workers but one would soon have nothing to do.
+    if !gate.watches() && is_lopsided(clusters.as_slice(), entries.len()) {
         return turn_all(world, kinds, now, entries);
     }
     turn_planned(rt, world, kinds, now, clusters, entries, workers, gate)

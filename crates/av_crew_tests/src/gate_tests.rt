@@ -180,21 +180,52 @@ const ALONE: RowTick<'static> = RowTick {
     ..TWO_ROWS
 };
 
+/// Thirty-nine entries of two parts, of which one has 26: two thirds.
+const LOPSIDED: RowTick<'static> = RowTick {
+    ranges: &[(0, 13), (37, 63)],
+    workers: 2,
+    count: 39,
+    wet: 120,
+};
+
+/// One less: 25 are not two thirds of 38.
+const UNEVEN: RowTick<'static> = RowTick {
+    ranges: &[(0, 13), (37, 62)],
+    workers: 2,
+    count: 38,
+    wet: 117,
+};
+
 /// A gate that watches is told of each part, whatever it costs.
 #[test]
 fn a_watching_gate_is_told_of_each_part(rt: HostRuntime) -> Result<(), Fail> {
     let alloc = rt.alloc();
-    for (row, parts) in [(FEW, 1), (LONG, 1), (TWO_ROWS, 2), (ALONE, 2)] {
+    for (row, parts) in [
+        (FEW, 1),
+        (LONG, 1),
+        (TWO_ROWS, 2),
+        (ALONE, 2),
+        (LOPSIDED, 2),
+        (UNEVEN, 2),
+    ] {
         assert_eq!(rt; told(&rt, alloc, true, row)?, parts);
     }
     Ok(())
 }
 
-/// For another one few entries, those of one part and those of one worker are turned without jobs, and others in parts.
+/// For another one few entries, those of which one part has two thirds and those of one worker are turned without jobs, and
+/// others in parts.
 #[test]
 fn another_gate_is_told_of_parts_of_many_entries(rt: HostRuntime) -> Result<(), Fail> {
     let alloc = rt.alloc();
-    for (row, parts) in [(FEW, 0), (LONG, 0), (TWO_ROWS, 2), (ALONE, 0)] {
+    for (row, parts) in [
+        (FEW, 0),
+        (LONG, 0),
+        (TWO_ROWS, 2),
+        (ALONE, 0),
+        (LOPSIDED, 0),
+        (UNEVEN, 2),
+    ] {
         assert_eq!(rt; told(&rt, alloc, false, row)?, parts);
     }
     Ok(())
