@@ -186,16 +186,37 @@ fn many_entries_leave(rt: HostRuntime) -> Result<(), Fail> {
     Ok(())
 }
 
-/// Of 200 entries, 67 are due in tick 0, at z 0, 3 and so on to 198. The others stand in their order.
+/// Of 200 entries, each due in the tick of its z, 4 leave in tick 3. One of them can come again, behind the others.
 #[test]
-fn many_entries_leave_without_an_index(rt: HostRuntime) -> Result<(), Fail> {
-    let mut list = many(rt.alloc())?.without_index()?;
-    expect_equal(&rt, (list.len(), list.soonest()), (200, 0));
-    expect_equal(&rt, list.has(entry(199, 0, 0).pos), true);
+fn few_of_many_leave(rt: HostRuntime) -> Result<(), Fail> {
+    let mut list = TickList::new(rt.alloc());
+    for z in 0..200 {
+        list.add(entry(z, i64::from(z), 0))?;
+    }
+    list.drop_due(3);
+    expect_equal(&rt, (list.len(), list.soonest()), (196, 4));
+    expect_equal(&rt, list.has(entry(3, 0, 0).pos), false);
+    expect_equal(&rt, list.has(entry(4, 0, 0).pos), true);
+    expect_equal(&rt, list.add(entry(3, 9, 0))?, true);
+    expect_equal(&rt, list.has(entry(3, 0, 0).pos), true);
+    expect_equal(&rt, list.iter().next().copied(), Some(entry(4, 4, 0)));
+    expect_equal(&rt, list.iter().last().copied(), Some(entry(3, 9, 0)));
+    Ok(())
+}
+
+/// Of 200 entries, 67 are due in tick 0, at z 0, 3 and so on to 198. One of them can come again, behind those that stayed.
+#[test]
+fn one_of_many_that_left_comes_again(rt: HostRuntime) -> Result<(), Fail> {
+    let mut list = many(rt.alloc())?;
     list.drop_due(0);
-    expect_equal(&rt, (list.len(), list.soonest()), (133, 1));
-    expect_equal(&rt, list.iter().next().copied(), Some(one_of_many(1)));
     expect_equal(&rt, list.has(entry(198, 0, 0).pos), false);
+    expect_equal(&rt, list.has(entry(199, 0, 0).pos), true);
+    expect_equal(&rt, list.add(entry(199, 7, 0))?, false);
+    expect_equal(&rt, list.add(entry(198, 7, 0))?, true);
+    expect_equal(&rt, list.has(entry(198, 0, 0).pos), true);
+    expect_equal(&rt, list.len(), 134);
+    expect_equal(&rt, list.iter().next().copied(), Some(one_of_many(1)));
+    expect_equal(&rt, list.iter().last().copied(), Some(entry(198, 7, 0)));
     Ok(())
 }
 

@@ -101,7 +101,5 @@ pub(crate) fn read_ticks(
             None => foreign.push(tick)?,
         }
     }
-    // From here on the list is gone through, and not asked for positions.
-    let water = water.without_index()?;
     Ok(Ticks { water, foreign })
 }

@@ -1,4 +1,5 @@
 pub mod EntryOrder
+pub mod Index
 pub mod Kept
 pub mod Least
 pub mod Lookup

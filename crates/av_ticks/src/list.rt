@@ -190,18 +190,6 @@ impl TickList {
         Ok(())
     }
 
-    /// The same entries without an index of their positions. For a list that is not asked for positions: an index is made
-    /// anew each time that entries leave. Refuses with OutOfMemory alone.
-    pub fn without_index(self) -> Result<TickList, Fault>
-        ensures entries { IfOk result (λ list. entries list ≡ entries self) }
-        ensures err { IfErr result (λ e. e ≡ OutOfMemory) }
-    {
-        Ok(TickList {
-            store: self.store.without_index()?,
-            soonest: self.soonest,
-        })
-    }
-
     /// The entries that are due in tick `now` or before it, by their time, then by their priority, the lower first,
     /// then by their place in the list. They stay in it. Refuses with OutOfMemory alone, and of an empty list never.
     pub fn take_due(&self, now: u32) -> Result<Vec<Entry>, Fault>

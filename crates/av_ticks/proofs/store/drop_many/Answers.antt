@@ -1,16 +1,14 @@
--- The entries that are kept, each under its own key.
-use Rattle.std.proofs.Common.{not, rules}
+-- The later times are kept, each under its key.
+use Rattle.std.proofs.Common.{◌∙◌, ap, rules}
+use Rattle.std.specs.Map.{lookup}
 use Rattle.indexmap.proofs.CallerLemmas.{filter-RetainsPairs}
-use Rattle.av_ticks.specs.Entries.{is_due}
-use Rattle.av_ticks.proofs.Kept.{kept}
+use Rattle.av_ticks.specs.Keys.{is_at, is_after, if_after}
+use Rattle.av_ticks.proofs.Index.{lookup_later}
 use Rattle.av_ticks.proofs.store.drop_many.Goals as goal
 
-pub returns-clause-keyed : goal.returns-clause-keyed
-returns-clause-keyed c =
-    let stays = filter-RetainsPairs _ (λ p. not (is_due c.args.now p.1)) _ (λ k v b w g call. search rules) _ _ c.retain.ensures.filtered in
-    rw stays ((kept (λ e. not (is_due c.args.now e)) c.args.many.now.entries c.requires).keyed)
-
-pub returns-clause-entries : goal.returns-clause-entries
-returns-clause-entries c =
-    let stays = filter-RetainsPairs _ (λ p. not (is_due c.args.now p.1)) _ (λ k v b w g call. search rules) _ _ c.retain.ensures.filtered in
-    rw stays ((kept (λ e. not (is_due c.args.now e)) c.args.many.now.entries c.requires).values)
+pub returns-clause-times : goal.returns-clause-times
+returns-clause-times c = λ p.
+    let now = c.from-now.result in
+    let stays = filter-RetainsPairs _ (λ t. is_after now t.1) _ (λ k v b w g call. search rules) _ _ c.retain.ensures.filtered in
+    let kept = lookup_later now p c.args.times.now.entries c.len-len.ensures.unique in
+    ap (lookup (is_at p)) stays ∙ (kept ∙ ap (λ n. if_after n (lookup (is_at p) c.args.times.now.entries)) c.from-now.ensures)
