@@ -1,114 +1,89 @@
--- The first row of each name.
-use Rattle.std.proofs.Common.{◌≡◌, ℕ, zero, suc, ◌+◌, ◌<◌, ◌≤◌, List, [], ◌∷◌, ◌++◌, length, take, drop, Bool, true, false, ◌&&◌, not, Option, Some, None, Vec, Global, unwrap_or, cond, refl, ap, ◌∙◌, sym, subst, arith}
+-- The first row of each bucket of names.
+use Rattle.std.proofs.Common.{◌≡◌, ◌≢◌, ℕ, zero, suc, ◌+◌, ◌-◌, ◌^◌, ◌<◌, ◌≤◌, ◌==◌, ◌&&◌, List, [], ◌∷◌, length, drop, set, min, slice_index, Bool, true, false, not, cond, refl, ap, ◌∙◌, sym, subst, arith}
 use Rattle.std.specs.Str.{bytes_eq}
+use Rattle.std.specs.List.{position_or_len}
+use Rattle.std.proofs.lemmas.Bool.{true≢false}
 use Rattle.std.proofs.lemmas.Slice.Eq.{bytes_eq-Decides}
-use Rattle.std.proofs.lemmas.Option.{none-some, same_Some}
-use Rattle.std.proofs.lemmas.List.{length-append, take_all, take-append-le}
-use Rattle.std.proofs.lemmas.List.Folds.{list_all-append}
-use Rattle.std.proofs.Math.Seq.{take-append_seam}
-use Rattle.indexmap.specs.IndexMap.{insert_entry}
+use Rattle.std.proofs.lemmas.Bool.Decides.{Decides-eqb}
+use Rattle.std.proofs.lemmas.List.{get_or-set_same, get_or-set_other}
+use Rattle.std.proofs.lemmas.List.Sums.{prefix_len-le-length}
+use Rattle.std.proofs.Math.Nat.{min-le_left}
+use Rattle.std.proofs.lemmas.Nat.{and_le_r}
 use Rattle.av_state.specs.BlockState.{BlockState}
-use Rattle.av_rules.specs.FirstRows.{noted_for, with_note, none_named, AreFirstRows}
-use Rattle.av_rules.specs.declared.row.Row.{Row}
-use Rattle.av_rules.specs.Rows.{TableRow, first_row, shut_row, has_properties}
+use Rattle.av_rules.specs.FirstRows.{bucket_of, head_for, AreFirstRows}
+use Rattle.av_rules.specs.Rows.{TableRow, first_row, has_properties}
 
-false_true : {A : Type 0} → false ≡ true → A
-false_true h = absurd cc
+-- whether a row's name falls into bucket b
+abbrev pub falls : ℕ → ℕ → TableRow → Bool
+falls count b t = bucket_of count t.name == b
 
--- ---- the search may begin at the first row of the name
+-- ---- the search may begin at the head of the name's bucket
 
-named_first : (t : TableRow) (s : BlockState) (ts : List TableRow) (xs : List TableRow) (r : Row) → (bytes_eq t.name s.name ≡ false → none_named s.name xs ≡ true → r ≡ first_row ts s)
-    → none_named s.name (t ∷ xs) ≡ true → r ≡ first_row (t ∷ ts) s
-named_first t s ts xs r more h = by (bytes_eq t.name s.name) refl h
-  where
-    by : (b : Bool) → bytes_eq t.name s.name ≡ b → (not (bytes_eq t.name s.name) && none_named s.name xs) ≡ true → r ≡ first_row (t ∷ ts) s
-    by true e k = false_true (sym (ap (λ c. not c && none_named s.name xs) e) ∙ k)
-    by false e k = more e (sym (ap (λ c. not c && none_named s.name xs) e) ∙ k) ∙ sym (ap (λ c. cond (c && has_properties s.properties t.properties) t.row (first_row ts s)) e)
-
-pub skip : (rows : List TableRow) (j : ℕ) (s : BlockState) → none_named s.name (take j rows) ≡ true → first_row (drop j rows) s ≡ first_row rows s
-skip rows zero s h = refl
-skip [] (suc j) s h = refl
-skip (t ∷ ts) (suc j) s h = named_first t s ts (take j ts) (first_row (drop j ts) s) (λ e k. skip ts j s k) h
-
-pub shut : (rows : List TableRow) (s : BlockState) → none_named s.name rows ≡ true → shut_row ≡ first_row rows s
-shut [] s h = refl
-shut (t ∷ ts) s h = named_first t s ts ts shut_row (λ e k. shut ts s k) h
-
--- ---- a row is noted
-
-pub noted_insert : (k : Vec ℕ Global) (v : ℕ) (es : List (Vec ℕ Global × ℕ)) → noted_for es k.items ≡ None → (q : List ℕ)
-    → noted_for (insert_entry (λ x y. bytes_eq x.items y.items) es k v) q ≡ with_note v k.items q (noted_for es q)
-noted_insert k v [] h q = refl
-noted_insert k v (e ∷ es) h q = by (bytes_eq k.items e.0.items) refl h (λ x. noted_insert k v es x q)
-  where
-    other : (b : Bool) → noted_for (insert_entry (λ x y. bytes_eq x.items y.items) es k v) q ≡ with_note v k.items q (noted_for es q)
-        → cond b (Some e.1) (noted_for (insert_entry (λ x y. bytes_eq x.items y.items) es k v) q) ≡ with_note v k.items q (cond b (Some e.1) (noted_for es q))
-    other true more = refl
-    other false more = more
-
-    by : (b : Bool) → bytes_eq k.items e.0.items ≡ b → cond (bytes_eq k.items e.0.items) (Some e.1) (noted_for es k.items) ≡ None
-        → (noted_for es k.items ≡ None → noted_for (insert_entry (λ x y. bytes_eq x.items y.items) es k v) q ≡ with_note v k.items q (noted_for es q))
-        → noted_for (insert_entry (λ x y. bytes_eq x.items y.items) (e ∷ es) k v) q ≡ with_note v k.items q (noted_for (e ∷ es) q)
-    by true b x more = absurd (none-some e.1 (sym x ∙ ap (λ c. cond c (Some e.1) (noted_for es k.items)) b))
-    by false b x more =
-        ap (λ c. noted_for (cond c ((e.0, v) ∷ es) (e ∷ insert_entry (λ x y. bytes_eq x.items y.items) es k v)) q) b
-        ∙ other (bytes_eq q e.0.items) (more (sym (ap (λ c. cond c (Some e.1) (noted_for es k.items)) b) ∙ x))
-
--- a name that is noted stays so
-pub noted_already : (i j : ℕ) (n q : List ℕ) (find : List ℕ → Option ℕ) → find n ≡ Some j → find q ≡ with_note i n q (find q)
-noted_already i j n q find h = by (find q) refl
-  where
-    same : (b : Bool) → bytes_eq q n ≡ b → find q ≡ None → None ≡ cond b (Some i) None
-    same true e x = absurd (none-some j (sym x ∙ ap find ((bytes_eq-Decides q n).0 e) ∙ h))
-    same false e x = refl
-
-    by : (o : Option ℕ) → find q ≡ o → find q ≡ with_note i n q (find q)
-    by (Some k) e = e ∙ sym (ap (with_note i n q) e)
-    by None e = e ∙ same (bytes_eq q n) refl e ∙ sym (ap (with_note i n q) e)
-
--- ---- one row more
-
-turned : (a b : List ℕ) → bytes_eq a b ≡ false → bytes_eq b a ≡ false
-turned a b h = by (bytes_eq b a) refl
-  where
-    by : (c : Bool) → bytes_eq b a ≡ c → c ≡ false
-    by true e = absurd (false_true (sym h ∙ (bytes_eq-Decides a b).1 (sym ((bytes_eq-Decides b a).0 e))))
-    by false e = refl
-
-module _ (rows : List TableRow) (t : TableRow) (find after : List ℕ → Option ℕ) (noted : (q : List ℕ) → after q ≡ with_note (length rows) t.name q (find q)) (first : AreFirstRows rows find) where
-  abbrev more : List TableRow
-  more = rows ++ t ∷ []
-
-  within_more : (q : List ℕ) (j : ℕ) (o : Option ℕ) → find q ≡ o → with_note (length rows) t.name q o ≡ Some j → j < length rows + 1
-  within_more q j (Some i) e h =
-      let low : i < length rows = first.within q i e in
-      let same : i ≡ j = same_Some i j h in
-      omega (arith, low, same)
-  within_more q j None e h = by (bytes_eq q t.name) h
+-- where each row of the state's name passes, rows before the first that passes are not for it
+module _ (s : BlockState) (p : TableRow → Bool) (named : (t : TableRow) → bytes_eq t.name s.name ≡ true → p t ≡ true) where
+  apart : (t : TableRow) → p t ≡ false → bytes_eq t.name s.name ≡ false
+  apart t h = by (bytes_eq t.name s.name) refl
     where
-      by : (b : Bool) → cond b (Some (length rows)) None ≡ Some j → j < length rows + 1
-      by true x = let same : length rows ≡ j = same_Some (length rows) j x in omega (arith, same)
-      by false x = absurd (none-some j x)
+      by : (b : Bool) → bytes_eq t.name s.name ≡ b → b ≡ false
+      by true e = absurd (true≢false (sym (named t e) ∙ h))
+      by false e = refl
 
-  none_more : (q : List ℕ) → none_named q rows ≡ true → bytes_eq q t.name ≡ false → none_named q more ≡ true
-  none_more q h e = list_all-append (λ x. not (bytes_eq x.name q)) rows (t ∷ []) ∙ ap (λ b. b && (not (bytes_eq t.name q) && true)) h ∙ ap (λ b. not b && true) (turned q t.name e)
+  skip_one : (t : TableRow) (ts : List TableRow) (n : ℕ) (b : Bool) → p t ≡ b → suc n ≤ cond (not b) (1 + position_or_len p ts) 0
+      → (n ≤ position_or_len p ts → first_row (drop n ts) s ≡ first_row ts s) → first_row (drop n ts) s ≡ first_row (t ∷ ts) s
+  skip_one t ts n true e low more = absurd (omega (arith, low))
+  skip_one t ts n false e low more = more (omega (arith, low)) ∙ sym (ap (λ c. cond (c && has_properties s.properties t.properties) t.row (first_row ts s)) (apart t e))
 
-  apart_more : (q : List ℕ) (o : Option ℕ) → find q ≡ o → none_named q (take (unwrap_or (with_note (length rows) t.name q o) (length more)) more) ≡ true
-  apart_more q (Some i) e =
-      let low : i < length rows = first.within q i e in
-      let low_enough : i ≤ length rows = omega (arith, low) in
-      ap (none_named q) (take-append-le i rows (t ∷ []) low_enough) ∙ sym (ap (λ o. none_named q (take (unwrap_or o (length rows)) rows)) e) ∙ first.apart q
-  apart_more q None e = by (bytes_eq q t.name) refl
-    where
-      none : none_named q rows ≡ true
-      none = sym (ap (none_named q) (take_all (length rows) rows (omega arith))) ∙ sym (ap (λ o. none_named q (take (unwrap_or o (length rows)) rows)) e) ∙ first.apart q
+  pub skip : (rows : List TableRow) (n : ℕ) → n ≤ position_or_len p rows → first_row (drop n rows) s ≡ first_row rows s
+  skip rows zero h = refl
+  skip [] (suc n) h = refl
+  skip (t ∷ ts) (suc n) h = skip_one t ts n (p t) refl h (λ k. skip ts n k)
 
-      by : (b : Bool) → bytes_eq q t.name ≡ b → none_named q (take (unwrap_or (cond b (Some (length rows)) None) (length more)) more) ≡ true
-      by true x = ap (none_named q) (take-append_seam rows (t ∷ [])) ∙ none
-      by false x = ap (none_named q) (take_all (length more) more (omega arith)) ∙ none_more q none x
+module _ (rows : List TableRow) (heads : List ℕ) (firsts : AreFirstRows rows heads) (some : 0 < length heads) where
+  head_low : (name : List ℕ) → head_for heads name ≤ position_or_len (falls (length heads) (bucket_of (length heads) name)) rows
+  head_low name =
+      let b = bucket_of (length heads) name in
+      let low : b ≤ length heads - 1 = and_le_r _ (length heads - 1) in
+      let is = firsts b (omega (arith, low, some)) in
+      let least = min-le_left (position_or_len (falls (length heads) b) rows) (2 ^ 32 - 1) in
+      omega (arith, is, least)
 
-  pub first_more : AreFirstRows (rows ++ t ∷ []) after
-  first_more = record {
-    within = λ q j h. subst (λ n. j < n) (sym (length-append rows (t ∷ []))) (within_more q j (find q) refl (sym (noted q) ∙ h));
-    apart = λ q. ap (λ o. none_named q (take (unwrap_or o (length more)) more)) (noted q) ∙ apart_more q (find q) refl;
-  }
+  pub head_within : (name : List ℕ) → head_for heads name ≤ length rows
+  head_within name =
+      let low = head_low name in
+      let most = prefix_len-le-length (λ t. not (falls (length heads) (bucket_of (length heads) name) t)) rows in
+      omega (arith, low, most)
+
+  pub row_from_head : (s : BlockState) → first_row (drop (head_for heads s.name) rows) s ≡ first_row rows s
+  row_from_head s =
+      let b = bucket_of (length heads) s.name in
+      skip s (falls (length heads) b) (λ t e. (Decides-eqb (bucket_of (length heads) t.name) b).1 (ap (bucket_of (length heads)) ((bytes_eq-Decides t.name s.name).0 e))) rows (head_for heads s.name) (head_low s.name)
+
+-- ---- a row is stored, from the last to the first
+
+-- each bucket has the first of the rows from i on
+abbrev pub AreFirstFrom : ℕ → List TableRow → ℕ → List ℕ → Type 0
+AreFirstFrom count rows i heads = (b : ℕ) → b < count → slice_index heads b ≡ min (i + position_or_len (falls count b) (drop i rows)) (2 ^ 32 - 1)
+
+-- the row of index i is stored over those behind it
+module _ (count : ℕ) (rows : List TableRow) (i : ℕ) (heads : List ℕ) (t : TableRow) (long : count ≡ length heads) (within : bucket_of count t.name < count) (parts : drop i rows ≡ t ∷ drop (suc i) rows)
+    (firsts : AreFirstFrom count rows (suc i) heads) where
+  abbrev head : ℕ
+  head = min i (2 ^ 32 - 1)
+
+  abbrev after : List ℕ
+  after = set heads (bucket_of count t.name) head
+
+  one : (b : ℕ) → b < count → (c : Bool) → falls count b t ≡ c → slice_index after b ≡ min (i + cond (not c) (1 + position_or_len (falls count b) (drop (suc i) rows)) 0) (2 ^ 32 - 1)
+  one b low true e =
+      let same : bucket_of count t.name ≡ b = (Decides-eqb (bucket_of count t.name) b).0 e in
+      let here : slice_index after (bucket_of count t.name) ≡ head = get_or-set_same heads (bucket_of count t.name) head 0 (subst (λ k. bucket_of count t.name < k) long within) in
+      let none : i ≡ i + 0 = omega arith in
+      sym (ap (slice_index after) same) ∙ here ∙ ap (λ n. min n (2 ^ 32 - 1)) none
+  one b low false e =
+      let other : b ≢ bucket_of count t.name = λ k. true≢false (sym ((Decides-eqb (bucket_of count t.name) b).1 (sym k)) ∙ e) in
+      let rest = position_or_len (falls count b) (drop (suc i) rows) in
+      let next : suc i + rest ≡ i + (1 + rest) = omega arith in
+      get_or-set_other heads (bucket_of count t.name) b head 0 other ∙ firsts b low ∙ ap (λ n. min n (2 ^ 32 - 1)) next
+
+  pub one_more : AreFirstFrom count rows i after
+  one_more b low = one b low (falls count b t) refl ∙ sym (ap (λ rest. min (i + position_or_len (falls count b) rest) (2 ^ 32 - 1)) parts)

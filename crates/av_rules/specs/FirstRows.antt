@@ -1,26 +1,25 @@
 -- Working definitions. No public clause cites them.
--- The first row of each name.
-use Rattle.std.specs.Prelude.{◌≡◌, ◌<◌, ℕ, List, Bool, true, if◌then◌else◌, Option, Some, None, Vec, length, take, not, unwrap_or}
-use Rattle.std.specs.declared.alloc.Global.{Global}
-use Rattle.std.specs.List.{list_all}
-use Rattle.std.specs.Map.{lookup}
-use Rattle.std.specs.Str.{bytes_eq}
+-- The first row of each bucket of names.
+use Rattle.std.specs.Prelude.{◌≡◌, ℕ, List, ◌+◌, ◌-◌, ◌*◌, ◌/◌, ◌%◌, ◌^◌, ◌==◌, min, length, take, fold, bit_and, slice_index, EachIndex}
+use Rattle.std.specs.List.{position_or_len}
 use Rattle.av_rules.specs.Rows.{TableRow}
 
--- the row that is noted for a name
-abbrev pub noted_for : List (Vec ℕ Global × ℕ) → List ℕ → Option ℕ
-noted_for noted name = lookup (λ key. bytes_eq name key.items) noted
+-- a hash of a name, by its first 64 bytes
+abbrev pub hash_of : List ℕ → ℕ
+hash_of name = fold (λ hash byte. (hash + byte) * 11400714819323198485 % 2 ^ 64) 0 (take 64 name)
 
--- what is noted for a name q after row i of name n was: a name keeps the row that it has
-abbrev pub with_note : ℕ → List ℕ → List ℕ → Option ℕ → Option ℕ
-with_note i n q None = if bytes_eq q n then Some i else None
-with_note i n q (Some j) = Some j
+-- the bucket of a name, of so many
+abbrev pub bucket_of : ℕ → List ℕ → ℕ
+bucket_of count name = bit_and (hash_of name / 2 ^ 32) (count - 1)
 
--- none of the rows has that name
-abbrev pub none_named : List ℕ → List TableRow → Bool
-none_named name rows = list_all (λ t. not (bytes_eq t.name name)) rows
+-- the head of a name's bucket
+abbrev pub head_for : List ℕ → List ℕ → ℕ
+head_for heads name = slice_index heads (bucket_of (length heads) name)
 
--- the rows before that of a name have other names, and so have all where it has no row
-pub record AreFirstRows (rows : List TableRow) (find : List ℕ → Option ℕ) : Type 0 where
-  pub within : (name : List ℕ) (j : ℕ) → find name ≡ Some j → j < length rows
-  pub apart : (name : List ℕ) → none_named name (take (unwrap_or (find name) (length rows)) rows) ≡ true
+-- the first of the rows whose name falls into bucket b, or how many rows there are, as 32 bits hold it
+abbrev pub first_in : ℕ → ℕ → List TableRow → ℕ
+first_in count b rows = min (position_or_len (λ t. bucket_of count t.name == b) rows) (2 ^ 32 - 1)
+
+-- each bucket has its first row
+abbrev pub AreFirstRows : List TableRow → List ℕ → Type 0
+AreFirstRows rows heads = EachIndex heads (λ b. slice_index heads b ≡ first_in (length heads) b rows)

@@ -1,41 +1,73 @@
-//! The first row of each name.
-ghost use Rattle.std.specs.Prelude.{◌≡◌, ℕ, List, IfOk, OnOk};
-ghost use Rattle.av_rules.specs.FirstRows.{noted_for, with_note, AreFirstRows};
+//! Where a search for the rows of a name begins.
+ghost use Rattle.std.specs.Prelude.{◌≡◌, ◌<◌, ◌-◌, ◌*◌, ◌^◌, length, min, IfOk};
+ghost use Rattle.std.specs.Int.{IsNextPowerOfTwo};
+ghost use Rattle.av_rules.specs.FirstRows.{hash_of, bucket_of, head_for, AreFirstRows};
 ghost use Rattle.av_rules.specs.Views.{table_rows_of};
 
 use crate::row::TableRow;
-use indexmap::IndexMap;
 use std::alloc::{AllocError, Global};
 
-/// Where the first row of each name stands among the rows.
-pub(crate) type FirstRows = IndexMap<Vec<u8>, usize>;
-
-/// Where the first row of a name stands.
-pub(crate) fn first_of(first: &FirstRows, name: &[u8]) -> Option<usize>
-    ensures { result ≡ noted_for first.now.entries name.now }
-{
-    first.get(name).copied()
+/// Buckets of names, each with the first row whose name falls into it, or with how many rows there are where none does. So the
+/// rows before it have other names.
+#[derive(Drop)]
+pub(crate) struct FirstRows {
+    heads: Vec<u32>,
+    ghost some: { 0 < length heads.items },
 }
 
-/// Notes a row of a name, where none is noted for it.
-fn note(alloc: Global, first: &mut FirstRows, name: &[u8], index: usize) -> Result<(), AllocError>
-    ensures { OnOk result ((q : List ℕ) → noted_for first.new.entries q ≡ with_note index name.now q (noted_for first.old.entries q)) }
+/// The whole part of 2^64 over the golden ratio, an odd number whose multiples lie far apart.
+const FACTOR: u64 = 0x9E37_79B9_7F4A_7C15;
+
+/// How many bytes of a name are hashed: a longer name takes no longer.
+const HASHED: usize = 64;
+
+/// A hash of a name, by its first bytes.
+fn hash_of(name: &[u8]) -> u64
+    ensures { result ≡ hash_of name.now }
 {
-    if first_of(first, name).is_some() {
-        return Ok(());
+    let mut hash = 0u64;
+    for byte in &name[..HASHED.min(name.len())] {
+        hash = hash.wrapping_add(u64::from(*byte)).wrapping_mul(FACTOR);
     }
-    let key = Vec::from_slice(alloc, name)?;
-    first.insert(key, index)?;
-    Ok(())
+    hash
 }
 
-/// The first row of each name.
+/// The bucket of a name, of so many: by the high half of its hash, which each byte reaches.
+fn bucket_of(name: &[u8], count: usize) -> usize
+    requires { 0 < count }
+    ensures value { result ≡ bucket_of count name.now }
+    ensures within { result < count }
+{
+    (hash_of(name) >> 32) as usize & (count - 1)
+}
+
+/// Where a row stands, or the highest number of 32 bits where they do not hold it: a search may begin sooner than it need.
+fn in_32_bits(row: usize) -> u32
+    ensures { result ≡ min row (2 ^ 32 - 1) }
+{
+    row.min(u32::MAX as usize) as u32
+}
+
+/// The first row of each bucket.
 pub(crate) fn first_rows(alloc: Global, rows: &[TableRow]) -> Result<FirstRows, AllocError>
-    ensures { IfOk result (λ first. AreFirstRows (table_rows_of rows.now) (noted_for first.entries)) }
+    ensures first { IfOk result (λ first. AreFirstRows (table_rows_of rows.now) first.heads.items) }
+    ensures many { IfOk result (λ first. IsNextPowerOfTwo (8 * length rows.now) (length first.heads.items)) }
 {
-    let mut first = IndexMap::with_capacity(alloc, rows.len())?;
-    for (index, row) in rows.iter().enumerate() {
-        note(alloc, &mut first, row.name.as_slice(), index)?;
+    let count = (8 * rows.len()).next_power_of_two();
+    let mut heads = vec![in alloc; in_32_bits(rows.len()); count]?;
+    // From the last row to the first: the first of a bucket stays, and no names are compared.
+    for index in (0..rows.len()).rev() {
+        let bucket = bucket_of(rows[index].name.as_slice(), count);
+        heads[bucket] = in_32_bits(index);
     }
-    Ok(first)
+    Ok(FirstRows { heads })
+}
+
+impl FirstRows {
+    /// The head of a name's bucket: no row before it has that name.
+    pub(crate) fn head(&self, name: &[u8]) -> usize
+        ensures { result ≡ head_for self.now.heads.items name.now }
+    {
+        self.heads[bucket_of(name, self.heads.len())] as usize
+    }
 }

@@ -1,14 +1,14 @@
 //! Block tables.
-ghost use Rattle.std.specs.Prelude.{◌≡◌, ◌≢◌, Some, None, IfOk, IfErr, IsUtf8};
+ghost use Rattle.std.specs.Prelude.{◌≡◌, ◌≢◌, ◌≤◌, Some, None, IfOk, IfErr, IsUtf8, length, drop};
 ghost use Rattle.av_types.specs.declared.fault.Fault.TheVariants.{OutOfMemory, BadTable};
 ghost use Rattle.av_state.specs.States.{state_of};
-ghost use Rattle.av_rules.specs.FirstRows.{noted_for, AreFirstRows};
+ghost use Rattle.av_rules.specs.FirstRows.{AreFirstRows};
 ghost use Rattle.av_rules.specs.Rows.{first_row};
 ghost use Rattle.av_rules.specs.Views.{table_rows_of};
 ghost use Rattle.std.proofs.Props.{props};
 
 use crate::document::read_table;
-use crate::first_rows::{FirstRows, first_of};
+use crate::first_rows::FirstRows;
 use crate::row::{Row, TableRow, has_property};
 use av_state::State;
 use av_types::{Fault, Height};
@@ -21,7 +21,7 @@ pub struct Rules {
     pub(crate) rows: Vec<TableRow>,
     pub(crate) height: Height,
     pub(crate) first: FirstRows,
-    ghost firsts: { AreFirstRows (table_rows_of rows.items) (noted_for first.entries) } by { Prim.hlevel props },
+    ghost firsts: { AreFirstRows (table_rows_of rows.items) first.heads.items } by { Prim.hlevel props },
 }
 
 const WATERLOGGED: &[u8] = b"waterlogged";
@@ -82,15 +82,20 @@ impl Rules {
         row
     }
 
+    /// Where the search for a state's row begins: no row before is for the state.
+    fn head(&self, state: &State) -> usize
+        ensures within { result ≤ length self.now.rows.items }
+        ensures skipped { first_row (drop result (table_of self.now).rows) (state_of state.now) ≡ first_row (table_of self.now).rows (state_of state.now) }
+    {
+        self.first.head(state.name.as_slice())
+    }
+
     /// The first row that is for a state.
     fn first_row(&self, state: &State) -> Row
         ensures { result ≡ first_row (table_of self.now).rows (state_of state.now) }
     {
-        // The search begins at the first row of the state's name.
-        let Some(first) = first_of(&self.first, state.name.as_slice()) else {
-            return Row::SHUT;
-        };
-        first_row(&self.rows[first..], state)
+        let head = self.head(state);
+        first_row(&self.rows[head..], state)
     }
 
     /// The height of the world: the table's, or the game's where the table is of version 1 or 2.

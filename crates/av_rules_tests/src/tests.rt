@@ -139,6 +139,64 @@ fn the_first_row_counts(rt: HostRuntime) -> Result<(), Fail> {
     Ok(())
 }
 
+/// A table of these rows: their blocks are shut and give so much light.
+fn lamps(alloc: Global, rows: &[(&str, u8)]) -> Result<Rules, Fault> {
+    let mut document = format!(in alloc; "version = 1\n")?;
+    for (name, emission) in rows {
+        let lamp = format!(in alloc;
+            "[[block]]\nname = \"{name}\"\nopen = false\nfloor = true\nopacity = 15\nemission = {emission}\n"
+        )?;
+        document.push_str(lamp.as_str())?;
+    }
+    Rules::read(alloc, document.as_bytes())
+}
+
+/// By a table of the first three of these lamps each of them gives so much light.
+fn expect_lamps(rt: &impl Abort, alloc: Global, wants: &[(&str, u8)]) -> Result<(), Fault> {
+    let rules = lamps(alloc, &wants[..wants.len().min(3)])?;
+    for (name, emission) in wants {
+        expect_row(rt, alloc, &rules, *name, row(false, true, 15, *emission))?;
+    }
+    Ok(())
+}
+
+/// A table of three rows has 32 buckets. A name of one letter falls into the whole part of 25.4972303 times its byte, modulo 32:
+/// `a` (97) into 2473 % 32 = 9, `g` (103) into 2626 % 32 = 2, `b` (98) into 2498 % 32 = 2, and of those that no row is for `'` (39)
+/// into 994 % 32 = 2 and `h` (104) into 2651 % 32 = 27, where no row's name is. So the search for `b` goes past the row of `g`.
+const LETTERS: [(&str, u8); 5] = [("a", 1), ("g", 2), ("b", 3), ("'", 0), ("h", 0)];
+
+/// Names whose first 64 bytes are the same fall into one bucket.
+const LONG_NAMES: [(&str, u8); 5] = [
+    (
+        "a_mod:0123456789_123456789_123456789_123456789_123456789_1234567/north",
+        1,
+    ),
+    (
+        "a_mod:0123456789_123456789_123456789_123456789_123456789_1234567/south",
+        2,
+    ),
+    (
+        "a_mod:0123456789_123456789_123456789_123456789_123456789_1234567",
+        3,
+    ),
+    (
+        "a_mod:0123456789_123456789_123456789_123456789_123456789_1234567/west",
+        0,
+    ),
+    (
+        "a_mod:0123456789_123456789_123456789_123456789_123456789_123456",
+        0,
+    ),
+];
+
+#[test]
+fn names_of_one_bucket(rt: HostRuntime) -> Result<(), Fail> {
+    for wants in [LETTERS, LONG_NAMES] {
+        expect_lamps(&rt, rt.alloc(), &wants)?;
+    }
+    Ok(())
+}
+
 /// A table of this text is refused.
 fn expect_refused(rt: &impl Abort, alloc: Global, text: &[u8], which: &str) {
     let fault = Rules::read(alloc, text).err();

@@ -1,22 +1,30 @@
-use Rattle.std.proofs.Common.{◌≡◌, ◌+◌, ◌++◌, ◌∷◌, ◌<◌, [], ℕ, List, length, take, get_or, sym, ap, subst, ◌∙◌, arith}
-use Rattle.std.proofs.lemmas.List.{length-map, length-take, take_more, map-append}
-use Rattle.av_rules.specs.FirstRows.{noted_for, with_note, AreFirstRows}
+use Rattle.std.proofs.Common.{◌≡◌, suc, ◌-◌, ◌<◌, ◌∷◌, length, drop, get_or, set, sym, ap, subst, ◌∙◌, arith}
+use Rattle.std.proofs.Math.Seq.{drop-cons}
+use Rattle.std.proofs.lemmas.List.{drop-map, length-set}
+use Rattle.av_rules.specs.FirstRows.{bucket_of}
 use Rattle.av_rules.specs.Views.{table_row_of, table_rows_of}
-use Rattle.av_rules.proofs.FirstRows.{first_more}
+use Rattle.av_rules.proofs.FirstRows.{AreFirstFrom, one_more}
 use Rattle.av_rules.proofs.first_rows.first_rows.Goals as goal
 
 pub loop-index-preserved : goal.loop-index-preserved
 loop-index-preserved c =
     let all = c.args.rows.now in
-    let i = c.loop-index.index in
-    let row = c.index-rows-index.result in
-    let before = table_rows_of (take i all) in
-    let find = noted_for c.loop-index.first.entries in
-    let after = noted_for c.note.new.first.entries in
-    let low : i < length all = omega (arith, c.loop-index-test.true) in
-    let count : length before ≡ i = length-map (take i all) table_row_of ∙ omega (arith, length-take i all) in
-    let noted : (q : List ℕ) → after q ≡ with_note (length before) (table_row_of row).name q (find q) =
-    λ q. c.in_ok-note.ensures q ∙ ap (λ n. with_note i n q (find q)) c.as_slice.ensures.value ∙ sym (ap (λ n. with_note n row.name.items q (find q)) count) in
-    let parts : table_rows_of (take (i + 1) all) ≡ before ++ table_row_of row ∷ [] =
-    ap table_rows_of (take_more all i row low) ∙ map-append table_row_of (take i all) (get_or all i row ∷ []) ∙ ap (λ t. before ++ table_row_of t ∷ []) (sym c.index-rows-index.is) in
-    subst (λ rows. AreFirstRows rows after) (sym parts) (first_more before (table_row_of row) find after noted c.loop-index.invariant)
+    let rows = table_rows_of all in
+    let count = c.next_power_of_two-count.result in
+    let heads = c.loop-index.heads.items in
+    let i = c.loop-index.index - 1 in
+    let row = get_or all i c.index-rows-index.result in
+    let next : c.loop-index.index ≡ suc i = omega (arith, c.loop-index-test.true) in
+    let low : i < length all = omega (arith, c.loop-index-test.true, c.loop-index.auto.index) in
+    let is : c.bucket_of-bucket.result ≡ bucket_of count row.name.items = c.bucket_of-bucket.ensures.value ∙ ap (bucket_of count) c.as_slice.ensures.value in
+    let parts : drop i rows ≡ table_row_of row ∷ drop (suc i) rows =
+    drop-map table_row_of i all ∙ ap table_rows_of (drop-cons all i c.index-rows-index.result low) ∙ ap (λ l. table_row_of row ∷ l) (sym (drop-map table_row_of (suc i) all)) in
+    let long = c.loop-index.invariant.long in
+    let firsts = one_more count rows i heads (table_row_of row) long (subst (λ b. b < count) is c.bucket_of-bucket.ensures.within) parts
+    (subst (λ n. AreFirstFrom count rows n heads) next c.loop-index.invariant.firsts) in
+    let stored : AreFirstFrom count rows i (set heads (bucket_of count row.name.items) c.in_32_bits-in-loop-index.result) =
+    subst (λ n. AreFirstFrom count rows i (set heads (bucket_of count row.name.items) n)) (sym c.in_32_bits-in-loop-index.ensures) firsts in
+    record {
+      long = long ∙ sym (length-set heads c.bucket_of-bucket.result c.in_32_bits-in-loop-index.result);
+      firsts = subst (λ b. AreFirstFrom count rows i (set heads b c.in_32_bits-in-loop-index.result)) (sym is) stored;
+    }
