@@ -305,9 +305,9 @@ denotes_read h t more files rs xs w begins rise was split has =
       other c there false e = absurd (was_found h w c (chunk_found (flat_map placed_in rs) c) (has.each c) there (found_elsewhere h t (in_order files) rs xs was split c e))
 
 -- the rest is one of the world
-pub rest_read : (h : Height) (t : List BlockState) (files : List File) (rs : List ReadRegion) (xs : List RegionRest) (w : World)
-    → regions_rise (map (λ f. f.pos) (in_order files)) ≡ true → WereRegionsRead h t (in_order files) rs → AreSplit rs xs → IsWorldOf h (flat_map placed_in rs) w
+pub rest_read : (h : Height) (t : List BlockState) (fs : List File) (rs : List ReadRegion) (xs : List RegionRest) (w : World)
+    → regions_rise (map (λ f. f.pos) fs) ≡ true → WereRegionsRead h t fs rs → AreSplit rs xs → IsWorldOf h (flat_map placed_in rs) w
     → (regions_rise (map (λ x. x.pos) xs) ≡ true) × AllByRecursion (IsRegionOf h w.positions.items) xs
-rest_read h t files rs xs w rise was split has =
-    let up : regions_rise (map (λ x. x.pos) xs) ≡ true = ap regions_rise (places_same h t (in_order files) rs xs was split) ∙ rise in
-    (up, all_regions h t xs (flat_map placed_in rs) w (in_order files) rs xs has was split up (record { region = λ p is. refl; chunk = λ c is. refl }))
+rest_read h t fs rs xs w rise was split has =
+    let up : regions_rise (map (λ x. x.pos) xs) ≡ true = ap regions_rise (places_same h t fs rs xs was split) ∙ rise in
+    (up, all_regions h t xs (flat_map placed_in rs) w fs rs xs has was split up (record { region = λ p is. refl; chunk = λ c is. refl }))

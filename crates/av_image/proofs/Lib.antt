@@ -11,3 +11,7 @@ pub mod Loads
 pub mod OneChunk
 pub mod Written
 pub mod Ready
+pub mod PayloadLists
+pub mod Placing
+pub mod Crossings
+pub mod BatchPlaces

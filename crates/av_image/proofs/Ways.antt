@@ -14,7 +14,7 @@ use Rattle.av_files.specs.FirstFault.{IsPlaceFault, IsPlaceGood, IsFirstOfFile, 
 use Rattle.av_image.specs.declared.places.Place.{Place}
 use Rattle.av_image.specs.declared.regions.ReadRegion.{ReadRegion}
 use Rattle.av_image.specs.Placed.{IsPlaceRead, WasPlaceRead, ArePlacesRead, WasRegionRead, IsRegionRead, WereRegionsRead, AreRegionsRead}
-use Rattle.av_image.specs.Ways.{IsPlacesWay, PlacesSoFar, FilesSoFar}
+use Rattle.av_image.specs.Ways.{IsPlacesWay, PlacesSoFar, GoesOn, Stops, FilesSoFar}
 use Rattle.av_image.proofs.OnePlace.{good_place, places_grown}
 use Rattle.av_image.proofs.Growing.{pushed_each, one_longer}
 
@@ -62,6 +62,19 @@ pub places_stop : (h : Height) (f : File) (start table : List BlockState) (n : �
 places_stop h f start table n places e lt s bad =
     let w = subst (λ l. IsPlacesWay h f start table indices l) (range_step n 1024 lt) s.way in
     w.first e (inl bad)
+
+-- the same, whatever was read before
+pub goes_same : (h : Height) (f : File) (old new : List BlockState) (n k m : ℕ) (places after : List Place) → k ≡ m → GoesOn h f old n places new k after → GoesOn h f old n places new m after
+goes_same h f old new n k m places after is on start s = subst (λ i. PlacesSoFar h f start new i after) is (on start s)
+
+pub goes_more : (h : Height) (f : File) (old table next : List BlockState) (n k m : ℕ) (before places after : List Place) (p : Place) → k < 1024 → m ≡ k + 1 → after ≡ places ++ p ∷ []
+    → GoesOn h f old n before table k places → IsPlaceRead h table next f.bytes (chunk_at f.pos k) k p → OnlyGrows table next → GoesOn h f old n before next m after
+goes_more h f old table next n k m before places after p lt one is on r more start s =
+    subst (λ i. PlacesSoFar h f start next i after) (sym one) (places_more h f start table next k places after p lt is (on start s) r more)
+
+pub goes_stop : (h : Height) (f : File) (old table : List BlockState) (n k : ℕ) (before places : List Place) (e : Fault) → k < 1024 → GoesOn h f old n before table k places
+    → IsPlaceFault h table f.bytes (chunk_at f.pos k) k e → Stops h f old n before e
+goes_stop h f old table n k before places e lt on bad start s = places_stop h f start table k places e lt (on start s) bad
 
 -- ---- files
 

@@ -3,7 +3,7 @@ use Rattle.std.proofs.Common.{◌≡◌, ◌∙◌, ℕ, suc, ◌<◌, List, [],
 use Rattle.std.specs.Prelude.{slice_get, slice_index_or, option_map}
 use Rattle.std.specs.List.{AllByRecursion, list_any}
 use Rattle.std.proofs.lemmas.Bool.{and_parts}
-use Rattle.std.proofs.lemmas.Option.{none-some}
+use Rattle.std.proofs.lemmas.Option.{none-some, same_Some}
 use Rattle.std.proofs.lemmas.List.{map-append, take_more, take_all, drop_all}
 use Rattle.std.proofs.lemmas.List.FromFn.{fill_by_all}
 use Rattle.av_types.specs.Places.{chunk_at, region_of, index_of}
@@ -18,7 +18,7 @@ use Rattle.av_region.specs.Layout.{region_bytes, first_too_large}
 use Rattle.av_rules.specs.declared.kinds.Kinds.{Kinds}
 use Rattle.av_document.specs.Layout.{chunk_layout}
 use Rattle.av_chunk.specs.declared.light.ChunkLight.{ChunkLight}
-use Rattle.av_world.specs.Views.{height_of, positions_of, lists}
+use Rattle.av_world.specs.Views.{height_of, positions_of, lists, is_broken}
 use Rattle.av_world.specs.declared.worlds.World.{World}
 use Rattle.av_files.specs.Files.{File, same_region, regions_rise, region_after}
 use Rattle.av_files.specs.Layout.{payload_of, payloads, stamps, file_layout, chunk_bytes, indices, first_or, too_large_in}
@@ -28,7 +28,7 @@ use Rattle.av_image.specs.declared.rest.Slot.TheVariants.{Absent, Kept, Loaded}
 use Rattle.av_image.specs.declared.rest.RegionRest.{RegionRest}
 use Rattle.av_image.specs.declared.rest.Rest.{Rest}
 use Rattle.av_image.specs.Views.{region_found, stamp_in, slot_in, slot_at, kept_in, chunk_rest_in, rest_view}
-use Rattle.av_image.specs.Saving.{states_in, sources_in, lights_in, saved, unsaved, IsSlotOf, IsRegionOf, IsRestOf}
+use Rattle.av_image.specs.Saving.{states_in, sources_in, lights_in, saved, unsaved, IsSlotOf, IsRegionOf, IsRestOf, IsSaveFault, large}
 use Rattle.av_image.specs.SavingSteps.{slot_payload, region_payloads, region_file, region_unsaved, regions_unsaved, SavedSoFar}
 use Rattle.av_image.proofs.Rises.{not_later_region}
 use Rattle.av_image.proofs.Denoted.{get_within}
@@ -174,3 +174,8 @@ pub saved_stop : (w : World) (r : Rest) (k : Kinds) (ls : List ChunkLight) (n i 
 saved_stop w r k ls n i x files e less is own s bad =
     ap (option_map ChunkTooLarge) (sym (unsaved_is w r k ls n own) ∙ (s.way ∙ left_is w k ls n r.regions.items i x less is))
     ∙ stopped ChunkTooLarge (region_unsaved w k ls n x) (regions_unsaved w k ls n (drop (suc i) r.regions.items)) e bad
+
+-- why nothing was written, of a world that is not broken
+pub save_fault : (w : World) (r : Rest) (k : Kinds) (ls : List ChunkLight) (n : ℕ) (e : Fault) → is_broken w ≡ false → (o : Option ChunkPos) → unsaved w r k ls n ≡ o → option_map ChunkTooLarge o ≡ Some e → IsSaveFault w r k ls n e
+save_fault w r k ls n e sound None at is = absurd (none-some e is)
+save_fault w r k ls n e sound (Some c) at is = large sound c at (sym (same_Some (ChunkTooLarge c) e is))

@@ -5,3 +5,6 @@ pub mod Splits
 pub mod Loading
 pub mod Saving
 pub mod SavingSteps
+pub mod SlotFacts
+pub mod Making
+pub mod Ahead

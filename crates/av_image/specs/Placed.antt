@@ -1,5 +1,5 @@
 -- What was read of region files. Working definitions.
-use Rattle.std.specs.Prelude.{◌≡◌, ℕ, ◌<◌, ◌^◌, List, [], ◌∷◌, length, Some, map, slice_get}
+use Rattle.std.specs.Prelude.{◌≡◌, ℕ, ◌<◌, ◌^◌, List, [], ◌∷◌, length, Some, true, map, slice_get}
 use Rattle.std.specs.List.{range_with_len, All}
 use Rattle.av_types.specs.Places.{IsInLimits, chunk_at}
 use Rattle.av_types.specs.declared.place.Height.{Height}
@@ -13,7 +13,7 @@ use Rattle.av_section.specs.Reading.{OnlyGrows}
 use Rattle.av_chunk.specs.Reading.{IsLoaded, IsKept}
 use Rattle.av_chunk.specs.declared.chunk.Chunk.{Chunk}
 use Rattle.av_chunk.specs.declared.rest.ChunkRest.{ChunkRest}
-use Rattle.av_files.specs.Files.{File}
+use Rattle.av_files.specs.Files.{File, regions_rise}
 use Rattle.av_files.specs.Layout.{indices}
 use Rattle.av_files.specs.FirstFault.{ArePlacesGood, AreFilesGood, IsFileGood}
 use Rattle.av_image.specs.declared.places.Place.{Place}
@@ -97,6 +97,12 @@ abbrev pub WereRegionsRead : Height → List BlockState → List File → List R
 WereRegionsRead h table [] [] = Unit {0}
 WereRegionsRead h table (f ∷ fs) (r ∷ rs) = WasRegionRead h table f r × WereRegionsRead h table fs rs
 WereRegionsRead h table _ _ = ⊥
+
+-- of some files in their order
+pub record WereFilesRead (h : Height) (table : List BlockState) (rs : List ReadRegion) : Type 0 where
+  pub files : List File
+  pub rise : regions_rise (map (λ f. f.pos) files) ≡ true
+  pub each : WereRegionsRead h table files rs
 
 pub record AreRegionsRead (h : Height) (old new : List BlockState) (fs : List File) (rs : List ReadRegion) : Type 0 where
   pub good : AreFilesGood h old fs new

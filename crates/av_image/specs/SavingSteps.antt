@@ -49,6 +49,13 @@ region_file w k ls n r = record { pos = r.pos; bytes = region_bytes (region_payl
 abbrev pub region_unsaved : World → Kinds → List ChunkLight → ℕ → RegionRest → Option ChunkPos
 region_unsaved w k ls n r = option_map (chunk_at r.pos) (first_too_large (region_payloads w k ls n r))
 
+-- the same two of any payloads
+abbrev pub file_with : RegionRest → List (Option (List ℕ)) → File
+file_with r payloads = record { pos = r.pos; bytes = region_bytes payloads r.stamps.items }
+
+abbrev pub too_large_among : RegionRest → List (Option (List ℕ)) → Option ChunkPos
+too_large_among r payloads = option_map (chunk_at r.pos) (first_too_large payloads)
+
 abbrev pub regions_unsaved : World → Kinds → List ChunkLight → ℕ → List RegionRest → Option ChunkPos
 regions_unsaved w k ls n [] = None
 regions_unsaved w k ls n (r ∷ rs) = first_or (region_unsaved w k ls n r) (regions_unsaved w k ls n rs)

@@ -22,6 +22,13 @@ pub record PlacesSoFar (h : Height) (f : File) (start table : List BlockState) (
   pub each : WerePlacesRead h table f n places
   pub grown : OnlyGrows start table
 
+-- more places were read, or one was refused, whatever was read before
+abbrev pub GoesOn : Height → File → List BlockState → ℕ → List Place → List BlockState → ℕ → List Place → Type 0
+GoesOn h f old n places new m after = (start : List BlockState) → PlacesSoFar h f start old n places → PlacesSoFar h f start new m after
+
+abbrev pub Stops : Height → File → List BlockState → ℕ → List Place → Fault → Type 0
+Stops h f old n places e = (start : List BlockState) → PlacesSoFar h f start old n places → IsFirstOfPlaces h start f indices e
+
 -- the same of files
 pub record IsFilesWay (h : Height) (start table : List BlockState) (all left : List File) : Type 0 where
   pub good : (new : List BlockState) → AreFilesGood h table left new → AreFilesGood h start all new

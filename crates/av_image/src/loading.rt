@@ -1,21 +1,23 @@
 //! Region files, read as a world and a rest.
-ghost use Rattle.std.specs.Prelude.{◌≡◌, ◌≢◌, IfOk, IfErr, IsTrue, ◌↔◌, false, map, ℤ};
+ghost use Rattle.std.specs.Prelude.{◌≡◌, ◌≢◌, IfOk, IfErr, IsTrue, ◌↔◌, false, map, ℤ, List};
 ghost use Rattle.std.specs.List.{All};
 ghost use Rattle.av_types.specs.declared.fault.Fault.TheVariants.{OutOfMemory};
 ghost use Rattle.av_types.specs.Places.{IsInLimits};
+ghost use Rattle.av_state.specs.BlockState.{BlockState};
 ghost use Rattle.av_state.specs.Table.{states};
 ghost use Rattle.av_section.specs.Reading.{OnlyGrows};
 ghost use Rattle.av_ticks.specs.Order.{ordered};
-ghost use Rattle.av_files.specs.Files.{in_order, regions_rise};
+ghost use Rattle.av_files.specs.Files.{File, in_order, regions_rise};
 ghost use Rattle.av_files.specs.FirstFault.{IsFilesFaultAfter};
 ghost use Rattle.av_files.specs.Layers.{IsLoadAfter};
 ghost use Rattle.av_world.specs.Lands.{land_of, IsUncarved};
 ghost use Rattle.av_world.specs.Views.{positions_of, is_broken};
 ghost use Rattle.av_image.specs.Views.{rest_in};
+ghost use Rattle.av_image.specs.Placed.{WereFilesRead, AreRegionsRead};
 ghost use Rattle.av_image.specs.Saving.{IsRestOf};
 ghost use Rattle.av_image.specs.Loading.{file_in, placed_order, region_before, comes_after, AreFilesInOrder, IsRegionsFault};
 
-use crate::regions::read_regions;
+use crate::regions::{ReadRegion, read_regions};
 use crate::rest::Rest;
 use crate::splits::{Placed, split_regions, world_of};
 use av_rules::Rules;
@@ -87,7 +89,7 @@ fn do_rise(files: &[RegionFile]) -> bool
 }
 
 /// Files of regions within the limits, each region once, in their order.
-fn judged(files: Vec<RegionFile>) -> Result<Vec<RegionFile>, Fault>
+pub(crate) fn judged(files: Vec<RegionFile>) -> Result<Vec<RegionFile>, Fault>
     ensures ok { IfOk result (λ fs. AreFilesInOrder (map file_in files.items) (map file_in fs.items)) }
     ensures limits { IfOk result (λ fs. All (λ f. IsInLimits f.pos) fs.items) }
     ensures err { IfErr result (λ e. e ≢ OutOfMemory → IsRegionsFault (map file_in files.items) e) }
@@ -100,6 +102,26 @@ fn judged(files: Vec<RegionFile>) -> Result<Vec<RegionFile>, Fault>
         return Err(Fault::RepeatedRegion);
     }
     Ok(files)
+}
+
+/// The world and the rest of regions that were read of files in their order, by a table that has grown to this one.
+pub(crate) fn world_and_rest(
+    alloc: Global,
+    regions: Vec<ReadRegion>,
+    height: Height,
+    table: &StateTable,
+) -> Result<(World, Rest), AllocError>
+    requires { WereFilesRead height (states table.now) regions.items }
+    ensures ok { IfOk result (λ read. (old : List BlockState) → (files sorted : List File) → AreFilesInOrder files sorted → AreRegionsRead height old (states table.now) sorted regions.items → IsLoadAfter height old files (states table.now) (land_of read.0) (rest_in read.1)) }
+    ensures whole { IfOk result (λ read. IsUncarved read.0) }
+    ensures rest { IfOk result (λ read. IsRestOf height (positions_of read.0) read.1) }
+    ensures sound { IfOk result (λ read. is_broken read.0 ≡ false) }
+{
+    let mut found = Vec::new(alloc);
+    let regions = split_regions(alloc, regions, &mut found)?;
+    let found = placed_in_order(found)?;
+    let world = world_of(alloc, height, found)?;
+    Ok((world, Rest { regions }))
 }
 
 /// The world and the rest that region files denote, at a height.
@@ -118,11 +140,7 @@ fn load_at(
 {
     let files = judged(files)?;
     let regions = read_regions(alloc, files, height, table)?;
-    let mut found = Vec::new(alloc);
-    let regions = split_regions(alloc, regions, &mut found)?;
-    let found = placed_in_order(found)?;
-    let world = world_of(alloc, height, found)?;
-    Ok((world, Rest { regions }))
+    Ok(world_and_rest(alloc, regions, height, table)?)
 }
 
 /// The world and the rest that region files denote, in the height of the rules. States that the table has not are numbered

@@ -46,7 +46,7 @@ fn read_places(
 }
 
 /// All timestamps of a region.
-fn read_stamps(alloc: Global, region: &Region<'_>) -> Result<Vec<u32>, AllocError>
+pub(crate) fn read_stamps(alloc: Global, region: &Region<'_>) -> Result<Vec<u32>, AllocError>
     ensures ok { IfOk result (λ stamps. stamps.items ≡ are_stamps region.now.bytes.now 1024) }
     ensures small { IfOk result (λ stamps. All (λ n. n < 2 ^ 32) stamps.items) }
 {

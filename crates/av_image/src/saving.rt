@@ -1,5 +1,5 @@
 //! A world and a rest, written as region files.
-ghost use Rattle.std.specs.Prelude.{◌≡◌, ◌≢◌, IfOk, IfErr, OnOk, Err, Some, None, map, option_map, true, false};
+ghost use Rattle.std.specs.Prelude.{◌≡◌, ◌≢◌, IfOk, IfErr, OnOk, Err, Some, None, length, map, option_map, true, false};
 ghost use Rattle.std.specs.List.{All};
 ghost use Rattle.av_types.specs.Places.{IsInLimits};
 ghost use Rattle.av_types.specs.declared.fault.Fault.TheVariants.{OutOfMemory, Broken, ChunkTooLarge};
@@ -9,7 +9,7 @@ ghost use Rattle.av_chunk.specs.Writing.{CanWrite, written};
 ghost use Rattle.av_world.specs.Views.{height_of, positions_of, is_broken};
 ghost use Rattle.av_image.specs.Loading.{file_in};
 ghost use Rattle.av_image.specs.Saving.{CanSave, IsSlotOf, IsRegionOf, IsRestOf, IsSaveFault, saved, unsaved};
-ghost use Rattle.av_image.specs.SavingSteps.{payload_items, loaded_bytes, slot_payload, region_payloads, region_file, region_unsaved};
+ghost use Rattle.av_image.specs.SavingSteps.{payload_items, loaded_bytes, slot_payload, region_payloads, file_with, too_large_among, region_file, region_unsaved};
 
 use crate::rest::{RegionRest, Rest, Slot};
 use av_chunk::{Chunk, ChunkLight, ChunkRest};
@@ -66,7 +66,7 @@ fn written_chunk(
 }
 
 /// The payload of the world's chunk at a place.
-fn loaded_payload(
+pub(crate) fn loaded_payload(
     alloc: Global,
     world: &World,
     at: ChunkPos,
@@ -95,7 +95,7 @@ fn loaded_payload(
 }
 
 /// What is written at a place, where a region keeps this.
-fn place_payload<'a>(
+pub(crate) fn place_payload<'a>(
     alloc: Global,
     world: &World,
     at: ChunkPos,
@@ -147,6 +147,26 @@ fn payloads<'a>(
     Ok(payloads)
 }
 
+/// The file of a region with these payloads.
+pub(crate) fn region_of(
+    alloc: Global,
+    region: &RegionRest,
+    payloads: &[Option<Payload<'_>>],
+) -> Result<RegionFile, Fault>
+    requires limits { IsInLimits region.now.pos }
+    requires stamps { length region.now.stamps.items ≡ 1024 }
+    requires payloads { length payloads.now ≡ 1024 }
+    ensures ok { IfOk result (λ file. file_in file ≡ file_with region.now (map (option_map payload_items) payloads.now)) }
+    ensures fits { OnOk result (too_large_among region.now (map (option_map payload_items) payloads.now) ≡ None) }
+    ensures err { IfErr result (λ e. e ≢ OutOfMemory → option_map ChunkTooLarge (too_large_among region.now (map (option_map payload_items) payloads.now)) ≡ Some e) }
+{
+    let bytes = av_region::write(alloc, region.pos, payloads, region.stamps.as_slice())?;
+    Ok(RegionFile {
+        pos: region.pos,
+        bytes,
+    })
+}
+
 /// The file of a region.
 fn saved_region(
     alloc: Global,
@@ -163,16 +183,7 @@ fn saved_region(
     ensures err { IfErr result (λ e. e ≢ OutOfMemory → option_map ChunkTooLarge (region_unsaved world.now kinds.now lights.now elapsed region.now) ≡ Some e) }
 {
     let contents = payloads(alloc, world, region, kinds, lights, elapsed)?;
-    let bytes = av_region::write(
-        alloc,
-        region.pos,
-        contents.as_slice(),
-        region.stamps.as_slice(),
-    )?;
-    Ok(RegionFile {
-        pos: region.pos,
-        bytes,
-    })
+    region_of(alloc, region, contents.as_slice())
 }
 
 /// The files of regions.

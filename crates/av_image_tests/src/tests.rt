@@ -1,7 +1,7 @@
 //! Small region files, read as a world and a rest.
 use crate::flat::{Block, Flat, Waiting, flat_region, push_chunk, push_pad, region};
-use crate::saves::{saved, saved_broken};
-use av_image::{Rest, Slot, load};
+use crate::saves::{saved, saved_broken, saved_broken_on, saved_on};
+use av_image::{Rest, Slot, load, load_on};
 use av_rules::Rules;
 use av_sink::RegionFile;
 use av_state::StateTable;
@@ -10,12 +10,24 @@ use av_world::World;
 use std::alloc::{AllocError, Global};
 use std::process::Abort;
 use std::test::Fail;
+use std::thread::Threads;
 
 /// What files of these regions are read as, under a table without rows.
 fn read(alloc: Global, files: Vec<RegionFile>) -> Result<(World, Rest), Fault> {
     let rules = Rules::read(alloc, b"version = 1")?;
     let mut table = StateTable::new(alloc)?;
     load(alloc, files, &rules, &mut table)
+}
+
+/// What several threads read them as.
+fn read_on(
+    rt: &(impl Threads + Sync),
+    alloc: Global,
+    files: Vec<RegionFile>,
+) -> Result<(World, Rest), Fault> {
+    let rules = Rules::read(alloc, b"version = 1")?;
+    let mut table = StateTable::new(alloc)?;
+    load_on(rt, alloc, files, &rules, &mut table)
 }
 
 /// One file.
@@ -89,8 +101,8 @@ fn payloads_and_stamps_that_are_kept(rt: HostRuntime) -> Result<(), Fail> {
     Ok(())
 }
 
-/// Why files of these regions, each of so many zeros, are refused.
-fn refusal(alloc: Global, regions: &[(i32, i32, usize)]) -> Result<Option<Fault>, Fail> {
+/// Files of these regions, each of so many zeros.
+fn zeros(alloc: Global, regions: &[(i32, i32, usize)]) -> Result<Vec<RegionFile>, AllocError> {
     let mut files = Vec::new(alloc);
     for (x, z, len) in regions {
         files.push(RegionFile {
@@ -98,7 +110,7 @@ fn refusal(alloc: Global, regions: &[(i32, i32, usize)]) -> Result<Option<Fault>
             bytes: vec![in alloc; 0; *len]?,
         })?;
     }
-    Ok(read(alloc, files).err())
+    Ok(files)
 }
 
 /// The list of files is judged before any file, and its limits before regions that are there twice.
@@ -110,13 +122,78 @@ fn files_that_are_refused(rt: HostRuntime) -> Result<(), Fail> {
         ([(0, 0, 1), (1, 0, 0), (0, 0, 0)], Fault::RepeatedRegion),
         ([(0, 0, 0), (1, 0, 8191), (2, 0, 8192)], Fault::ShortHeader),
     ] {
-        assert!(rt; refusal(alloc, regions.as_slice())? == Some(fault));
+        let fault = Some(fault);
+        let files = zeros(alloc, regions.as_slice())?;
+        assert!(rt; read(alloc, files).err() == fault);
+        let files = zeros(alloc, regions.as_slice())?;
+        assert!(rt; read_on(&rt, alloc, files).err() == fault);
     }
     Ok(())
 }
 
-/// A flat chunk with water and entries, of which one is overdue.
-fn watered(alloc: Global) -> Result<Vec<u8>, AllocError> {
+/// A region of so many chunks that are not full, from index 0 on, in place of which some have other payloads.
+fn kept_chunks(
+    alloc: Global,
+    count: usize,
+    others: &[(usize, Vec<u8>)],
+) -> Result<Vec<RegionFile>, AllocError> {
+    let mut payloads = Vec::new(alloc);
+    for index in 0..count {
+        let other = others.iter().find(|other| other.0 == index);
+        let payload = match other {
+            Some(other) => other.1.as_slice(),
+            None => KEPT,
+        };
+        payloads.push(Vec::from_slice(alloc, payload)?)?;
+    }
+    let bytes = region(alloc, payloads.as_slice())?;
+    one(alloc, RegionPos { x: 0, z: 0 }, bytes)
+}
+
+/// Several threads read what one does, of no payload, of one, and of more than are decoded together.
+#[test]
+fn payloads_that_threads_read(rt: HostRuntime) -> Result<(), Fail> {
+    let alloc = rt.alloc();
+    for count in [0, 1, 2, 70] {
+        let read = read_on(&rt, alloc, kept_chunks(alloc, count, &[])?)?;
+        has_no_chunk_from(&rt, &read, count);
+        let region = read.1.regions.first().ok_or("no region")?;
+        for slot in region.slots.iter().take(count) {
+            let Slot::Kept(payload) = slot else {
+                return Err("a chunk is not kept".into());
+            };
+            assert_eq!(rt; payload.as_slice(), KEPT);
+        }
+    }
+    Ok(())
+}
+
+/// Of several faults that of the first index is answered, whichever thread is done first: `BadNbt` of a payload that is cut,
+/// and `WrongPlace` of the chunk (5, 5), which index 165 has.
+#[test]
+fn the_first_fault_of_a_region(rt: HostRuntime) -> Result<(), Fail> {
+    let alloc = rt.alloc();
+    for (cut, elsewhere, fault) in [
+        (0, 1, Fault::BadNbt),
+        (1, 0, Fault::WrongPlace),
+        (63, 64, Fault::BadNbt),
+        (64, 63, Fault::WrongPlace),
+    ] {
+        let mut payload = Vec::new(alloc);
+        push_chunk(&mut payload, ChunkPos { x: 5, z: 5 }, 0)?;
+        push_pad(&mut payload, 0)?;
+        let others = [
+            (cut, Vec::from_slice(alloc, b"\x0a\0")?),
+            (elsewhere, payload),
+        ];
+        let files = kept_chunks(alloc, 66, others.as_slice())?;
+        assert!(rt; read_on(&rt, alloc, files).err() == Some(fault));
+    }
+    Ok(())
+}
+
+/// So many flat chunks, the first with water and entries, of which one is overdue.
+fn watered(alloc: Global, chunks: u64) -> Result<Vec<u8>, AllocError> {
     let pos = Pos { x: 8, y: 64, z: 8 };
     let entries: [Waiting; 2] = [(pos, -3, true), (Pos { x: 7, ..pos }, 2, false)];
     let flat = Flat {
@@ -127,26 +204,53 @@ fn watered(alloc: Global) -> Result<Vec<u8>, AllocError> {
         ],
         entries: entries.as_slice(),
     };
-    flat_region(alloc, flat, 2)
+    flat_region(alloc, flat, chunks)
+}
+
+/// A region of so many chunks, and one of a chunk that is not full.
+fn two_regions(alloc: Global, chunks: u64) -> Result<Vec<RegionFile>, AllocError> {
+    let mut files = one(alloc, RegionPos { x: 0, z: 0 }, watered(alloc, chunks)?)?;
+    files.push(RegionFile {
+        pos: RegionPos { x: 7, z: -1 },
+        bytes: kept_region(alloc)?,
+    })?;
+    Ok(files)
+}
+
+/// That the files written are those regions, in order.
+fn expect_regions(
+    rt: &impl Abort,
+    written: &[RegionFile],
+    alloc: Global,
+    chunks: u64,
+) -> Result<(), Fail> {
+    assert_eq!(rt; written.len(), 2);
+    let want = [
+        (RegionPos { x: 7, z: -1 }, kept_region(alloc)?),
+        (RegionPos { x: 0, z: 0 }, watered(alloc, chunks)?),
+    ];
+    for (file, (pos, bytes)) in written.iter().zip(want.iter()) {
+        assert_eq!(rt; file.pos, *pos);
+        assert!(rt; file.bytes == *bytes);
+    }
+    Ok(())
 }
 
 /// What is saved of files is what they were, where nothing is missing in them: blocks, entries, payloads and stamps.
 #[test]
 fn files_that_are_saved(rt: HostRuntime) -> Result<(), Fail> {
     let alloc = rt.alloc();
-    let here = RegionPos { x: 0, z: 0 };
-    let mut files = one(alloc, here, watered(alloc)?)?;
-    let there = RegionPos { x: 7, z: -1 };
-    files.push(RegionFile {
-        pos: there,
-        bytes: kept_region(alloc)?,
-    })?;
-    let written = saved(alloc, files)?;
-    assert_eq!(rt; written.len(), 2);
-    let want = [(there, kept_region(alloc)?), (here, watered(alloc)?)];
-    for (file, (pos, bytes)) in written.iter().zip(want.iter()) {
-        assert_eq!(rt; file.pos, *pos);
-        assert!(rt; file.bytes == *bytes);
+    let written = saved(alloc, two_regions(alloc, 2)?)?;
+    expect_regions(&rt, written.as_slice(), alloc, 2)
+}
+
+/// Several threads read and write the same, of no chunk that is loaded, of one, and of more than there are threads.
+#[test]
+fn files_that_threads_save(rt: HostRuntime) -> Result<(), Fail> {
+    let alloc = rt.alloc();
+    for chunks in [1, 32] {
+        let written = saved_on(&rt, alloc, two_regions(alloc, chunks)?)?;
+        expect_regions(&rt, written.as_slice(), alloc, chunks)?;
     }
     Ok(())
 }
@@ -156,27 +260,58 @@ fn files_that_are_saved(rt: HostRuntime) -> Result<(), Fail> {
 fn a_broken_world_is_not_saved(rt: HostRuntime) -> Result<(), Fail> {
     let alloc = rt.alloc();
     let pos = RegionPos { x: 0, z: 0 };
-    for bytes in [Vec::new(alloc), watered(alloc)?] {
+    for bytes in [Vec::new(alloc), watered(alloc, 2)?] {
         let files = one(alloc, pos, bytes)?;
         assert!(rt; saved_broken(alloc, files).err() == Some(Fault::Broken));
     }
     Ok(())
 }
 
-/// The largest chunk that can be read, without sections, at index 1: with the sections that are missing it is too large.
+/// The same of several threads.
+#[test]
+fn threads_save_no_broken_world(rt: HostRuntime) -> Result<(), Fail> {
+    let alloc = rt.alloc();
+    let files = one(alloc, RegionPos { x: 0, z: 0 }, watered(alloc, 2)?)?;
+    assert!(rt; saved_broken_on(&rt, alloc, files).err() == Some(Fault::Broken));
+    Ok(())
+}
+
+/// The largest chunk that can be read, without sections: with the sections that are missing it is too large.
+fn large_chunk(alloc: Global, at: ChunkPos) -> Result<Vec<u8>, AllocError> {
+    let mut payload = Vec::new(alloc);
+    push_chunk(&mut payload, at, 0)?;
+    push_pad(&mut payload, 1_044_475)?;
+    Ok(payload)
+}
+
+/// A region with a chunk that is not full at index 0, and behind it those that are too large, at these x.
+fn large_region(alloc: Global, row: &[i32]) -> Result<Vec<RegionFile>, AllocError> {
+    let mut payloads = Vec::new(alloc);
+    payloads.push(Vec::from_slice(alloc, KEPT)?)?;
+    for x in row {
+        payloads.push(large_chunk(alloc, ChunkPos { x: *x, z: 64 })?)?;
+    }
+    let bytes = region(alloc, payloads.as_slice())?;
+    one(alloc, RegionPos { x: -1, z: 2 }, bytes)
+}
+
+/// It is told by its place, and nothing is written.
 #[test]
 fn a_chunk_that_is_too_large(rt: HostRuntime) -> Result<(), Fail> {
     let alloc = rt.alloc();
     let at = ChunkPos { x: -31, z: 64 };
-    let mut payload = Vec::new(alloc);
-    push_chunk(&mut payload, at, 0)?;
-    push_pad(&mut payload, 1_044_475)?;
-    let mut payloads = Vec::new(alloc);
-    payloads.push(Vec::from_slice(alloc, KEPT)?)?;
-    payloads.push(payload)?;
-    let bytes = region(alloc, payloads.as_slice())?;
-    let files = one(alloc, RegionPos { x: -1, z: 2 }, bytes)?;
+    let files = large_region(alloc, &[-31])?;
     assert!(rt; saved(alloc, files).err() == Some(Fault::ChunkTooLarge(at)));
+    Ok(())
+}
+
+/// Of several the first by its index is told, whichever thread is done first.
+#[test]
+fn the_first_chunk_that_is_too_large(rt: HostRuntime) -> Result<(), Fail> {
+    let alloc = rt.alloc();
+    let at = ChunkPos { x: -31, z: 64 };
+    let files = large_region(alloc, &[-31, -30, -29, -28, -27, -26])?;
+    assert!(rt; saved_on(&rt, alloc, files).err() == Some(Fault::ChunkTooLarge(at)));
     Ok(())
 }
 

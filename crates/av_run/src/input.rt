@@ -1,5 +1,5 @@
 //! What a run begins with: its world, the rest, the kinds of states, and its edits.
-ghost use Rattle.std.specs.Prelude.{◌≡◌, ◌≢◌, IfOk, IfErr, Some, map};
+ghost use Rattle.std.specs.Prelude.{◌≡◌, ◌≢◌, ℕ, List, IfOk, IfErr, Some, map};
 ghost use Rattle.av_types.specs.declared.fault.Fault.TheVariants.{OutOfMemory, BadTable};
 ghost use Rattle.av_state.specs.Table.{states};
 ghost use Rattle.av_rules.specs.Tables.{table_of};
@@ -7,19 +7,21 @@ ghost use Rattle.av_land.specs.Land.{is_loaded};
 ghost use Rattle.av_edits.specs.Edits.{first_in_edits};
 ghost use Rattle.av_edits.specs.Numbered.{number_sets};
 ghost use Rattle.av_world.specs.Lands.{land_of, IsUncarved};
+ghost use Rattle.av_files.specs.Files.{File};
 ghost use Rattle.av_files.specs.FirstFault.{IsTable, IsBadTable, IsFilesFault};
 ghost use Rattle.av_files.specs.Layers.{AreEdits};
 ghost use Rattle.av_image.specs.Loading.{file_in};
 ghost use Rattle.av_run.specs.Input.{IsLoadedFrom, IsInput, IsInputFault};
 
 use av_edits::Edit;
-use av_image::{Rest, load};
+use av_image::{Rest, load, load_on};
 use av_rules::{Kinds, Rules};
 use av_sink::RegionFile;
 use av_state::StateTable;
 use av_types::Fault;
 use av_world::World;
 use std::alloc::Global;
+use std::thread::Threads;
 
 /// What a run begins with.
 #[derive(Drop)]
@@ -58,6 +60,21 @@ fn load_new(alloc: Global, files: Vec<RegionFile>, rules: &Rules) -> Result<Load
     Ok(Loaded { table, world, rest })
 }
 
+/// The same, read by several threads.
+fn load_new_on(
+    rt: &(impl Threads + Sync),
+    alloc: Global,
+    files: Vec<RegionFile>,
+    rules: &Rules,
+) -> Result<Loaded, Fault>
+    ensures ok { IfOk result (IsLoadedFrom rules.now.height (map file_in files.items)) }
+    ensures err { IfErr result (λ e. e ≢ OutOfMemory → IsFilesFault rules.now.height (map file_in files.items) e) }
+{
+    let mut table = StateTable::new(alloc)?;
+    let (world, rest) = load_on(rt, alloc, files, rules, &mut table)?;
+    Ok(Loaded { table, world, rest })
+}
+
 /// The edits that a text states.
 fn read_edits(
     alloc: Global,
@@ -71,6 +88,31 @@ fn read_edits(
     ensures err { IfErr result (λ e. e ≢ OutOfMemory → first_in_edits (is_loaded (land_of world.now)) ticks (states table.old) text.now ≡ Some e) }
 {
     av_edits::read(alloc, text, ticks, world, table)
+}
+
+/// What a run begins with, where its files and its block table are read.
+fn with_edits(
+    alloc: Global,
+    loaded: Loaded,
+    rules: &Rules,
+    edits: &[u8],
+    ticks: u32,
+) -> Result<Input, Fault>
+    requires { IsUncarved loaded.world }
+    ensures ok { IfOk result (λ input. (files : List File) → (table : List ℕ) → IsTable table (table_of rules.now) rules.now.height → IsLoadedFrom rules.now.height files loaded → IsInput files table edits.now ticks input) }
+    ensures err { IfErr result (λ e. e ≢ OutOfMemory → (files : List File) → (table : List ℕ) → IsTable table (table_of rules.now) rules.now.height → IsLoadedFrom rules.now.height files loaded → IsInputFault files table edits.now ticks e) }
+{
+    let world = loaded.world;
+    let rest = loaded.rest;
+    let mut states = loaded.table;
+    let edits = read_edits(alloc, edits, ticks, &world, &mut states)?;
+    let kinds = Kinds::new(alloc, states, rules)?;
+    Ok(Input {
+        world,
+        rest,
+        kinds,
+        edits,
+    })
 }
 
 /// What a run begins with, from its files, its block table and its edits, in this order. Want of memory aside, the fault
@@ -87,15 +129,22 @@ pub fn read_input(
 {
     let rules = read_rules(alloc, table)?;
     let loaded = load_new(alloc, files, &rules)?;
-    let world = loaded.world;
-    let rest = loaded.rest;
-    let mut states = loaded.table;
-    let edits = read_edits(alloc, edits, ticks, &world, &mut states)?;
-    let kinds = Kinds::new(alloc, states, &rules)?;
-    Ok(Input {
-        world,
-        rest,
-        kinds,
-        edits,
-    })
+    with_edits(alloc, loaded, &rules, edits, ticks)
+}
+
+/// What `read_input` answers, of the same. Several threads read the files.
+pub(crate) fn read_input_on(
+    rt: &(impl Threads + Sync),
+    alloc: Global,
+    files: Vec<RegionFile>,
+    table: &[u8],
+    edits: &[u8],
+    ticks: u32,
+) -> Result<Input, Fault>
+    ensures ok { IfOk result (IsInput (map file_in files.items) table.now edits.now ticks) }
+    ensures err { IfErr result (λ e. e ≢ OutOfMemory → IsInputFault (map file_in files.items) table.now edits.now ticks e) }
+{
+    let rules = read_rules(alloc, table)?;
+    let loaded = load_new_on(rt, alloc, files, &rules)?;
+    with_edits(alloc, loaded, &rules, edits, ticks)
 }

@@ -11,7 +11,7 @@ ghost use Rattle.av_run.specs.Input.{CanRun};
 ghost use Rattle.av_run.specs.Finished.{reached_from, IsFinished};
 
 use crate::counts::are_counts_good;
-use crate::input::{Input, read_input};
+use crate::input::{Input, read_input_on};
 use crate::writing::written;
 use av_crew::{Gate, run_ticks};
 use av_sink::RegionFile;
@@ -93,6 +93,6 @@ pub fn run<R: Threads + Wait + Sync, G: Gate + Sync>(
     if !are_counts_good(files.as_slice(), ticks, workers) {
         return Err(Fault::BadCount);
     }
-    let input = read_input(alloc, files, table, edits, ticks)?;
+    let input = read_input_on(rt, alloc, files, table, edits, ticks)?;
     finish(rt, alloc, input, ticks, workers, gate)
 }

@@ -11,7 +11,7 @@ ghost use Rattle.av_image.specs.Views.{rest_in};
 ghost use Rattle.av_image.specs.Saving.{IsRestOf, states_in};
 ghost use Rattle.av_run.specs.Written.{AreKindsBy, AreFilesOf, IsNotWritten};
 
-use av_image::{Rest, save};
+use av_image::{Rest, save_on};
 use av_light::light_all;
 use av_rules::Kinds;
 use av_sink::RegionFile;
@@ -37,5 +37,5 @@ pub fn written(
     ensures err { IfErr result (λ e. e ≢ OutOfMemory → (t : BlockTable) → AreKindsBy t kinds.now → IsNotWritten t (states_in kinds.now world.now) (rest_in rest.now) ticks e) }
 {
     let lights = light_all(rt, alloc, world, kinds)?;
-    save(alloc, world, rest, kinds, lights.as_slice(), ticks)
+    save_on(rt, alloc, world, rest, kinds, lights.as_slice(), ticks)
 }

@@ -1,67 +1,18 @@
-use Rattle.std.proofs.Common.{◌≡◌, ◌≢◌, ◌∙◌, ℕ, List, Option, Some, None, Result, Ok, Err, IfErr, length, map, refl, ap, sym, subst}
-use Rattle.std.specs.Prelude.{option_map, MatchOption}
-use Rattle.std.proofs.lemmas.List.{length-map}
-use Rattle.std.proofs.lemmas.List.FromFn.{length-map-range_with_len}
-use Rattle.av_types.specs.Places.{chunk_at}
-use Rattle.av_types.specs.declared.place.RegionPos.{RegionPos}
-use Rattle.av_types.specs.declared.fault.Fault.{Fault}
-use Rattle.av_types.specs.declared.fault.Fault.TheVariants.{OutOfMemory, ChunkTooLarge}
-use Rattle.av_region.specs.Layout.{region_bytes, first_too_large}
-use Rattle.av_chunk.proofs.Found.{err_from}
-use Rattle.av_image.specs.SavingSteps.{payload_items, slot_payload, region_payloads, region_unsaved}
-use Rattle.std.specs.Prelude.{slice_get}
-use Rattle.av_files.specs.Files.{File}
+use Rattle.std.proofs.Common.{◌≡◌, ◌∙◌, map, ap, sym}
+use Rattle.std.specs.Prelude.{option_map}
+use Rattle.av_types.specs.declared.fault.Fault.TheVariants.{ChunkTooLarge}
+use Rattle.av_chunk.proofs.Found.{if_ok_then, if_err_then}
+use Rattle.av_image.specs.SavingSteps.{payload_items, region_payloads, file_with, too_large_among}
 use Rattle.av_image.proofs.saving.saved_region.Goals as goal
-
-abbrev err_in : (X : Type 0) → Fault → Result X Fault
-err_in X e = Err e
-
-abbrev ok_in : (X : Type 0) → X → Result X Fault
-ok_in X x = Ok x
-
-same_err : (X : Type 0) (a b : Fault) → err_in X a ≡ err_in X b → a ≡ b
-same_err X a b h = cc
-
-apart : (X : Type 0) (x : X) (e : Fault) → ok_in X x ≡ err_in X e → ⊥
-apart X x e h = cc
-
-refused : (X : Type 0) (o : Option ℕ) (p : RegionPos) (result : Result X Fault) (e : Fault) → result ≡ err_in X e
-    → MatchOption o (IfErr result (λ f. f ≡ OutOfMemory)) (λ i. result ≡ err_in X (ChunkTooLarge (chunk_at p i))) → e ≢ OutOfMemory → option_map ChunkTooLarge (option_map (chunk_at p) o) ≡ Some e
-refused X None p result e is m other = absurd (other (subst (λ (r : Result X Fault). IfErr r (λ f. f ≡ OutOfMemory)) is m))
-refused X (Some i) p result e is m other = ap Some (same_err X (ChunkTooLarge (chunk_at p i)) e (sym m ∙ is))
-
-fitting : (X : Type 0) (o : Option ℕ) (p : RegionPos) (result : Result X Fault) (x : X) → result ≡ ok_in X x
-    → MatchOption o (IfErr result (λ f. f ≡ OutOfMemory)) (λ i. result ≡ err_in X (ChunkTooLarge (chunk_at p i))) → option_map (chunk_at p) o ≡ None
-fitting X None p result x is m = refl
-fitting X (Some i) p result x is m = absurd (apart X x (ChunkTooLarge (chunk_at p i)) (sym is ∙ m))
-
-pub write-requires-clause-payloads : goal.write-requires-clause-payloads
-write-requires-clause-payloads c =
-    let r = c.args.region.now in
-    let same : map (option_map payload_items) c.as_slice.result.now ≡ region_payloads c.args.world.now c.args.kinds.now c.args.lights.now c.args.elapsed r = ap (map (option_map payload_items)) c.as_slice.ensures.value ∙ c.in_ok-contents.ensures in
-    sym (length-map c.as_slice.result.now (option_map payload_items))
-    ∙ (ap length same ∙ length-map-range_with_len (λ i. slot_payload c.args.world.now c.args.kinds.now c.args.lights.now c.args.elapsed (chunk_at r.pos i) (slice_get r.slots.items i)) 0 1024)
 
 pub returns-clause-ok : goal.returns-clause-ok
 returns-clause-ok c =
     let r = c.args.region.now in
     let same : map (option_map payload_items) c.as_slice.result.now ≡ region_payloads c.args.world.now c.args.kinds.now c.args.lights.now c.args.elapsed r = ap (map (option_map payload_items)) c.as_slice.ensures.value ∙ c.in_ok-contents.ensures in
-    let stamps : c.as_slice-2.result.now ≡ r.stamps.items = c.as_slice-2.ensures.value in
-    let made : List ℕ → File = λ b. record { pos = r.pos; bytes = b } in
-    ap made (c.in_ok-bytes.ensures.ok ∙ (λ i. region_bytes (same i) (stamps i)))
+    if_ok_then c.region_of.result c.region_of.ensures.ok (λ file is. is ∙ ap (file_with r) same)
 
-pub returns-clause-fits : goal.returns-clause-fits
-returns-clause-fits c =
+pub returns-clause-err : goal.returns-clause-err
+returns-clause-err c =
     let r = c.args.region.now in
     let same : map (option_map payload_items) c.as_slice.result.now ≡ region_payloads c.args.world.now c.args.kinds.now c.args.lights.now c.args.elapsed r = ap (map (option_map payload_items)) c.as_slice.ensures.value ∙ c.in_ok-contents.ensures in
-    sym (ap (λ ps. option_map (chunk_at r.pos) (first_too_large ps)) same)
-    ∙ fitting _ (first_too_large (map (option_map payload_items) c.as_slice.result.now)) r.pos c.write.result c.in_ok-bytes.bytes c.in_ok-bytes.was c.write.ensures.err
-
-pub returns-in_err-bytes-clause-err : goal.returns-in_err-bytes-clause-err
-returns-in_err-bytes-clause-err c =
-    let r = c.args.region.now in
-    let e = c.in_err-bytes.field-0.0 in
-    let same : map (option_map payload_items) c.as_slice.result.now ≡ region_payloads c.args.world.now c.args.kinds.now c.args.lights.now c.args.elapsed r = ap (map (option_map payload_items)) c.as_slice.ensures.value ∙ c.in_ok-contents.ensures in
-    err_from c.from_residual-in_err-bytes.result e (λ x. x ≢ OutOfMemory → option_map ChunkTooLarge (region_unsaved c.args.world.now c.args.kinds.now c.args.lights.now c.args.elapsed r) ≡ Some x) c.from_residual-in_err-bytes.ensures.1
-    (λ other. ap (option_map ChunkTooLarge) (sym (ap (λ ps. option_map (chunk_at r.pos) (first_too_large ps)) same))
-    ∙ refused _ (first_too_large (map (option_map payload_items) c.as_slice.result.now)) r.pos c.write.result e c.in_err-bytes.was c.write.ensures.err other)
+    if_err_then c.region_of.result c.region_of.ensures.err (λ e bad other. ap (λ ps. option_map ChunkTooLarge (too_large_among r ps)) (sym same) ∙ bad other)

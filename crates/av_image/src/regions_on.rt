@@ -1,0 +1,126 @@
+//! All places of region files, whose payloads several threads decode.
+ghost use Rattle.std.specs.Prelude.{◌≡◌, ◌≢◌, ◌+◌, IfOk, IfErr, OnOk, length, map};
+ghost use Rattle.std.specs.List.{All};
+ghost use Rattle.av_types.specs.declared.fault.Fault.TheVariants.{OutOfMemory};
+ghost use Rattle.av_types.specs.Places.{IsInLimits};
+ghost use Rattle.av_state.specs.Table.{states};
+ghost use Rattle.av_section.specs.Reading.{OnlyGrows};
+ghost use Rattle.av_files.specs.Layout.{indices};
+ghost use Rattle.av_files.specs.FirstFault.{IsFirstOfPlaces, IsFirstOfFile, IsFirstOfFiles};
+ghost use Rattle.av_image.specs.Ahead.{AreAhead};
+ghost use Rattle.av_image.specs.Placed.{ArePlacesRead, IsRegionRead, AreRegionsRead, file_of};
+ghost use Rattle.av_image.specs.Ways.{GoesOn, Stops};
+
+use crate::ahead::roots_ahead;
+use crate::batch::{BATCH, Batch};
+use crate::places::{Place, read_place_by};
+use crate::regions::{ReadRegion, read_stamps};
+use av_nbt::Root;
+use av_region::Region;
+use av_sink::RegionFile;
+use av_state::StateTable;
+use av_types::{Fault, Height, RegionPos};
+use std::alloc::Global;
+use std::thread::Threads;
+
+/// Reads the places of a batch, behind those before it, by the documents that were decoded.
+fn read_batch(
+    alloc: Global,
+    batch: &Batch<'_>,
+    mut roots: Vec<Option<Root>>,
+    pos: RegionPos,
+    height: Height,
+    table: &mut StateTable,
+    places: &mut Vec<Place>,
+) -> Result<(), Fault>
+    requires limits { IsInLimits pos }
+    requires long { length roots.items ≡ 64 }
+    requires ahead { AreAhead batch.now roots.items }
+    ensures ok { OnOk result (GoesOn height (file_of pos batch.now.region.bytes.now) (states table.old) batch.now.first places.old.items (states table.new) (batch.now.first + 64) places.new.items) }
+    ensures err { IfErr result (λ e. e ≢ OutOfMemory → Stops height (file_of pos batch.now.region.bytes.now) (states table.old) batch.now.first places.old.items e) }
+    ensures table { OnlyGrows (states table.old) (states table.new) }
+{
+    for offset in 0..BATCH {
+        let place = read_place_by(
+            alloc,
+            &batch.region,
+            roots[offset].take(),
+            pos,
+            batch.first + offset,
+            height,
+            table,
+        )?;
+        places.push(place)?;
+    }
+    Ok(())
+}
+
+/// All places of a region, in the order of their indices. Only a batch is decoded before it is read: the documents of all
+/// would take much memory, and most of the work on a region that is refused early would be for nothing.
+fn read_places_on(
+    rt: &(impl Threads + Sync),
+    alloc: Global,
+    region: &Region<'_>,
+    pos: RegionPos,
+    height: Height,
+    table: &mut StateTable,
+) -> Result<Vec<Place>, Fault>
+    requires { IsInLimits pos }
+    ensures ok { IfOk result (λ places. ArePlacesRead height (states table.old) (states table.new) (file_of pos region.now.bytes.now) places.items) }
+    ensures err { IfErr result (λ e. e ≢ OutOfMemory → IsFirstOfPlaces height (states table.old) (file_of pos region.now.bytes.now) indices e) }
+    ensures table { OnlyGrows (states table.old) (states table.new) }
+{
+    let mut places = Vec::new(alloc);
+    for number in 0..1024 / BATCH {
+        let batch = Batch {
+            region: *region,
+            first: BATCH * number,
+        };
+        let roots = roots_ahead(rt, alloc, &batch)?;
+        read_batch(alloc, &batch, roots, pos, height, table, &mut places)?;
+    }
+    Ok(places)
+}
+
+/// A region's file, read. Its bytes are let go.
+fn read_region_on(
+    rt: &(impl Threads + Sync),
+    alloc: Global,
+    file: RegionFile,
+    height: Height,
+    table: &mut StateTable,
+) -> Result<ReadRegion, Fault>
+    requires { IsInLimits file.pos }
+    ensures ok { IfOk result (IsRegionRead height (states table.old) (states table.new) (file_of file.pos file.bytes.items)) }
+    ensures err { IfErr result (λ e. e ≢ OutOfMemory → IsFirstOfFile height (states table.old) (file_of file.pos file.bytes.items) e) }
+    ensures table { OnlyGrows (states table.old) (states table.new) }
+{
+    let region = Region::read(file.bytes.as_slice())?;
+    let stamps = read_stamps(alloc, &region)?;
+    let places = read_places_on(rt, alloc, &region, file.pos, height, table)?;
+    Ok(ReadRegion {
+        pos: file.pos,
+        stamps,
+        places,
+    })
+}
+
+/// Region files, one after the other.
+pub(crate) fn read_regions_on(
+    rt: &(impl Threads + Sync),
+    alloc: Global,
+    files: Vec<RegionFile>,
+    height: Height,
+    table: &mut StateTable,
+) -> Result<Vec<ReadRegion>, Fault>
+    requires { All (λ f. IsInLimits f.pos) files.items }
+    ensures ok { IfOk result (λ regions. AreRegionsRead height (states table.old) (states table.new) (map (λ f. file_of f.pos f.bytes.items) files.items) regions.items) }
+    ensures err { IfErr result (λ e. e ≢ OutOfMemory → IsFirstOfFiles height (states table.old) (map (λ f. file_of f.pos f.bytes.items) files.items) e) }
+    ensures table { OnlyGrows (states table.old) (states table.new) }
+{
+    let mut regions = Vec::new(alloc);
+    for file in files {
+        regions.push(read_region_on(rt, alloc, file, height, table)?)?;
+    }
+    Ok(regions)
+}
