@@ -1,5 +1,5 @@
 -- Places on a board.
-use Rattle.std.proofs.Common.{IsTrue, ◌≡◌, ℕ, ℤ, pos, negsuc, ◌+◌, ◌-◌, ◌*◌, ◌<◌, ◌≤◌, ◌+ℤ◌, ◌-ℤ◌, ◌/◌, ◌%◌, ◌*ℤ◌, ◌<ℤ◌, ◌≤ℤ◌, ◌&&◌, Bool, true, false, cond, suc, zero, List, length, get_or, set, replicate, refl, sym, ap, ◌∙◌, subst, arith}
+use Rattle.std.proofs.Common.{IsTrue, ◌≡◌, ℕ, ℤ, pos, negsuc, ◌+◌, ◌-◌, ◌*◌, ◌<◌, ◌≤◌, ◌+ℤ◌, ◌-ℤ◌, ◌/◌, ◌%◌, ◌*ℤ◌, ◌<ℤ◌, ◌≤ℤ◌, ◌&&◌, Bool, true, false, cond, List, length, get_or, set, refl, sym, ap, ◌∙◌, subst, arith}
 use Rattle.std.proofs.lemmas.Int.{ints}
 use Rattle.std.specs.Prelude.{int_le, int_lt, nat_le}
 use Rattle.std.proofs.lemmas.List.{get_or-set_same, get_or-set_other}
@@ -11,10 +11,10 @@ use Rattle.av_types.specs.declared.place.Height.{Height}
 use Rattle.av_types.specs.Division.{divided}
 use Rattle.av_types.specs.Places.{chunk_of, same_pos}
 use Rattle.av_types.proofs.SamePlaces.{same_pos_is, same_pos-refl}
-use Rattle.av_flood.specs.Offsets.{is_within, offset, IsNth, IsBeyond}
+use Rattle.av_flood.specs.Offsets.{is_within, offset, IsNth, IsBeyond, away, apart}
 use Rattle.av_flood.specs.Board.{corner, is_on, index_of, IsOff, IsPlace}
 use Rattle.av_flood.specs.Blocks.{IsNear, IsFarFromEnds, MayBeLoaded, column_at}
-use Rattle.av_flood.specs.Flooding.{Matters, IsNearAlong}
+use Rattle.av_flood.specs.Flooding.{Matters, IsNearAlong, IsSettled}
 
 and_false_left : (a b : Bool) → a ≡ false → (a && b) ≡ false
 and_false_left true b e = grind arith
@@ -65,9 +65,9 @@ offset_below from x size h = on (offset (x -ℤ from)) (offset_back from x size 
 same_offset : (from x y : ℤ) (size : ℕ) → is_within from size x ≡ true → is_within from size y ≡ true → offset (x -ℤ from) ≡ offset (y -ℤ from) → x ≡ y
 same_offset from x y size h k e = offset_back from x size h ∙ ap (λ n. from +ℤ pos n) e ∙ sym (offset_back from y size k)
 
-apart : (x y z a b c : ℕ) → x < 44 → z < 44 → a < 44 → c < 44 → 44 * (44 * y + z) + x ≡ 44 * (44 * b + c) + a → record { x_is : x ≡ a; y_is : y ≡ b; z_is : z ≡ c }
-apart x y z a b c l m n o e =
-    let q : 44 * y + z ≡ 44 * b + c = omega arith in
+parted : (x y z a b c : ℕ) → x < 44 → z < 44 → a < 44 → c < 44 → 44 * (44 * (y + 1) + z) + x ≡ 44 * (44 * (b + 1) + c) + a → record { x_is : x ≡ a; y_is : y ≡ b; z_is : z ≡ c }
+parted x y z a b c l m n o e =
+    let q : 44 * (y + 1) + z ≡ 44 * (b + 1) + c = omega arith in
     record { x_is = omega arith; y_is = omega arith; z_is = omega arith }
 
 pub same_index : (c : ChunkPos) (h : Height) (p q : Pos) → is_on c h p ≡ true → is_on c h q ≡ true → index_of c h p ≡ index_of c h q → p ≡ q
@@ -81,7 +81,7 @@ same_index c h p q on_p on_q e =
     let xq = and_left (is_within k.x 44 q.x) (is_within k.z 44 q.z) xz_q in
     let zq = and_right (is_within k.x 44 q.x) (is_within k.z 44 q.z) xz_q in
     let yq = and_right (is_within k.x 44 q.x && is_within k.z 44 q.z) (is_within k.y (16 * h.sections) q.y) on_q in
-    let same = apart (offset (p.x -ℤ k.x)) (offset (p.y -ℤ k.y)) (offset (p.z -ℤ k.z)) (offset (q.x -ℤ k.x)) (offset (q.y -ℤ k.y)) (offset (q.z -ℤ k.z))
+    let same = parted (offset (p.x -ℤ k.x)) (offset (p.y -ℤ k.y)) (offset (p.z -ℤ k.z)) (offset (q.x -ℤ k.x)) (offset (q.y -ℤ k.y)) (offset (q.z -ℤ k.z))
     (offset_below k.x p.x 44 xp) (offset_below k.z p.z 44 zp) (offset_below k.x q.x 44 xq) (offset_below k.z q.z 44 zq) e in
     let x = same_offset k.x p.x q.x 44 xp xq same.x_is in
     let y = same_offset k.y p.y q.y (16 * h.sections) yp yq same.y_is in
@@ -98,7 +98,7 @@ module _ (c : ChunkPos) (h : Height) (p : Pos) where
   pub off_y : IsBeyond (corner c h).y (16 * h.sections) p.y → IsOff c h p
   off_y e = record { off = and_false_right (is_within (corner c h).x 44 p.x && is_within (corner c h).z 44 p.z) (is_within (corner c h).y (16 * h.sections) p.y) e.beyond }
 
-  pub placed : (x y z : ℕ) → IsNth (corner c h).x 44 p.x x → IsNth (corner c h).z 44 p.z z → IsNth (corner c h).y (16 * h.sections) p.y y → IsPlace c h p (44 * (44 * y + z) + x)
+  pub placed : (x y z : ℕ) → IsNth (corner c h).x 44 p.x x → IsNth (corner c h).z 44 p.z z → IsNth (corner c h).y (16 * h.sections) p.y y → IsPlace c h p (44 * (44 * (y + 1) + z) + x)
   placed x y z a b d =
       let k = corner c h in
       let i = offset_nth k.x p.x 44 x a in
@@ -106,7 +106,7 @@ module _ (c : ChunkPos) (h : Height) (p : Pos) where
       let l = offset_nth k.z p.z 44 z b in
       record {
         on = and_both (is_within k.x 44 p.x && is_within k.z 44 p.z) (is_within k.y (16 * h.sections) p.y) (and_both (is_within k.x 44 p.x) (is_within k.z 44 p.z) (within_nth k.x p.x 44 x a) (within_nth k.z p.z 44 z b)) (within_nth k.y p.y (16 * h.sections) y d);
-        is = λ n. 44 * (44 * j n + l n) + i n;
+        is = λ n. 44 * (44 * (j n + 1) + l n) + i n;
         less = let f = a.less in let g = b.less in let m = d.less in omega arith;
       }
 
@@ -121,32 +121,90 @@ light_set c h p xs n i place less q = cases (same_pos q p) refl (is_on c h q) re
   cases false e true f = get_or-set_other xs i (index_of c h q) n 0 (λ j. false≢true (sym e ∙ ap (same_pos q) (same_index c h p q place.on f (sym place.is ∙ sym j)) ∙ same_pos-refl q))
   cases false e false f = refl
 
--- and what that makes of lights, and of which blocks have theirs
-pub light_set_light : (c : ChunkPos) (h : Height) (p : Pos) (xs : List ℕ) (n i : ℕ) → IsPlace c h p i → i < length xs → (q : Pos)
-    → cond (is_on c h q) (get_or (set xs i (128 + n)) (index_of c h q) 0) 0 - 128 ≡ cond (same_pos q p) n (cond (is_on c h q) (get_or xs (index_of c h q) 0) 0 - 128)
-light_set_light c h p xs n i place less q = on (same_pos q p) _ _ (light_set c h p xs (128 + n) i place less q) where
-  on : (b : Bool) (new old : ℕ) → new ≡ cond b (128 + n) old → new - 128 ≡ cond b n (old - 128)
-  on true new old e = omega arith
-  on false new old e = omega arith
+-- a block of the board stands where it is said to
+pub place_of : (c : ChunkPos) (h : Height) (p : Pos) → is_on c h p ≡ true → IsPlace c h p (index_of c h p)
+place_of c h p on =
+    let k = corner c h in
+    let xz = and_left (is_within k.x 44 p.x && is_within k.z 44 p.z) (is_within k.y (16 * h.sections) p.y) on in
+    let x = offset_below k.x p.x 44 (and_left (is_within k.x 44 p.x) (is_within k.z 44 p.z) xz) in
+    let z = offset_below k.z p.z 44 (and_right (is_within k.x 44 p.x) (is_within k.z 44 p.z) xz) in
+    let y = offset_below k.y p.y (16 * h.sections) (and_right (is_within k.x 44 p.x && is_within k.z 44 p.z) (is_within k.y (16 * h.sections) p.y) on) in
+    record { on = on; is = refl; less = omega arith }
 
-pub light_set_settled : (c : ChunkPos) (h : Height) (p : Pos) (xs : List ℕ) (n i : ℕ) → IsPlace c h p i → i < length xs → (q : Pos)
-    → nat_le 128 (cond (is_on c h q) (get_or (set xs i (128 + n)) (index_of c h q) 0) 0) ≡ cond (same_pos q p) true (nat_le 128 (cond (is_on c h q) (get_or xs (index_of c h q) 0) 0))
-light_set_settled c h p xs n i place less q = on (same_pos q p) _ _ (light_set c h p xs (128 + n) i place less q) where
+pub raw_at : (c : ChunkPos) (h : Height) (p : Pos) (xs : List ℕ) (i : ℕ) → IsPlace c h p i → get_or xs i 0 ≡ cond (is_on c h p) (get_or xs (index_of c h p) 0) 0
+raw_at c h p xs i place = ap (λ j. get_or xs j 0) place.is ∙ ap (λ b. cond b (get_or xs (index_of c h p) 0) 0) (sym place.on)
+
+-- so many steps from the ends
+pub record IsStepped (c : ChunkPos) (h : Height) (p : Pos) (i : ℕ) : Type 0 where
+  pub x : ℕ
+  pub z : ℕ
+  pub y : ℕ
+  pub nth_x : IsNth (corner c h).x 44 p.x x
+  pub nth_z : IsNth (corner c h).z 44 p.z z
+  pub nth_y : IsNth (corner c h).y (16 * h.sections) p.y y
+  pub is : i ≡ 44 * (44 * (y + 1) + z) + x
+
+pub stepped : (c : ChunkPos) (h : Height) (p : Pos) (i : ℕ) → IsPlace c h p i → IsStepped c h p i
+stepped c h p i place =
+    let k = corner c h in
+    let xz = and_left (is_within k.x 44 p.x && is_within k.z 44 p.z) (is_within k.y (16 * h.sections) p.y) place.on in
+    let x = and_left (is_within k.x 44 p.x) (is_within k.z 44 p.z) xz in
+    let z = and_right (is_within k.x 44 p.x) (is_within k.z 44 p.z) xz in
+    let y = and_right (is_within k.x 44 p.x && is_within k.z 44 p.z) (is_within k.y (16 * h.sections) p.y) place.on in
+    record {
+      x = offset (p.x -ℤ k.x);
+      z = offset (p.z -ℤ k.z);
+      y = offset (p.y -ℤ k.y);
+      nth_x = record { less = offset_below k.x p.x 44 x; is = offset_back k.x p.x 44 x };
+      nth_z = record { less = offset_below k.z p.z 44 z; is = offset_back k.z p.z 44 z };
+      nth_y = record { less = offset_below k.y p.y (16 * h.sections) y; is = offset_back k.y p.y (16 * h.sections) y };
+      is = place.is;
+    }
+
+-- what of a byte is light, and whether there is any
+pub lit_raw : (b : ℕ) → cond (nat_le 128 b) b 0 - 128 ≡ b - 128
+lit_raw b = on (nat_le 128 b) refl where
+  on : (t : Bool) → nat_le 128 b ≡ t → cond t b 0 - 128 ≡ b - 128
+  on true e = refl
+  on false e = grind (arith, nat_tests)
+
+pub byte_low : (b : ℕ) → b < 128 → cond (nat_le 128 b) b 0 ≡ 0
+byte_low b l = on (nat_le 128 b) refl where
+  on : (t : Bool) → nat_le 128 b ≡ t → cond t b 0 ≡ 0
+  on true e = grind (arith, nat_tests)
+  on false e = refl
+
+seen_raw : (b : ℕ) → nat_le 128 (cond (nat_le 128 b) b 0) ≡ nat_le 128 b
+seen_raw b = on (nat_le 128 b) refl where
+  on : (t : Bool) → nat_le 128 b ≡ t → nat_le 128 (cond t b 0) ≡ nat_le 128 b
+  on true e = refl
+  on false e = sym e
+
+pub not_seen : (b : ℕ) → nat_le 128 (cond (nat_le 128 b) b 0) ≡ false → b < 128
+not_seen b e = let f : nat_le 128 b ≡ false = sym (seen_raw b) ∙ e in grind (arith, nat_tests)
+
+-- what a settled block makes of lights, of which blocks have theirs, and of bytes
+module _ (old new : Pos → ℕ) (p : Pos) (n : ℕ) (set : IsSettled old new p (128 + n)) where
+  pub settled_light : (q : Pos) → cond (nat_le 128 (new q)) (new q) 0 - 128 ≡ cond (same_pos q p) n (cond (nat_le 128 (old q)) (old q) 0 - 128)
+  settled_light q = lit_raw (new q) ∙ on (same_pos q p) (set q) where
+    on : (b : Bool) → new q ≡ cond b (128 + n) (old q) → new q - 128 ≡ cond b n (cond (nat_le 128 (old q)) (old q) 0 - 128)
+    on true e = omega arith
+    on false e = ap (λ m. m - 128) e ∙ sym (lit_raw (old q))
+
   high : nat_le 128 (128 + n) ≡ true
   high = grind (arith, nat_tests)
 
-  on : (b : Bool) (new old : ℕ) → new ≡ cond b (128 + n) old → nat_le 128 new ≡ cond b true (nat_le 128 old)
-  on true new old e = ap (nat_le 128) e ∙ high
-  on false new old e = ap (nat_le 128) e
+  pub settled_settled : (q : Pos) → nat_le 128 (cond (nat_le 128 (new q)) (new q) 0) ≡ cond (same_pos q p) true (nat_le 128 (cond (nat_le 128 (old q)) (old q) 0))
+  settled_settled q = seen_raw (new q) ∙ on (same_pos q p) (set q) where
+    on : (b : Bool) → new q ≡ cond b (128 + n) (old q) → nat_le 128 (new q) ≡ cond b true (nat_le 128 (cond (nat_le 128 (old q)) (old q) 0))
+    on true e = ap (nat_le 128) e ∙ high
+    on false e = ap (nat_le 128) e ∙ sym (seen_raw (old q))
 
--- a board with no light
-pub light_none : (b : Bool) (n i : ℕ) → cond b (get_or (replicate {A = ℕ} n 0) i 0) 0 ≡ 0
-light_none true n i = on n i where
-  on : (n i : ℕ) → get_or (replicate {A = ℕ} n 0) i 0 ≡ 0
-  on zero i = refl
-  on (suc n) zero = refl
-  on (suc n) (suc i) = on n i
-light_none false n i = refl
+  pub settled_byte : IsSettled (λ q. cond (nat_le 128 (old q)) (old q) 0) (λ q. cond (nat_le 128 (new q)) (new q) 0) p (128 + n)
+  settled_byte q = on (same_pos q p) (set q) where
+    on : (b : Bool) → new q ≡ cond b (128 + n) (old q) → cond (nat_le 128 (new q)) (new q) 0 ≡ cond b (128 + n) (cond (nat_le 128 (old q)) (old q) 0)
+    on true e = ap (λ m. cond (nat_le 128 m) m 0) e ∙ ap (λ t. cond t (128 + n) 0) high
+    on false e = ap (λ m. cond (nat_le 128 m) m 0) e
 
 -- where light matters is on the board
 pub on_board : (c : ChunkPos) (h : Height) (n : ℕ) (p : Pos) → n ≤ 15 → Matters c n p → IsNear h p → IsTrue (is_on c h p)
@@ -226,3 +284,45 @@ near_own x c e = subst (λ d. IsNearAlong (pos 16 *ℤ d) 0 x) e (let i = quotie
 
 pub matters_own : (c : ChunkPos) (p : Pos) → chunk_of p ≡ c → Matters c 1 p
 matters_own c p e = record { over_x = 0; over_z = 0; less = omega arith; along_x = near_own p.x c.x (ap (λ d. d.x) e); along_z = near_own p.z c.z (ap (λ d. d.z) e) }
+
+-- light of more than its steps to the chunk matters at a block, and no other does
+column_x : (x z y : ℕ) → x < 44 → z < 44 → (44 * (44 * (y + 1) + z) + x) % 1936 % 44 ≡ x
+column_x x z y l m = let e : (44 * (44 * (y + 1) + z) + x) % 1936 ≡ 44 * z + x = omega arith in omega arith
+
+column_z : (x z y : ℕ) → x < 44 → z < 44 → (44 * (44 * (y + 1) + z) + x) % 1936 / 44 ≡ z
+column_z x z y l m = let e : (44 * (44 * (y + 1) + z) + x) % 1936 ≡ 44 * z + x = omega arith in omega arith
+
+apart_is : (x z y i : ℕ) → x < 44 → z < 44 → i ≡ 44 * (44 * (y + 1) + z) + x → apart (i % 1936) ≡ away x + away z
+apart_is x z y i l m e = λ k. away (let f : i % 1936 % 44 ≡ x = ap (λ j. j % 1936 % 44) e ∙ column_x x z y l m in f k) + away (let f : i % 1936 / 44 ≡ z = ap (λ j. j % 1936 / 44) e ∙ column_z x z y l m in f k)
+
+pub apart_at : (x z : ℕ) → x < 44 → z < 44 → apart (44 * z + x) ≡ away x + away z
+apart_at x z l m = λ k. away (let f : (44 * z + x) % 44 ≡ x = omega arith in f k) + away (let f : (44 * z + x) / 44 ≡ z = omega arith in f k)
+
+near_away : (from x : ℤ) (n : ℕ) → IsNth (from -ℤ pos 14) 44 x n → IsNearAlong from (away n) x
+near_away from x n h = let l = h.less in let e = h.is in record { low = omega (arith, ints); high = omega (arith, ints) }
+
+away_least : (from x : ℤ) (n k : ℕ) → IsNth (from -ℤ pos 14) 44 x n → IsNearAlong from k x → away n ≤ k
+away_least from x n k h a = let l = h.less in let e = h.is in let f = a.low in let g = a.high in omega (arith, ints)
+
+pub matters_above : (c : ChunkPos) (h : Height) (p : Pos) (i v : ℕ) → IsPlace c h p i → apart (i % 1936) < v → Matters c v p
+matters_above c h p i v place less =
+    let s = stepped c h p i place in
+    record {
+      over_x = away s.x;
+      over_z = away s.z;
+      less = let e = apart_is s.x s.z s.y i s.nth_x.less s.nth_z.less s.is in omega (arith, e);
+      along_x = near_away _ _ _ s.nth_x;
+      along_z = near_away _ _ _ s.nth_z;
+    }
+
+pub matters_only : (c : ChunkPos) (h : Height) (p : Pos) (i v : ℕ) → IsPlace c h p i → Matters c v p → apart (i % 1936) < v
+matters_only c h p i v place m =
+    let s = stepped c h p i place in
+    let e = apart_is s.x s.z s.y i s.nth_x.less s.nth_z.less s.is in
+    let a = away_least _ _ _ _ s.nth_x m.along_x in
+    let b = away_least _ _ _ _ s.nth_z m.along_z in
+    let l = m.less in
+    omega (arith, e, a, b)
+
+pub apart_most : (i : ℕ) → apart (i % 1936) ≤ 28
+apart_most i = let a : i % 1936 / 44 < 44 = omega arith in let b : i % 1936 % 44 < 44 = omega arith in omega arith

@@ -1,18 +1,20 @@
 -- Steps of a flood.
 use Rattle.std.proofs.Common.{◌≡◌, ℕ, ◌+◌, ◌-◌, ◌<◌, ◌≤◌, ◌⊎◌, Bool, true, false, cond, inl, inr, ⊎_elim, suc, zero, IsTrue, List, [], ◌∷◌, length, get_or, eqb, ◌≢◌, refl, sym, ap, ◌∙◌, subst, arith}
-use Rattle.std.specs.Prelude.{Contains, nat_le, map, None}
+use Rattle.std.specs.Prelude.{Contains}
 use Rattle.av_types.specs.declared.place.Pos.{Pos}
 use Rattle.av_types.specs.declared.place.ChunkPos.{ChunkPos}
+use Rattle.av_types.specs.declared.place.Height.{Height}
 use Rattle.av_types.specs.Places.{same_pos}
 use Rattle.av_types.proofs.SamePlaces.{same_pos_is, same_pos-refl}
-use Rattle.av_flood.specs.declared.spots.Spot.{Spot}
-use Rattle.av_flood.specs.Light.{Terrain, sides, IsAdjacent, cost, HasLight, IsLight}
-use Rattle.av_flood.specs.Flooding.{Matters, Levels, Has, IsMarked, IsSoundAt, IsFlooding, IsPushed, IsPopped, IsNone, IsGrown, IsOffered, WaitsIfEmitting, IsStarted, IsSettled}
-use Rattle.std.proofs.lemmas.List.{length-map, get_or-map}
+use Rattle.av_flood.specs.Light.{Terrain, sides, below, above, north, south, west, east, IsAdjacent, cost, HasLight, IsLight}
+use Rattle.av_flood.specs.Board.{is_on}
+use Rattle.av_flood.specs.Blocks.{IsNear}
+use Rattle.av_flood.specs.Flooding.{Matters, Levels, Waits, Has, IsNoted, IsMarked, IsSoundAt, IsFlooding, IsPushed, IsPopped, IsNone, IsGrown, IsBrought, IsOffered, WaitsIfEmitting, IsStarted, IsSettled}
 use Rattle.std.proofs.lemmas.Bool.{false≢true, cases_lt}
-use Rattle.std.proofs.lemmas.Bool.Decides.{eqb_tells, nat_tests}
+use Rattle.std.proofs.lemmas.Bool.Decides.{eqb_tells}
 use Rattle.av_flood.proofs.Queues.{IsPushed-kept, IsPushed-only, IsPushed-there, IsPopped-back}
 use Rattle.av_flood.proofs.Paths.{IsLight-closed, Matters-more, HasLight-next, HasLight-emitted}
+use Rattle.av_flood.proofs.Boards.{on_board}
 
 -- the block that was settled, or another
 settled_cases : (old new : Pos → ℕ) (p : Pos) (n : ℕ) → IsSettled old new p n → (q : Pos) → ((q ≡ p) × (new q ≡ n)) ⊎ (new q ≡ old q)
@@ -30,6 +32,12 @@ settled_at old new p n h = on (same_pos p p) (same_pos-refl p) (h p) where
 pub Has-less : (lit : Pos → ℕ) (todo : Levels) (p : Pos) (n v : ℕ) → v ≤ n → Has lit todo p n → Has lit todo p v
 Has-less lit todo p n v l (inl less) = inl (omega arith)
 Has-less lit todo p n v l (inr w) = inr (record { level = w.level; most = let m = w.most in omega arith; there = w.there })
+
+pub Waits-less : (todo : Levels) (p : Pos) (n v : ℕ) → v ≤ n → Waits todo p n → Waits todo p v
+Waits-less todo p n v l w = record { level = w.level; most = let m = w.most in omega arith; there = w.there }
+
+pub Waits-grown : (old new : Levels) (p : Pos) (v : ℕ) → ((m : ℕ) (r : Pos) → Contains (old m) r → Contains (new m) r) → Waits old p v → Waits new p v
+Waits-grown old new p v kept w = record { level = w.level; most = w.most; there = kept w.level p w.there }
 
 pub Has-passed : (n : ℕ) (lit : Pos → ℕ) (old new : Levels) (p : Pos) → IsPopped old new n p → n ≤ lit p → (q : Pos) (v : ℕ) → Has lit old q v → Has lit new q v
 Has-passed n lit old new p popped b q v (inl less) = inl less
@@ -161,24 +169,8 @@ IsOffered-grown t c n lit old new q g h = record { has = λ l v positive e m. Ha
 pub IsSoundAt-next : (t : Terrain) (c : ChunkPos) (n v : ℕ) (p q : Pos) → IsAdjacent p q → HasLight t p n → IsTrue (t.loaded q) → 0 < v → v + cost t q ≡ n → Matters c v q → IsSoundAt t c v q
 IsSoundAt-next t c n v p q a h l positive e m = record { loaded = l; positive = positive; matters = m; comes = HasLight-next t p q n v a l e h }
 
-pub IsOffered-pushed : (t : Terrain) (c : ChunkPos) (n k : ℕ) (lit : Pos → ℕ) (old new : Levels) (q : Pos) → k ≡ cost t q → k < n → IsPushed old new (n - k) q → IsOffered t c n lit new q
-IsOffered-pushed t c n k lit old new q is less pushed = record { has = λ l v positive e m. inr (record { level = n - k; most = omega arith; there = IsPushed-there old new (n - k) q pushed }) }
-
-pub IsOffered-dim : (t : Terrain) (c : ChunkPos) (n k : ℕ) (lit : Pos → ℕ) (todo : Levels) (q : Pos) → k ≡ cost t q → n ≤ k → IsOffered t c n lit todo q
-IsOffered-dim t c n k lit todo q is most = record { has = λ l v positive e m. absurd (omega arith) }
-
-pub IsOffered-far : (t : Terrain) (c : ChunkPos) (n k : ℕ) (lit : Pos → ℕ) (todo : Levels) (q : Pos) → k ≡ cost t q → (Matters c (n - k) q → ⊥) → IsOffered t c n lit todo q
-IsOffered-far t c n k lit todo q is far = record { has = λ l v positive e m. absurd (far (subst (λ w. Matters c w q) (let f : v ≡ n - k = omega arith in f) m)) }
-
--- not even the light that a step leaves matters there
-pub IsOffered-far_off : (t : Terrain) (c : ChunkPos) (n : ℕ) (lit : Pos → ℕ) (todo : Levels) (q : Pos) → (Matters c (n - 1) q → ⊥) → IsOffered t c n lit todo q
-IsOffered-far_off t c n lit todo q far = record { has = λ l v positive e m. absurd (far (record { over_x = m.over_x; over_z = m.over_z; less = let h = m.less in omega arith; along_x = m.along_x; along_z = m.along_z })) }
-
-pub IsOffered-bright : (t : Terrain) (c : ChunkPos) (n : ℕ) (lit : Pos → ℕ) (todo : Levels) (q : Pos) → n ≤ lit q → IsOffered t c n lit todo q
-IsOffered-bright t c n lit todo q most = record { has = λ l v positive e m. inl (omega arith) }
-
-pub IsOffered-unloaded : (t : Terrain) (c : ChunkPos) (n : ℕ) (lit : Pos → ℕ) (todo : Levels) (q : Pos) → t.loaded q ≡ false → IsOffered t c n lit todo q
-IsOffered-unloaded t c n lit todo q e = record { has = λ l v positive f m. absurd (false≢true (sym e ∙ l)) }
+pub IsBrought-pushed : (t : Terrain) (n k seen : ℕ) (old new : Levels) (q : Pos) → k ≡ cost t q → k < n → IsPushed old new (n - k) q → IsBrought t n seen new q
+IsBrought-pushed t n k seen old new q is less pushed = record { waits = λ l v more e. record { level = n - k; most = omega arith; there = IsPushed-there old new (n - k) q pushed } }
 
 -- what a loop over the blocks beside has offered
 pub offered_more : {A : Type 0} (P : A → Type 0) (Q : A → Type 0) (qs : List A) (i : ℕ) (d q : A) → i < length qs → q ≡ get_or qs i d → ((r : A) → P r → Q r) → Q q
@@ -192,21 +184,19 @@ offered_more {A} P Q qs i d q within is still here before k e less = on (eqb_tel
     same_read (x ∷ xs) (suc j) a b l = same_read xs j a b (omega arith)
   on (inr h) = still (get_or qs k e) (before k e (let n = h.1 in omega (arith, n)))
 
-pub six_beside : (spots : List Spot) (p : Pos) → map (λ s. s.pos) spots ≡ sides p → length spots ≡ 6
-six_beside spots p is = sym (length-map spots (λ (s : Spot). s.pos)) ∙ ap length is
-
-pub is_beside : (spots : List Spot) (p : Pos) → map (λ s. s.pos) spots ≡ sides p → (k : ℕ) (e : Spot) → k < length spots → IsAdjacent p (get_or spots k e).pos
-is_beside spots p is k e less =
-    let long = six_beside spots p is in
-    let q = (get_or spots k e).pos in
-    (k, (let l : k < 6 = omega arith in l), ap (λ xs. get_or xs k q) (sym is) ∙ get_or-map (λ (s : Spot). s.pos) spots k e q less)
-
-pub IsOffered-all : (t : Terrain) (c : ChunkPos) (n : ℕ) (lit : Pos → ℕ) (todo : Levels) (p : Pos) (spots : List Spot) (i : ℕ) → map (λ s. s.pos) spots ≡ sides p → length spots ≤ i
-    → ((k : ℕ) (e : Spot) → k < i → IsOffered t c n lit todo (get_or spots k e).pos) → (q : Pos) → IsAdjacent p q → IsOffered t c n lit todo q
-IsOffered-all t c n lit todo p spots i is end h q a =
-    let long = six_beside spots p is in
-    let nowhere : Spot = record { pos = q; index = None } in
-    subst (IsOffered t c n lit todo) (sym (get_or-map (λ (s : Spot). s.pos) spots a.0 nowhere q (let l : a.0 < 6 = a.1 in omega arith)) ∙ ap (λ xs. get_or xs a.0 q) is ∙ a.2) (h a.0 nowhere (let l : a.0 < 6 = a.1 in omega arith))
+-- all six blocks beside
+pub IsOffered-all : (t : Terrain) (c : ChunkPos) (n : ℕ) (lit : Pos → ℕ) (todo : Levels) (p : Pos)
+    → IsOffered t c n lit todo (below p) → IsOffered t c n lit todo (above p) → IsOffered t c n lit todo (north p) → IsOffered t c n lit todo (south p) → IsOffered t c n lit todo (west p) → IsOffered t c n lit todo (east p)
+    → (q : Pos) → IsAdjacent p q → IsOffered t c n lit todo q
+IsOffered-all t c n lit todo p b a d s w e q near = subst (IsOffered t c n lit todo) near.2 (on near.0 near.1) where
+  on : (k : ℕ) → k < 6 → IsOffered t c n lit todo (get_or (sides p) k q)
+  on zero l = b
+  on (suc zero) l = a
+  on (suc (suc zero)) l = d
+  on (suc (suc (suc zero))) l = s
+  on (suc (suc (suc (suc zero)))) l = w
+  on (suc (suc (suc (suc (suc zero))))) l = e
+  on (suc (suc (suc (suc (suc (suc k)))))) l = absurd (omega arith)
 
 -- the steps of a level, as the loop takes them
 pub none_left : (t : Terrain) (c : ChunkPos) (n : ℕ) (lit : Pos → ℕ) (old new : Levels) → 0 < n → IsNone old new n → IsFlooding t c n lit old → IsFlooding t c (n - 1) lit new
@@ -227,19 +217,22 @@ above_zero n (suc m) e h = omega arith
 
 -- blocks that emit light
 pub WaitsIfEmitting-grown : (t : Terrain) (c : ChunkPos) (n : ℕ) (old new : Levels) (p : Pos) → IsGrown t c n old new → WaitsIfEmitting t c old p → WaitsIfEmitting t c new p
-WaitsIfEmitting-grown t c n old new p g h = record { ready = λ l e m. g.kept (t.emission p) p (h.ready l e m) }
+WaitsIfEmitting-grown t c n old new p g h = record { ready = λ l e m. Waits-grown old new p (t.emission p) g.kept (h.ready l e m) }
+
+pub WaitsIfEmitting-moved : (t : Terrain) (c d : ChunkPos) (todo : Levels) (p : Pos) → c ≡ d → WaitsIfEmitting t c todo p → WaitsIfEmitting t d todo p
+WaitsIfEmitting-moved t c d todo p e h = subst (λ k. WaitsIfEmitting t k todo p) e h
 
 pub WaitsIfEmitting-pushed : (t : Terrain) (c : ChunkPos) (n : ℕ) (old new : Levels) (p : Pos) → n ≡ t.emission p → IsPushed old new n p → WaitsIfEmitting t c new p
-WaitsIfEmitting-pushed t c n old new p is pushed = record { ready = λ l e m. subst (λ v. Contains (new v) p) is (IsPushed-there old new n p pushed) }
+WaitsIfEmitting-pushed t c n old new p is pushed = record { ready = λ l e m. record { level = n; most = omega arith; there = IsPushed-there old new n p pushed } }
 
 pub WaitsIfEmitting-unloaded : (t : Terrain) (c : ChunkPos) (todo : Levels) (p : Pos) → t.loaded p ≡ false → WaitsIfEmitting t c todo p
 WaitsIfEmitting-unloaded t c todo p e = record { ready = λ l g m. absurd (false≢true (sym e ∙ l)) }
 
-pub WaitsIfEmitting-dark : (t : Terrain) (c : ChunkPos) (todo : Levels) (n : ℕ) (p : Pos) → n ≡ t.emission p → n ≡ 0 → WaitsIfEmitting t c todo p
-WaitsIfEmitting-dark t c todo n p is e = record { ready = λ l g m. absurd (omega arith) }
+pub WaitsIfEmitting-noted : (t : Terrain) (c : ChunkPos) (n : ℕ) (raw : Pos → ℕ) (todo : Levels) (p : Pos) → n ≡ t.emission p → n ≤ raw p → IsNoted t c raw todo → WaitsIfEmitting t c todo p
+WaitsIfEmitting-noted t c n raw todo p is most h = record { ready = λ l e m. h.waits p l (t.emission p) (omega arith) e m }
 
-pub WaitsIfEmitting-far : (t : Terrain) (c : ChunkPos) (todo : Levels) (n : ℕ) (p : Pos) → n ≡ t.emission p → (Matters c n p → ⊥) → WaitsIfEmitting t c todo p
-WaitsIfEmitting-far t c todo n p is far = record { ready = λ l g m. absurd (far (subst (λ v. Matters c v p) (sym is) m)) }
+pub WaitsIfEmitting-off : (t : Terrain) (c : ChunkPos) (h : Height) (todo : Levels) (p : Pos) → (IsTrue (t.loaded p) → IsNear h p) → t.emission p ≤ 15 → is_on c h p ≡ false → WaitsIfEmitting t c todo p
+WaitsIfEmitting-off t c h todo p near most off = record { ready = λ l e m. absurd (false≢true (sym off ∙ on_board c h (t.emission p) p most m (near l))) }
 
 pub IsSoundAt-emitted : (t : Terrain) (c : ChunkPos) (n : ℕ) (p : Pos) → n ≡ t.emission p → IsTrue (t.loaded p) → 0 < n → Matters c n p → IsSoundAt t c n p
 IsSoundAt-emitted t c n p is l positive m = record { loaded = l; positive = positive; matters = m; comes = subst (HasLight t p) (sym is) (HasLight-emitted t p l) }
@@ -262,7 +255,7 @@ IsStarted-all t c old new none g all =
 pub IsFlooding-started : (t : Terrain) (c : ChunkPos) (lit : Pos → ℕ) (todo : Levels) → ((p : Pos) → lit p ≡ 0) → IsStarted t c todo → IsFlooding t c 15 lit todo
 IsFlooding-started t c lit todo dark h =
     record {
-      emits = λ p l e m. inr (record { level = t.emission p; most = omega arith; there = h.emits p l e m });
+      emits = λ p l e m. inr (h.emits p l e m);
       spreads = λ q p a l v s e m. let d = dark q in absurd (omega arith);
       bright = λ p s. let d = dark p in absurd (omega arith);
       sound = λ p s. let d = dark p in absurd (omega arith);
@@ -278,48 +271,94 @@ pub Has-same : (lit lit' : Pos → ℕ) (todo : Levels) (p : Pos) (n : ℕ) → 
 Has-same lit lit' todo p n same (inl less) = inl (let e = same p in omega arith)
 Has-same lit lit' todo p n same (inr w) = inr w
 
-pub IsOffered-seen : (t : Terrain) (c : ChunkPos) (n k : ℕ) (bytes lit : Pos → ℕ) (todo : Levels) (q : Pos) → IsMarked bytes lit todo → (128 ≤ bytes q → n ≤ lit q) → k ≤ cost t q → n - k ≤ bytes q → IsOffered t c n lit todo q
-IsOffered-seen t c n k bytes lit todo q marked bright least seen = record { has = λ l v positive e m. on v positive (omega arith) (omega arith) (dec (bytes q)) } where
-  dec : (b : ℕ) → (b < 128) ⊎ (128 ≤ b)
-  dec b = cases_lt b 128
+-- light that came to a block and its byte's
+pub brought_waits : (t : Terrain) (c : ChunkPos) (n seen : ℕ) (raw : Pos → ℕ) (old new : Levels) (q : Pos) → IsMarked t c n raw old → raw q ≡ seen → seen < 128
+    → ((m : ℕ) (r : Pos) → Contains (old m) r → Contains (new m) r) → IsBrought t n seen new q
+    → IsTrue (t.loaded q) → (v : ℕ) → 0 < v → v + cost t q ≤ n → Matters c v q → Waits new q v
+brought_waits t c n seen raw old new q marked is low kept brought l v positive less m =
+    ⊎_elim (λ few. Waits-grown old new q v kept (marked.waits q (omega arith) l v (omega arith) positive less m))
+    (λ more. Waits-less new q (n - cost t q) v (omega arith) (brought.waits l (n - cost t q) (omega arith) (omega arith)))
+    (cases_le (n - cost t q) seen)
+  where
+    cases_le : (a b : ℕ) → (a ≤ b) ⊎ (b < a)
+    cases_le a b = ⊎_elim inr inl (cases_lt b a)
 
-  on : (v : ℕ) → 0 < v → v ≤ bytes q → v ≤ n → (bytes q < 128) ⊎ (128 ≤ bytes q) → Has lit todo q v
-  on v positive less most (inl low) = Has-less lit todo q (bytes q) v less (marked.waits q low (omega arith))
-  on v positive less most (inr high) = inl (let b = bright high in omega arith)
+pub IsOffered-brought : (t : Terrain) (c : ChunkPos) (n : ℕ) (lit : Pos → ℕ) (new : Levels) (q : Pos)
+    → (IsTrue (t.loaded q) → (v : ℕ) → 0 < v → v + cost t q ≤ n → Matters c v q → Waits new q v) → IsOffered t c n lit new q
+IsOffered-brought t c n lit new q waits = record { has = λ l v positive e m. inr (waits l v positive (omega arith) m) }
 
-pub IsMarked-pushed : (bytes bytes' lit lit' : Pos → ℕ) (old new : Levels) (q : Pos) (v : ℕ) → v < 128 → IsPushed old new v q → IsSettled bytes bytes' q v → ((p : Pos) → lit' p ≡ lit p) → IsMarked bytes lit old → IsMarked bytes' lit' new
-IsMarked-pushed bytes bytes' lit lit' old new q v small pushed set same h =
+-- a byte that says enough
+pub IsOffered-seen : (t : Terrain) (c : ChunkPos) (n : ℕ) (raw : Pos → ℕ) (todo : Levels) (q : Pos) → IsMarked t c n raw todo → ((p : Pos) → 0 < raw p - 128 → n ≤ raw p - 128) → n - 1 ≤ raw q
+    → IsOffered t c n (λ p. raw p - 128) todo q
+IsOffered-seen t c n raw todo q marked bright seen = record { has = λ l v positive e m. on l v positive e m (cases_lt (raw q) 128) } where
+  on : IsTrue (t.loaded q) → (v : ℕ) → 0 < v → v + cost t q ≡ n → Matters c v q → (raw q < 128) ⊎ (128 ≤ raw q) → Has (λ p. raw p - 128) todo q v
+  on l v positive e m (inl low) = inr (marked.waits q low l v (omega arith) positive (omega arith) m)
+  on l v positive e m (inr high) = inl (let s = marked.settled q high in let b = bright q (omega arith) in omega arith)
+
+-- a block beyond the board
+pub IsOffered-off : (t : Terrain) (c : ChunkPos) (h : Height) (n : ℕ) (lit : Pos → ℕ) (todo : Levels) (q : Pos) → (IsTrue (t.loaded q) → IsNear h q) → n ≤ 15 → is_on c h q ≡ false → IsOffered t c n lit todo q
+IsOffered-off t c h n lit todo q near most off = record { has = λ l v positive e m. absurd (false≢true (sym off ∙ on_board c h v q (omega arith) m (near l))) }
+
+-- marks
+pub IsNoted-fresh : (t : Terrain) (c : ChunkPos) (raw : Pos → ℕ) (todo : Levels) → ((p : Pos) → (raw p < 128) × ((v : ℕ) → v ≤ raw p → Matters c v p → ⊥)) → IsNoted t c raw todo
+IsNoted-fresh t c raw todo fresh = record { waits = λ p l v less positive m. absurd ((fresh p).1 v less m) }
+
+pub IsMarked-noted : (t : Terrain) (c : ChunkPos) (n : ℕ) (raw : Pos → ℕ) (todo : Levels) → ((p : Pos) → raw p < 128) → IsNoted t c raw todo → IsMarked t c n raw todo
+IsMarked-noted t c n raw todo dark h = record { waits = λ p low l v less positive most m. h.waits p l v less positive m; settled = λ p high. let d = dark p in absurd (omega arith) }
+
+pub IsMarked-lower : (t : Terrain) (c : ChunkPos) (n m : ℕ) (raw : Pos → ℕ) (todo : Levels) → m ≤ n → IsMarked t c n raw todo → IsMarked t c m raw todo
+IsMarked-lower t c n m raw todo less h = record { waits = λ p low l v few positive most near. h.waits p low l v few positive (omega arith) near; settled = h.settled }
+
+pub IsMarked-same : (t : Terrain) (c : ChunkPos) (n : ℕ) (raw : Pos → ℕ) (old new : Levels) → ((m : ℕ) → new m ≡ old m) → IsMarked t c n raw old → IsMarked t c n raw new
+IsMarked-same t c n raw old new same h =
+    record { waits = λ p low l v few positive most near. Waits-grown old new p v (λ m r w. subst (λ qs. Contains qs r) (sym (same m)) w) (h.waits p low l v few positive most near); settled = h.settled }
+
+-- a block that was seen
+pub IsMarked-offered : (t : Terrain) (c : ChunkPos) (n : ℕ) (raw raw' : Pos → ℕ) (old new : Levels) (q : Pos) → IsSettled raw raw' q 64 → ((m : ℕ) (r : Pos) → Contains (old m) r → Contains (new m) r)
+    → (IsTrue (t.loaded q) → (v : ℕ) → 0 < v → v + cost t q ≤ n → Matters c v q → Waits new q v) → IsMarked t c n raw old → IsMarked t c n raw' new
+IsMarked-offered t c n raw raw' old new q set kept waits h =
     record {
-      waits = λ p low positive. ⊎_elim
-          (λ i. inr (record { level = v; most = let e = i.1 in omega arith; there = subst (Contains (new v)) (sym i.0) (IsPushed-there old new v q pushed) }))
-          (λ i. subst (Has lit' new p) (sym i) (Has-same lit lit' new p (bytes p) same (Has-grown lit old new p (bytes p) (IsPushed-kept old new v q pushed) (h.waits p (omega arith) (omega arith)))))
-          (settled_cases bytes bytes' q v set p);
-      settled = λ p high. ⊎_elim (λ i. let e = i.1 in absurd (omega arith)) (λ i. let s = h.settled p (omega arith) in let e = same p in omega arith) (settled_cases bytes bytes' q v set p);
+      waits = λ p low l v few positive most near. ⊎_elim
+          (λ i. subst (λ r. Waits new r v) (sym i.0) (waits (subst (λ r. IsTrue (t.loaded r)) i.0 l) v positive (subst (λ r. v + cost t r ≤ n) i.0 most) (subst (Matters c v) i.0 near)))
+          (λ i. Waits-grown old new p v kept (h.waits p (omega arith) l v (omega arith) positive most near)) (settled_cases raw raw' q 64 set p);
+      settled = λ p high. ⊎_elim (λ i. let e = i.1 in absurd (omega arith)) (λ i. let s = h.settled p (omega arith) in omega arith) (settled_cases raw raw' q 64 set p);
+    }
+
+-- a block that emits light
+pub IsNoted-emitted : (t : Terrain) (c : ChunkPos) (raw raw' : Pos → ℕ) (old new : Levels) (q : Pos) (v : ℕ) → IsSettled raw raw' q v → IsPushed old new v q → IsNoted t c raw old → IsNoted t c raw' new
+IsNoted-emitted t c raw raw' old new q v set pushed h =
+    record {
+      waits = λ p l w few positive near. ⊎_elim
+          (λ i. subst (λ r. Waits new r w) (sym i.0) (record { level = v; most = let e = i.1 in omega arith; there = IsPushed-there old new v q pushed }))
+          (λ i. Waits-grown old new p w (IsPushed-kept old new v q pushed) (h.waits p l w (omega arith) positive near)) (settled_cases raw raw' q v set p);
+    }
+
+pub dark_marked : (raw raw' : Pos → ℕ) (q : Pos) (v : ℕ) → v < 128 → IsSettled raw raw' q v → ((p : Pos) → raw p < 128) → (p : Pos) → raw' p < 128
+dark_marked raw raw' q v small set dark p = ⊎_elim (λ i. let e = i.1 in omega arith) (λ i. let d = dark p in omega arith) (settled_cases raw raw' q v set p)
+
+-- the next of a level, which has its light or is given it
+Waits-passed : (old new : Levels) (n : ℕ) (p q : Pos) (v : ℕ) → IsPopped old new n p → (q ≡ p → ⊥) → Waits old q v → Waits new q v
+Waits-passed old new n p q v popped other w = record { level = w.level; most = w.most; there = ⊎_elim (λ h. h) (λ h. absurd (other h.1)) (IsPushed-only new old n p (IsPopped-back old new n p popped) w.level q w.there) }
+
+pub IsMarked-passed : (t : Terrain) (c : ChunkPos) (n : ℕ) (raw : Pos → ℕ) (old new : Levels) (p : Pos) → IsPopped old new n p → 128 ≤ raw p → IsMarked t c n raw old → IsMarked t c n raw new
+IsMarked-passed t c n raw old new p popped high h =
+    record { waits = λ q low l v few positive most near. Waits-passed old new n p q v popped (λ e. let f = ap raw e in omega arith) (h.waits q low l v few positive most near); settled = h.settled }
+
+pub IsMarked-settled : (t : Terrain) (c : ChunkPos) (n : ℕ) (raw raw' : Pos → ℕ) (old new : Levels) (p : Pos) → 0 < n → IsPopped old new n p → IsSettled raw raw' p (128 + n) → IsMarked t c n raw old → IsMarked t c n raw' new
+IsMarked-settled t c n raw raw' old new p some popped set h =
+    record {
+      waits = λ q low l v few positive most near. ⊎_elim (λ i. let e = i.1 in absurd (omega arith))
+          (λ i. Waits-passed old new n p q v popped (λ e. let f = ap raw' e in let g = settled_at raw raw' p (128 + n) set in omega arith) (h.waits q (omega arith) l v (omega arith) positive most near))
+          (settled_cases raw raw' p (128 + n) set q);
+      settled = λ q high. ⊎_elim (λ i. let e = i.1 in omega arith) (λ i. let s = h.settled q (omega arith) in omega arith) (settled_cases raw raw' p (128 + n) set q);
     }
 
 -- marking changes no light
-pub light_marked : (bytes bytes' : Pos → ℕ) (q : Pos) (v : ℕ) → v < 128 → bytes q < 128 → IsSettled bytes bytes' q v → (p : Pos) → bytes' p - 128 ≡ bytes p - 128
-light_marked bytes bytes' q v small low set p = ⊎_elim (λ i. let e = i.1 in let f = ap bytes i.0 in omega arith) (λ i. omega arith) (settled_cases bytes bytes' q v set p)
+pub light_marked : (raw raw' : Pos → ℕ) (q : Pos) → raw q < 128 → IsSettled raw raw' q 64 → (p : Pos) → raw' p - 128 ≡ raw p - 128
+light_marked raw raw' q low set p = ⊎_elim (λ i. let e = i.1 in let f = ap raw i.0 in omega arith) (λ i. omega arith) (settled_cases raw raw' q 64 set p)
 
 pub IsOffered-same : (t : Terrain) (c : ChunkPos) (n : ℕ) (lit lit' : Pos → ℕ) (todo : Levels) (q : Pos) → ((p : Pos) → lit' p ≡ lit p) → IsOffered t c n lit todo q → IsOffered t c n lit' todo q
 IsOffered-same t c n lit lit' todo q same h = record { has = λ l v positive e m. Has-same lit lit' todo q v same (h.has l v positive e m) }
-
--- a settled block's light
-pub IsSettled-light : (bytes bytes' : Pos → ℕ) (lit : Pos → ℕ) (p : Pos) (n : ℕ) → ((q : Pos) → bytes q - 128 ≡ lit q) → IsSettled bytes bytes' p (128 + n) → IsSettled lit (λ q. bytes' q - 128) p n
-IsSettled-light bytes bytes' lit p n same set q = on (same_pos q p) (set q) where
-  on : (b : Bool) → bytes' q ≡ cond b (128 + n) (bytes q) → bytes' q - 128 ≡ cond b n (lit q)
-  on true e = omega arith
-  on false e = let s = same q in omega arith
-
-pub IsMarked-settled : (bytes bytes' : Pos → ℕ) (lit : Pos → ℕ) (old new : Levels) (p : Pos) (n : ℕ) → 0 < n → lit p ≡ 0 → ((q : Pos) → bytes q - 128 ≡ lit q) → IsPopped old new n p → IsSettled bytes bytes' p (128 + n)
-    → IsMarked bytes lit old → IsMarked bytes' (λ q. bytes' q - 128) new
-IsMarked-settled bytes bytes' lit old new p n positive dark same popped set h =
-    record {
-      waits = λ q low up. ⊎_elim (λ i. let e = i.1 in absurd (omega arith))
-          (λ i. subst (Has (λ r. bytes' r - 128) new q) (sym i) (Has-settled n lit (λ r. bytes' r - 128) old new new p popped dark (λ v r w. w) (IsSettled-light bytes bytes' lit p n same set) q (bytes q) (h.waits q (omega arith) (omega arith))))
-          (settled_cases bytes bytes' p (128 + n) set q);
-      settled = λ q high. ⊎_elim (λ i. let e = i.1 in omega arith) (λ i. let s = h.settled q (omega arith) in let e = same q in omega arith) (settled_cases bytes bytes' p (128 + n) set q);
-    }
 
 -- the same light
 pub IsFlooding-lit : (t : Terrain) (c : ChunkPos) (n : ℕ) (lit lit' : Pos → ℕ) (todo : Levels) → ((p : Pos) → lit' p ≡ lit p) → IsFlooding t c n lit todo → IsFlooding t c n lit' todo
@@ -336,22 +375,3 @@ IsFlooding-lit t c n lit lit' todo same h =
 -- after a settling all light is at least of this level
 pub bright_settled : (lit lit' : Pos → ℕ) (p : Pos) (n : ℕ) → IsSettled lit lit' p n → ((q : Pos) → 0 < lit q → n ≤ lit q) → (q : Pos) → 0 < lit' q → n ≤ lit' q
 bright_settled lit lit' p n set bright q s = ⊎_elim (λ i. let e = i.1 in omega arith) (λ i. let b = bright q (let z : 0 < lit q = omega arith in z) in omega arith) (settled_cases lit lit' p n set q)
-
-pub IsMarked-passed : (bytes lit : Pos → ℕ) (old new : Levels) (p : Pos) (n : ℕ) → IsPopped old new n p → n ≤ lit p → IsMarked bytes lit old → IsMarked bytes lit new
-IsMarked-passed bytes lit old new p n popped b h = record { waits = λ q low up. Has-passed n lit old new p popped b q (bytes q) (h.waits q low up); settled = h.settled }
-
-pub IsMarked-same : (bytes lit : Pos → ℕ) (old new : Levels) → ((m : ℕ) → new m ≡ old m) → IsMarked bytes lit old → IsMarked bytes lit new
-IsMarked-same bytes lit old new same h =
-    record { waits = λ q low up. Has-grown lit old new q (bytes q) (λ m r w. subst (λ qs. Contains qs r) (sym (same m)) w) (h.waits q low up); settled = h.settled }
-
-pub IsMarked-none : (bytes lit : Pos → ℕ) (todo : Levels) → ((p : Pos) → bytes p ≡ 0) → IsMarked bytes lit todo
-IsMarked-none bytes lit todo dark = record { waits = λ q low up. let d = dark q in absurd (omega arith); settled = λ q high. let d = dark q in absurd (omega arith) }
-
-pub bright_still : (lit lit' : Pos → ℕ) (n : ℕ) (p : Pos) → ((q : Pos) → lit' q ≡ lit q) → ((q : Pos) → 0 < lit q → n ≤ lit q) → 0 < lit' p → n ≤ lit' p
-bright_still lit lit' n p same bright s = let e = same p in let b = bright p (let z : 0 < lit p = omega arith in z) in omega arith
-
-pub unsettled : (b l : ℕ) → l ≡ 0 → (128 ≤ b → 0 < l) → b < 128
-unsettled b l dark h = ⊎_elim (λ i. i) (λ i. let s = h i in absurd (omega arith)) (cases_lt b 128)
-
-pub not_settled : (b : ℕ) → b < 128 → nat_le 128 b ≡ false
-not_settled b less = grind (arith, nat_tests)

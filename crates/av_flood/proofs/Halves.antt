@@ -1,6 +1,6 @@
 -- Half bytes of light.
 use Rattle.std.proofs.Common.{◌≡◌, ℕ, ℤ, pos, ◌+◌, ◌-◌, ◌*◌, ◌/◌, ◌%◌, ◌<◌, ◌≤◌, ⊎_elim, ◌+ℤ◌, ◌*ℤ◌, Bool, true, false, cond, suc, zero, List, [], ◌∷◌, ◌++◌, length, get_or, take, drop, replicate, Result, Ok, Err, refl, sym, ap, ◌∙◌, subst, arith}
-use Rattle.std.specs.Prelude.{nat_le, count_by, All, slice_range, ◌==◌, OnOk}
+use Rattle.std.specs.Prelude.{nat_le, count_by, All, slice_range, ◌==◌, OnOk, IfOk}
 use Rattle.std.proofs.lemmas.Int.{ints}
 use Rattle.std.proofs.lemmas.Bool.{cases_lt}
 use Rattle.std.proofs.lemmas.Bool.Decides.{nat_tests}
@@ -12,7 +12,7 @@ use Rattle.av_types.specs.declared.place.Height.{Height}
 use Rattle.av_pack.specs.Nibbles.{nibble_at}
 use Rattle.av_flood.specs.Offsets.{IsNth}
 use Rattle.av_flood.specs.Board.{corner, is_on, index_of, own_block, IsPlace, HasLightSoFar}
-use Rattle.av_flood.proofs.Boards.{placed}
+use Rattle.av_flood.proofs.Boards.{placed, lit_raw}
 
 low_half : (bytes : List ℕ) (k : ℕ) → nibble_at bytes (2 * k) ≡ get_or bytes k 0 % 16
 unfolding nibble_at
@@ -37,29 +37,27 @@ get_or-append_left [] ys i l = absurd (omega arith)
 get_or-append_left (x ∷ xs) ys zero l = refl
 get_or-append_left (x ∷ xs) ys (suc i) l = get_or-append_left xs ys i (omega arith)
 
-length-pushed : (xs : List ℕ) (b : ℕ) → length (xs ++ b ∷ []) ≡ length xs + 1
-length-pushed [] b = refl
-length-pushed (x ∷ xs) b = let e = length-pushed xs b in omega arith
+get_or-append_right : (xs ys : List ℕ) (i : ℕ) → length xs ≤ i → get_or (xs ++ ys) i 0 ≡ get_or ys (i - length xs) 0
+get_or-append_right [] ys i l = ap (λ j. get_or ys j 0) (omega arith)
+get_or-append_right (x ∷ xs) ys zero l = absurd (omega arith)
+get_or-append_right (x ∷ xs) ys (suc i) l = get_or-append_right xs ys i (omega arith) ∙ ap (λ j. get_or ys j 0) (omega arith)
 
--- one byte more
-pub HasLightSoFar-pushed : (light : ℕ → ℕ) (bytes : List ℕ) (b n : ℕ) → length bytes ≡ n → HasLightSoFar light bytes → b % 16 ≡ light (2 * n) → b / 16 ≡ light (2 * n + 1) → HasLightSoFar light (bytes ++ b ∷ [])
-HasLightSoFar-pushed light bytes b n long h low high =
+-- some bytes more
+pub HasLightSoFar-appended : (light : ℕ → ℕ) (bytes more : List ℕ) → HasLightSoFar light bytes → ((k : ℕ) → k < length more → get_or more k 0 % 16 ≡ light (2 * (length bytes + k)))
+    → ((k : ℕ) → k < length more → get_or more k 0 / 16 ≡ light (2 * (length bytes + k) + 1)) → HasLightSoFar light (bytes ++ more)
+HasLightSoFar-appended light bytes more h low high =
     record {
-      halves = λ j less. by_halves (λ i. nibble_at (bytes ++ b ∷ []) i ≡ light i) j
-          (⊎_elim (λ l. low_half (bytes ++ b ∷ []) (j / 2) ∙ ap (λ m. m % 16) (get_or-append_left bytes (b ∷ []) (j / 2) l) ∙ sym (low_half bytes (j / 2)) ∙ h.halves (2 * (j / 2)) (omega arith))
-          (λ l. low_half (bytes ++ b ∷ []) (j / 2) ∙ ap (λ m. m % 16) (last (j / 2) (let g : j / 2 ≡ length bytes = omega (arith, length-pushed bytes b) in g)) ∙ low ∙ ap (λ m. light (2 * m)) (let g : n ≡ j / 2 = omega (arith, length-pushed bytes b) in g))
+      halves = λ j less. let all = length-append bytes more in by_halves (λ i. nibble_at new i ≡ light i) j
+          (⊎_elim (λ l. low_half new (j / 2) ∙ ap (λ m. m % 16) (get_or-append_left bytes more (j / 2) l) ∙ sym (low_half bytes (j / 2)) ∙ h.halves (2 * (j / 2)) (omega arith))
+          (λ l. low_half new (j / 2) ∙ ap (λ m. m % 16) (get_or-append_right bytes more (j / 2) l) ∙ low (j / 2 - length bytes) (omega (arith, all)) ∙ ap (λ m. light (2 * m)) (let g : length bytes + (j / 2 - length bytes) ≡ j / 2 = omega arith in g))
           (cases_lt (j / 2) (length bytes)))
-          (⊎_elim (λ l. high_half (bytes ++ b ∷ []) (j / 2) ∙ ap (λ m. m / 16) (get_or-append_left bytes (b ∷ []) (j / 2) l) ∙ sym (high_half bytes (j / 2)) ∙ h.halves (2 * (j / 2) + 1) (omega arith))
-          (λ l. high_half (bytes ++ b ∷ []) (j / 2) ∙ ap (λ m. m / 16) (last (j / 2) (let g : j / 2 ≡ length bytes = omega (arith, length-pushed bytes b) in g)) ∙ high ∙ ap (λ m. light (2 * m + 1)) (let g : n ≡ j / 2 = omega (arith, length-pushed bytes b) in g))
+          (⊎_elim (λ l. high_half new (j / 2) ∙ ap (λ m. m / 16) (get_or-append_left bytes more (j / 2) l) ∙ sym (high_half bytes (j / 2)) ∙ h.halves (2 * (j / 2) + 1) (omega arith))
+          (λ l. high_half new (j / 2) ∙ ap (λ m. m / 16) (get_or-append_right bytes more (j / 2) l) ∙ high (j / 2 - length bytes) (omega (arith, all)) ∙ ap (λ m. light (2 * m + 1)) (let g : length bytes + (j / 2 - length bytes) ≡ j / 2 = omega arith in g))
           (cases_lt (j / 2) (length bytes)));
     }
   where
-    end : (xs : List ℕ) → get_or (xs ++ b ∷ []) (length xs) 0 ≡ b
-    end [] = refl
-    end (x ∷ xs) = end xs
-
-    last : (k : ℕ) → k ≡ length bytes → get_or (bytes ++ b ∷ []) k 0 ≡ b
-    last k e = ap (λ m. get_or (bytes ++ b ∷ []) m 0) e ∙ end bytes
+    new : List ℕ
+    new = bytes ++ more
 
 pub HasLightSoFar-none : (light : ℕ → ℕ) (bytes : List ℕ) → length bytes ≡ 0 → HasLightSoFar light bytes
 HasLightSoFar-none light bytes e = record { halves = λ j less. absurd (omega arith) }
@@ -109,6 +107,10 @@ pub on_ok : {T E : Type 0} {A B : Type 0} (r : Result T E) → (A → B) → OnO
 on_ok (Ok t) f h = f h
 on_ok (Err e) f h = tt
 
+pub on_if_ok : {T E : Type 0} {P Q : T → Type 0} (r : Result T E) → ((x : T) → P x → Q x) → IfOk r P → IfOk r Q
+on_if_ok (Ok t) f h = f t h
+on_if_ok (Err e) f h = tt
+
 -- none of a list is settled
 pub none_settled : (xs : List ℕ) → count_by (λ n. nat_le 128 n) xs ≡ 0 → (i : ℕ) → get_or xs i 0 < 128
 none_settled [] e i = omega arith
@@ -118,9 +120,11 @@ none_settled (x ∷ xs) e i = on (nat_le 128 x) refl (sym (sum_by-cons (λ n. co
   on false f g rest zero = grind (arith, nat_tests)
   on false f g rest (suc j) = rest (omega arith) j
 
-pub dark_byte : (b : Bool) (xs : List ℕ) (i : ℕ) → count_by (λ n. nat_le 128 n) xs ≡ 0 → cond b (get_or xs i 0) 0 - 128 ≡ 0
-dark_byte true xs i e = let l = none_settled xs e i in omega arith
-dark_byte false xs i e = refl
+pub dark_byte : (b : Bool) (xs : List ℕ) (i : ℕ) → count_by (λ n. nat_le 128 n) xs ≡ 0 → (let raw = cond b (get_or xs i 0) 0 in cond (nat_le 128 raw) raw 0 - 128 ≡ 0)
+dark_byte b xs i e = lit_raw (cond b (get_or xs i 0) 0) ∙ on b where
+  on : (t : Bool) → cond t (get_or xs i 0) 0 - 128 ≡ 0
+  on true = let l = none_settled xs e i in omega arith
+  on false = refl
 
 pub dim_byte : (b : Bool) (xs : List ℕ) (i : ℕ) → All (λ n. n < 144) xs → cond b (get_or xs i 0) 0 < 144
 dim_byte true xs i h = ⊎_elim (λ l. h i 0 l) (λ l. past xs i l) (cases_lt i (length xs)) where
@@ -143,7 +147,7 @@ parts_z y z x l m = let e : (256 * y + 16 * z + x) / 16 ≡ 16 * y + z = omega a
 nth : (from : ℤ) (size n : ℕ) (x : ℤ) → n < size → x ≡ from +ℤ pos n → IsNth from size x n
 nth from size n x l e = record { less = l; is = e }
 
-pub own_place : (c : ChunkPos) (h : Height) (y z x : ℕ) → y < 16 * h.sections → z < 16 → x < 16 → IsPlace c h (own_block c h (256 * y + 16 * z + x)) (44 * (44 * y + (z + 14)) + (x + 14))
+pub own_place : (c : ChunkPos) (h : Height) (y z x : ℕ) → y < 16 * h.sections → z < 16 → x < 16 → IsPlace c h (own_block c h (256 * y + 16 * z + x)) (44 * (44 * (y + 1) + (z + 14)) + (x + 14))
 own_place c h y z x yl zl xl =
     let p = own_block c h (256 * y + 16 * z + x) in
     let ex = parts_x y z x zl xl in let ey = parts_y y z x zl xl in let ez = parts_z y z x zl xl in
@@ -152,12 +156,13 @@ own_place c h y z x yl zl xl =
     (nth (corner c h).z 44 (z + 14) p.z (omega arith) (ap (λ n. pos 16 *ℤ c.z +ℤ pos n) ez ∙ omega (arith, ints)))
     (nth (corner c h).y (16 * h.sections) y p.y yl (ap (λ n. pos 16 *ℤ h.min_section +ℤ pos n) ey))
 
-pub own_row : (c : ChunkPos) (h : Height) (xs : List ℕ) (y z : ℕ) → y < 16 * h.sections → z < 16 → (start : ℕ) → start ≡ 44 * (44 * y + z + 14) + 14 → (x : ℕ) → x < 16
-    → get_or (slice_range xs start (start + 16)) x 0 - 128 ≡ cond (is_on c h (own_block c h (256 * y + 16 * z + x))) (get_or xs (index_of c h (own_block c h (256 * y + 16 * z + x))) 0) 0 - 128
+pub own_row : (c : ChunkPos) (h : Height) (xs : List ℕ) (y z : ℕ) → y < 16 * h.sections → z < 16 → (start : ℕ) → start ≡ 44 * (44 * (y + 1) + z + 14) + 14 → (x : ℕ) → x < 16
+    → (let raw = cond (is_on c h (own_block c h (256 * y + 16 * z + x))) (get_or xs (index_of c h (own_block c h (256 * y + 16 * z + x))) 0) 0 in
+    get_or (slice_range xs start (start + 16)) x 0 - 128 ≡ cond (nat_le 128 raw) raw 0 - 128)
 own_row c h xs y z yl zl start is x xl =
     let place = own_place c h y z x yl zl xl in
-    let i : start + x ≡ 44 * (44 * y + (z + 14)) + (x + 14) = omega arith in
-    ap (λ n. n - 128) (in_range ∙ ap (λ j. get_or xs j 0) (i ∙ place.is) ∙ ap (λ b. cond b (get_or xs (index_of c h (own_block c h (256 * y + 16 * z + x))) 0) 0) (sym place.on))
+    let i : start + x ≡ 44 * (44 * (y + 1) + (z + 14)) + (x + 14) = omega arith in
+    ap (λ n. n - 128) (in_range ∙ ap (λ j. get_or xs j 0) (i ∙ place.is) ∙ ap (λ b. cond b (get_or xs (index_of c h (own_block c h (256 * y + 16 * z + x))) 0) 0) (sym place.on)) ∙ sym (lit_raw _)
   where
     in_range : get_or (slice_range xs start (start + 16)) x 0 ≡ get_or xs (start + x) 0
     in_range = get_or-take (start + 16 - start) (drop start xs) x 0 (omega arith) ∙ get_or-drop start xs x 0

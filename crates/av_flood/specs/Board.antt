@@ -15,9 +15,9 @@ corner c h = record { x = pos 16 *ℤ c.x -ℤ pos 14; y = pos 16 *ℤ h.min_sec
 abbrev pub is_on : ChunkPos → Height → Pos → Bool
 is_on c h p = is_within (corner c h).x 44 p.x && is_within (corner c h).z 44 p.z && is_within (corner c h).y (16 * h.sections) p.y
 
--- where its light stands
+-- where its light stands, behind a layer of no blocks
 abbrev pub index_of : ChunkPos → Height → Pos → ℕ
-index_of c h p = 44 * (44 * offset (p.y -ℤ (corner c h).y) + offset (p.z -ℤ (corner c h).z)) + offset (p.x -ℤ (corner c h).x)
+index_of c h p = 44 * (44 * (offset (p.y -ℤ (corner c h).y) + 1) + offset (p.z -ℤ (corner c h).z)) + offset (p.x -ℤ (corner c h).x)
 
 -- it is none of the board
 pub record IsOff (c : ChunkPos) (h : Height) (p : Pos) : Type 0 where
@@ -27,11 +27,15 @@ pub record IsOff (c : ChunkPos) (h : Height) (p : Pos) : Type 0 where
 pub record IsPlace (c : ChunkPos) (h : Height) (p : Pos) (i : ℕ) : Type 0 where
   pub on : is_on c h p ≡ true
   pub is : i ≡ index_of c h p
-  pub less : i < 30976 * h.sections
+  pub less : i < 30976 * h.sections + 1936
 
--- the byte of a block: below 128 the light that it waits for, from 128 on its light
+-- what stands there, 0 beyond the board: from 128 on its light and 128, and below no light of so much or less is of use
+abbrev pub raw_of : Flood → Pos → ℕ
+raw_of f p = if is_on f.chunk f.height p then slice_index f.light.items (index_of f.chunk f.height p) else 0
+
+-- the byte of a block: from 128 on its light, and 0 where it has none
 abbrev pub byte_of : Flood → Pos → ℕ
-byte_of f p = if is_on f.chunk f.height p then slice_index f.light.items (index_of f.chunk f.height p) else 0
+byte_of f p = if nat_le 128 (raw_of f p) then raw_of f p else 0
 
 -- the light of a block: 0 beyond the board, and where none was settled
 abbrev pub light_of : Flood → Pos → ℕ

@@ -1,6 +1,8 @@
 -- Working definitions: a flood from the brightest level down. No public clause cites them.
 use Rattle.std.specs.Prelude.{ℤ, ◌≡◌, ℕ, ◌+◌, ◌≤◌, ◌<◌, pos, ◌+ℤ◌, ◌*ℤ◌, ◌≤ℤ◌, List, [], ◌∷◌, IsTrue, Contains, ◌⊎◌, if◌then◌else◌, ◌++◌, ◌≢◌, map, length, slice_index_or}
 use Rattle.av_flood.specs.declared.buckets.Buckets.{Buckets}
+use Rattle.av_flood.specs.declared.board.Flood.{Flood}
+use Rattle.av_flood.specs.Board.{raw_of}
 use Rattle.av_types.specs.Places.{same_pos}
 use Rattle.av_types.specs.declared.place.Pos.{Pos}
 use Rattle.av_types.specs.declared.place.ChunkPos.{ChunkPos}
@@ -33,10 +35,23 @@ pub record Waits (todo : Levels) (p : Pos) (n : ℕ) : Type 0 where
 abbrev pub Has : (Pos → ℕ) → Levels → Pos → ℕ → Type 0
 Has lit todo p n = (n ≤ lit p) ⊎ Waits todo p n
 
--- a byte below 128 is light that its block waits for, one from 128 on is its light
-pub record IsMarked (bytes lit : Pos → ℕ) (todo : Levels) : Type 0 where
-  pub waits : (p : Pos) → bytes p < 128 → 0 < bytes p → Has lit todo p (bytes p)
-  pub settled : (p : Pos) → 128 ≤ bytes p → 0 < lit p
+-- on a board of which nothing was touched the bytes say of no light that it is of use elsewhere than it is
+abbrev pub IsFresh : Flood → Type 0
+IsFresh f = (p : Pos) → (raw_of f p < 128) × ((v : ℕ) → v ≤ raw_of f p → Matters f.chunk v p → ⊥)
+
+-- on a board no block has light
+abbrev pub IsDark : Flood → Type 0
+IsDark f = (p : Pos) → raw_of f p < 128
+
+-- each block waits for light of so much as its byte says, if so much matters
+pub record IsNoted (g : Terrain) (c : ChunkPos) (raw : Pos → ℕ) (todo : Levels) : Type 0 where
+  pub waits : (p : Pos) → IsTrue (g.loaded p) → (v : ℕ) → v ≤ raw p → 0 < v → Matters c v p → Waits todo p v
+
+-- the flood is at light of level n. A byte of a block below 128: it waits for light of so much, if so much may still come to it;
+-- from 128 on: it has its light
+pub record IsMarked (g : Terrain) (c : ChunkPos) (n : ℕ) (raw : Pos → ℕ) (todo : Levels) : Type 0 where
+  pub waits : (p : Pos) → raw p < 128 → IsTrue (g.loaded p) → (v : ℕ) → v ≤ raw p → 0 < v → v + cost g p ≤ n → Matters c v p → Waits todo p v
+  pub settled : (p : Pos) → 128 ≤ raw p → 128 < raw p
 
 -- what waits in a level: a loaded block to which that much light comes
 pub record IsSoundAt (g : Terrain) (c : ChunkPos) (n : ℕ) (p : Pos) : Type 0 where
@@ -74,6 +89,10 @@ pub record IsGrown (g : Terrain) (c : ChunkPos) (n : ℕ) (old new : Levels) : T
   pub kept : (v : ℕ) (q : Pos) → Contains (old v) q → Contains (new v) q
   pub only : (v : ℕ) (q : Pos) → Contains (new v) q → Contains (old v) q ⊎ ((v < n) × IsSoundAt g c v q)
 
+-- light of level n came to q from beside it, if more than so much is left
+pub record IsBrought (t : Terrain) (n seen : ℕ) (todo : Levels) (q : Pos) : Type 0 where
+  pub waits : IsTrue (t.loaded q) → (v : ℕ) → seen < v → v + cost t q ≡ n → Waits todo q v
+
 -- light of level n that is at p has come to q
 pub record IsOffered (t : Terrain) (c : ChunkPos) (n : ℕ) (lit : Pos → ℕ) (todo : Levels) (q : Pos) : Type 0 where
   pub has : IsTrue (t.loaded q) → (v : ℕ) → 0 < v → v + cost t q ≡ n → Matters c v q → Has lit todo q v
@@ -92,10 +111,10 @@ count_in b n = length (todo_of b n)
 
 -- if it emits light that may come to the chunk it waits for it
 pub record WaitsIfEmitting (t : Terrain) (c : ChunkPos) (todo : Levels) (p : Pos) : Type 0 where
-  pub ready : IsTrue (t.loaded p) → 0 < t.emission p → Matters c (t.emission p) p → Contains (todo (t.emission p)) p
+  pub ready : IsTrue (t.loaded p) → 0 < t.emission p → Matters c (t.emission p) p → Waits todo p (t.emission p)
 
 -- all that emit light that may come to the chunk wait for it
 pub record IsStarted (t : Terrain) (c : ChunkPos) (todo : Levels) : Type 0 where
-  pub emits : (p : Pos) → IsTrue (t.loaded p) → 0 < t.emission p → Matters c (t.emission p) p → Contains (todo (t.emission p)) p
+  pub emits : (p : Pos) → IsTrue (t.loaded p) → 0 < t.emission p → Matters c (t.emission p) p → Waits todo p (t.emission p)
   pub sound : (v : ℕ) (p : Pos) → Contains (todo v) p → IsSoundAt t c v p
   pub low : (v : ℕ) (p : Pos) → Contains (todo v) p → v ≤ 15

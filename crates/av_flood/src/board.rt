@@ -1,12 +1,12 @@
 //! The board of a flood: blocks with their light.
-ghost use Rattle.std.specs.Prelude.{◌≡◌, ◌≤◌, ◌<◌, ◌+◌, ◌*◌, ℕ, pos, IsTrue, MatchOption, IfOk, vec_len, true, false, count_by, nat_le, if◌then◌else◌, All, length, slice_index, ◌-◌, ◌/◌, OnOk, slice_range};
+ghost use Rattle.std.specs.Prelude.{◌≡◌, ◌≤◌, ◌<◌, ◌+◌, ◌*◌, ℕ, pos, IsTrue, MatchOption, IfOk, vec_len, true, false, count_by, nat_le, if◌then◌else◌, All, length, slice_index, ◌-◌, ◌/◌, ◌%◌, OnOk, slice_range};
 ghost use Rattle.std.proofs.Props.{props};
 ghost use Rattle.av_types.specs.declared.place.Pos.{Pos};
 ghost use Rattle.av_flood.specs.Offsets.{IsNth, IsBeyond};
-ghost use Rattle.av_flood.specs.Quiet.{IsQuiet};
+ghost use Rattle.av_flood.specs.Quiet.{IsQuiet, IsFenced};
 
 use crate::buckets::Buckets;
-use crate::bytes::{LAYER, clear, push_dark, two_halves};
+use crate::bytes::{LAYER, clear, dark_bytes, dark_layer, halves, push_dark, put_row};
 use crate::spots::{Spot, natural};
 use av_types::{ChunkPos, Height, Pos};
 use std::alloc::{AllocError, Global};
@@ -19,26 +19,29 @@ pub struct Flood {
     pub(crate) chunk: ChunkPos,
     /// The world's height.
     pub(crate) height: Height,
-    /// A byte for each block, x within z within y: below 128 the light that it waits for, from 128 on its light and 128.
+    /// A byte for each block, x within z within y, between two layers of no blocks. From 128 on it is the block's light and
+    /// 128; below 128 no light of so much or less is of use to the block, since it would not reach the chunk, or more came.
     light: Vec<u8>,
     /// How many blocks have their light.
     count: u32,
-    /// For each layer, whether any of its bytes was set.
+    /// For each layer of blocks, whether any of its bytes was set.
     touched: Vec<bool>,
     /// The lists of blocks that waited in an earlier flood.
     pub(crate) waiting: Option<Buckets>,
-    ghost long: { vec_len light ≡ 30976 * height.sections },
+    ghost long: { vec_len light ≡ 30976 * height.sections + 3872 },
     ghost layers: { vec_len touched ≡ 16 * height.sections },
     ghost quiet: { IsQuiet touched.items light.items } by { Prim.hlevel props },
+    ghost fenced: { IsFenced (30976 * height.sections + 1936) light.items } by { Prim.hlevel props },
     ghost counted: { count ≡ count_by (λ n. nat_le 128 n) light.items },
     ghost dim: { All (λ n. n < 144) light.items } by { Prim.hlevel props },
 }
 
 impl Flood {
-    ghost use Rattle.av_flood.specs.Board.{corner, is_on, byte_of, light_of, is_settled, settled_count, light_at, HasLightSoFar, IsOff, IsPlace};
+    ghost use Rattle.av_flood.specs.Offsets.{apart};
+    ghost use Rattle.av_flood.specs.Board.{corner, is_on, raw_of, byte_of, light_of, is_settled, settled_count, light_at, HasLightSoFar, IsOff, IsPlace};
     ghost use Rattle.av_flood.specs.Spots.{IsSpot};
     ghost use Rattle.av_types.specs.Places.{same_pos};
-    ghost use Rattle.av_flood.specs.Flooding.{IsSettled};
+    ghost use Rattle.av_flood.specs.Flooding.{IsSettled, IsFresh};
 
     /// A board on which no block has light yet.
     ///
@@ -50,12 +53,23 @@ impl Flood {
         ensures dark { IfOk result (λ f. (p : Pos) → byte_of f p ≡ 0) }
         ensures none { IfOk result (λ f. settled_count f ≡ 0) }
     {
+        Flood::fresh(alloc, chunk, height)
+    }
+
+    /// A board on which no block has light yet, in memory of its own.
+    fn fresh(alloc: Global, chunk: ChunkPos, height: Height) -> Result<Flood, AllocError>
+        ensures chunk { IfOk result (λ f. f.chunk ≡ chunk) }
+        ensures height { IfOk result (λ f. f.height ≡ height) }
+        ensures fresh { IfOk result IsFresh }
+        ensures none { IfOk result (λ f. settled_count f ≡ 0) }
+    {
+        let layers = 16 * height.sections as usize;
         Ok(Flood {
             chunk,
             height,
-            light: vec![in alloc; 0; 16 * LAYER * height.sections as usize]?,
+            light: dark_bytes(alloc, layers)?,
             count: 0,
-            touched: vec![in alloc; false; 16 * height.sections as usize]?,
+            touched: vec![in alloc; false; layers]?,
             waiting: None,
         })
     }
@@ -64,7 +78,8 @@ impl Flood {
     fn cleared(self, chunk: ChunkPos) -> Flood
         ensures chunk { result.chunk ≡ chunk }
         ensures height { result.height ≡ self.height }
-        ensures dark { (p : Pos) → byte_of result p ≡ 0 }
+        ensures fresh { IsFresh result }
+        ensures none { settled_count result ≡ 0 }
     {
         let Flood {
             height,
@@ -73,8 +88,9 @@ impl Flood {
             waiting,
             ..
         } = self;
+        let dark = dark_layer();
         for layer in 0..touched.len() {
-            clear(&mut light, &mut touched, layer);
+            clear(&mut light, &mut touched, layer, dark.as_slice());
         }
         Flood {
             chunk,
@@ -95,13 +111,13 @@ impl Flood {
     ) -> Result<Flood, AllocError>
         ensures chunk { IfOk result (λ f. f.chunk ≡ chunk) }
         ensures height { IfOk result (λ f. f.height ≡ height) }
-        ensures dark { IfOk result (λ f. (p : Pos) → byte_of f p ≡ 0) }
+        ensures fresh { IfOk result IsFresh }
     {
         let Some(used) = used else {
-            return Flood::new(alloc, chunk, height);
+            return Flood::fresh(alloc, chunk, height);
         };
         if used.height != height {
-            return Flood::new(alloc, chunk, height);
+            return Flood::fresh(alloc, chunk, height);
         }
         Ok(used.cleared(chunk))
     }
@@ -146,25 +162,14 @@ impl Flood {
         Some(natural(steps))
     }
 
-    /// Where a block's light stands, if it is one of the board.
-    fn index(&self, pos: Pos) -> Option<usize>
+    /// Where a block's byte stands, if it is one of the board.
+    pub(crate) fn index(&self, pos: Pos) -> Option<usize>
         ensures { MatchOption result (IsOff self.now.chunk self.now.height pos) (IsPlace self.now.chunk self.now.height pos) }
     {
         let x = self.along_x(pos)?;
         let z = self.along_z(pos)?;
         let y = self.along_y(pos)?;
-        Some((44 * (44 * y + z) + x) as usize)
-    }
-
-    /// A block, and where its light stands.
-    fn spot(&self, pos: Pos) -> Spot
-        ensures pos { result.pos ≡ pos }
-        ensures spot { IsSpot self.now.chunk self.now.height result }
-    {
-        Spot {
-            pos,
-            index: self.index(pos),
-        }
+        Some((44 * (44 * (y + 1) + z) + x) as usize)
     }
 
     /// Whether a block is one of the board.
@@ -174,15 +179,25 @@ impl Flood {
         self.index(pos).is_some()
     }
 
-    /// The byte of a block, 0 of one that is none of the board.
-    pub(crate) fn byte(&self, spot: Spot) -> u8
-        requires { IsSpot self.now.chunk self.now.height spot }
-        ensures { result ≡ byte_of self.now spot.pos }
+    /// What stands of a block, 0 of one that is none of the board.
+    fn raw(&self, pos: Pos) -> u8
+        ensures { result ≡ raw_of self.now pos }
     {
-        match spot.index {
+        match self.index(pos) {
             Some(index) => self.light[index],
             None => 0,
         }
+    }
+
+    /// The byte at a spot.
+    #[inline(always)]
+    pub(crate) fn byte(&self, spot: Spot) -> u8
+        requires { IsSpot self.now.chunk self.now.height spot }
+        ensures place { IsPlace self.now.chunk self.now.height spot.pos spot.index → result ≡ raw_of self.now spot.pos }
+        ensures far { apart (spot.index % 1936) ≤ result }
+        ensures least { result < 14 → IsPlace self.now.chunk self.now.height spot.pos spot.index }
+    {
+        self.light[spot.index]
     }
 
     /// The light of a block, from 0 to 15. It is 0 where the block is not settled, or none of the board.
@@ -191,30 +206,45 @@ impl Flood {
         ensures unsettled { is_settled self.now pos ≡ false → result ≡ 0 }
         ensures most { result ≤ 15 }
     {
-        self.byte(self.spot(pos)).saturating_sub(128)
+        self.raw(pos).saturating_sub(128)
     }
 
     /// Whether a block has its light.
     pub fn is_settled(&self, pos: Pos) -> bool
         ensures { result ≡ is_settled self.now pos }
     {
-        self.byte(self.spot(pos)) >= 128
+        self.raw(pos) >= 128
     }
 
-    /// Notes the light that a block waits for.
-    pub(crate) fn mark(&mut self, spot: Spot, level: u8)
-        requires spot { IsSpot self.old.chunk self.old.height spot }
-        requires on { IsTrue (is_on self.old.chunk self.old.height spot.pos) }
-        requires unsettled { byte_of self.old spot.pos < 128 }
-        requires level { level ≤ 15 }
-        ensures bytes { IsSettled (byte_of self.old) (byte_of self.new) spot.pos level }
+    /// Notes that no light of so much or less is of use to a block.
+    #[inline(always)]
+    pub(crate) fn mark(&mut self, spot: Spot, byte: u8)
+        requires place { IsPlace self.old.chunk self.old.height spot.pos spot.index }
+        requires unsettled { raw_of self.old spot.pos < 128 }
+        requires small { byte < 128 }
+        requires far { apart (spot.index % 1936) ≤ byte }
+        ensures bytes { IsSettled (raw_of self.old) (raw_of self.new) spot.pos byte }
         ensures chunk { self.new.chunk ≡ self.old.chunk }
         ensures height { self.new.height ≡ self.old.height }
     {
-        if let Some(index) = spot.index {
-            self.light[index] = level;
-            self.touched[index / LAYER] = true;
-        }
+        self.light[spot.index] = byte;
+        self.touched[(spot.index - LAYER) / LAYER] = true;
+    }
+
+    /// Gives a block of the board its light, once.
+    #[inline(always)]
+    pub(crate) fn settle_at(&mut self, spot: Spot, level: u8)
+        requires place { IsPlace self.old.chunk self.old.height spot.pos spot.index }
+        requires unsettled { raw_of self.old spot.pos < 128 }
+        requires level { level ≤ 15 }
+        ensures bytes { IsSettled (raw_of self.old) (raw_of self.new) spot.pos (128 + level) }
+        ensures count { settled_count self.new ≡ settled_count self.old + 1 }
+        ensures chunk { self.new.chunk ≡ self.old.chunk }
+        ensures height { self.new.height ≡ self.old.height }
+    {
+        self.light[spot.index] = 128 + level;
+        self.touched[(spot.index - LAYER) / LAYER] = true;
+        self.count += 1;
     }
 
     /// Gives a block of the board its light, once. No other call does.
@@ -229,11 +259,8 @@ impl Flood {
         ensures height { self.new.height ≡ self.old.height }
         ensures bytes { IsSettled (byte_of self.old) (byte_of self.new) pos (128 + level) }
     {
-        if let Some(index) = self.index(pos) {
-            self.light[index] = 128 + level;
-            self.touched[index / LAYER] = true;
-            self.count += 1;
-        }
+        let spot = self.spot(pos);
+        self.settle_at(spot, level);
     }
 
     /// How many blocks have their light.
@@ -262,23 +289,20 @@ impl Flood {
         ensures light { (x : ℕ) → x < 16 → slice_index result.now x - 128 ≡ light_at self.now (256 * y + 16 * z + x) }
         ensures dim { All (λ n. n < 144) result.now }
     {
-        self.sixteen((44 * (44 * y + z + 14) + 14) as usize)
+        self.sixteen((44 * (44 * (y + 1) + z + 14) + 14) as usize)
     }
 
-    /// Appends the light of a row of the chunk's blocks.
-    fn push_row(&self, y: u32, z: u32, bytes: &mut Vec<u8>) -> Result<(), AllocError>
-        requires y { y < 16 * self.now.height.sections }
-        requires z { z < 16 }
-        requires before { vec_len bytes.old ≡ 128 * y + 8 * z }
-        requires halves { HasLightSoFar (light_at self.now) bytes.old.items }
-        ensures count { OnOk result (vec_len bytes.new ≡ 128 * y + 8 * z + 8) }
-        ensures halves { OnOk result (HasLightSoFar (light_at self.now) bytes.new.items) }
+    /// The bytes of the chunk's blocks in a layer, row by row.
+    fn layer(&self, y: u32) -> [u8; 256]
+        requires { y < 16 * self.now.height.sections }
+        ensures light { (j : ℕ) → j < 256 → slice_index result j - 128 ≡ light_at self.now (256 * y + j) }
+        ensures dim { (j : ℕ) → j < 256 → slice_index result j < 144 }
     {
-        let row = self.row(y, z);
-        for pair in 0..8usize {
-            bytes.push(two_halves(row[2 * pair], row[2 * pair + 1]))?;
+        let mut bytes = [0; 256];
+        for z in 0..16u32 {
+            put_row(&mut bytes, z as usize, self.row(y, z));
         }
-        Ok(())
+        bytes
     }
 
     /// Appends the light of a layer of the chunk's blocks.
@@ -292,9 +316,7 @@ impl Flood {
         if !self.touched[y as usize] {
             return push_dark(bytes);
         }
-        for z in 0..16 {
-            self.push_row(y, z, bytes)?;
-        }
+        bytes.extend_from_slice(halves(&self.layer(y)).as_slice())?;
         Ok(())
     }
 

@@ -1,23 +1,55 @@
 //! A flood of light, from the brightest level down.
-ghost use Rattle.std.specs.Prelude.{◌≡◌, ◌≤◌, ◌<◌, ◌-◌, ℕ, [], pos, IsTrue, OnOk, IfOk};
+ghost use Rattle.std.specs.Prelude.{◌≡◌, ◌≤◌, ◌<◌, ◌-◌, ℕ, [], OnOk, IfOk};
 ghost use Rattle.av_types.specs.Places.{chunk_of};
 ghost use Rattle.av_types.specs.declared.place.Pos.{Pos};
 ghost use Rattle.av_flood.specs.Light.{IsAdjacent, HasLight, IsLight};
-ghost use Rattle.av_flood.specs.Board.{is_on, light_of, byte_of};
+ghost use Rattle.av_flood.specs.Board.{light_of, raw_of, IsPlace};
 ghost use Rattle.av_flood.specs.Spots.{IsSpot};
 ghost use Rattle.av_flood.specs.Blocks.{IsFarFromEnds, MayBeLoaded, AreKnown};
-ghost use Rattle.av_flood.specs.Flooding.{todo_of, IsMarked, IsGrown, IsOffered, IsFlooding};
+ghost use Rattle.av_flood.specs.Flooding.{todo_of, Matters, IsFresh, IsMarked, IsGrown, IsBrought, IsOffered, IsFlooding};
 
 use crate::blocks::Blocks;
 use crate::board::Flood;
 use crate::buckets::Buckets;
+use crate::bytes::SEEN;
 use crate::emit::start;
-use crate::near::{matters, may_be_loaded};
+use crate::near::may_be_loaded;
 use crate::spots::Spot;
 use av_types::{ChunkPos, Pos};
 use std::alloc::{AllocError, Global};
 
-/// Lets light come to a block from one beside it.
+/// Lets light come to a block of which none was seen yet, where it is more than the byte that stood of it.
+#[inline(always)]
+fn bring<B: Blocks>(
+    chunk: ChunkPos,
+    blocks: &B,
+    from: Pos,
+    pos: Pos,
+    level: u8,
+    seen: u8,
+    buckets: &mut Buckets,
+) -> Result<(), AllocError>
+    requires level { level < 16 }
+    requires beside { IsAdjacent from pos }
+    requires comes { HasLight (B.terrain blocks.now) from level }
+    requires matters { (v : ℕ) → seen < v → Matters chunk v pos }
+    ensures grown { OnOk result (IsGrown (B.terrain blocks.now) chunk level (todo_of buckets.old) (todo_of buckets.new)) }
+    ensures brought { OnOk result (IsBrought (B.terrain blocks.now) level seen (todo_of buckets.new) pos) }
+    ensures others { OnOk result (todo_of buckets.new level ≡ todo_of buckets.old level) }
+{
+    let Some(cost) = blocks.cost(pos) else {
+        return Ok(());
+    };
+    if level.saturating_sub(cost) <= seen {
+        return Ok(());
+    }
+    buckets.push(level - cost, pos)?;
+    Ok(())
+}
+
+/// Lets light come to a block from one beside it. The first that comes to it from any side is the brightest, so each
+/// block is looked up once.
+#[inline(always)]
 fn offer<B: Blocks>(
     flood: &mut Flood,
     blocks: &B,
@@ -31,35 +63,57 @@ fn offer<B: Blocks>(
     requires spot { IsSpot flood.old.chunk flood.old.height spot }
     requires beside { IsAdjacent from spot.pos }
     requires comes { HasLight (B.terrain blocks.now) from level }
-    requires bright { 128 ≤ byte_of flood.old spot.pos → level ≤ light_of flood.old spot.pos }
-    requires marked { IsMarked (byte_of flood.old) (light_of flood.old) (todo_of buckets.old) }
+    requires bright { (q : Pos) → 0 < light_of flood.old q → level ≤ light_of flood.old q }
+    requires marked { IsMarked (B.terrain blocks.now) flood.old.chunk level (raw_of flood.old) (todo_of buckets.old) }
     ensures chunk { flood.new.chunk ≡ flood.old.chunk }
     ensures height { flood.new.height ≡ flood.old.height }
     ensures same { OnOk result ((q : Pos) → light_of flood.new q ≡ light_of flood.old q) }
-    ensures marked { OnOk result (IsMarked (byte_of flood.new) (light_of flood.new) (todo_of buckets.new)) }
+    ensures marked { OnOk result (IsMarked (B.terrain blocks.now) flood.old.chunk level (raw_of flood.new) (todo_of buckets.new)) }
     ensures grown { OnOk result (IsGrown (B.terrain blocks.now) flood.old.chunk level (todo_of buckets.old) (todo_of buckets.new)) }
     ensures offered { OnOk result (IsOffered (B.terrain blocks.now) flood.old.chunk level (light_of flood.old) (todo_of buckets.new) spot.pos) }
     ensures others { OnOk result (todo_of buckets.new level ≡ todo_of buckets.old level) }
 {
     let seen = flood.byte(spot);
+    // Each block takes at least 1, so one compare tells most blocks beside one from those of which to look up more.
     if level.saturating_sub(1) <= seen {
         return Ok(());
     }
-    // Each block takes at least 1: where no more than that left does not matter, the block is not looked up.
-    if !matters(flood.chunk, spot.pos, level.saturating_sub(1)) {
-        return Ok(());
-    }
-    let Some(cost) = blocks.cost(spot.pos) else {
-        return Ok(());
-    };
-    if level.saturating_sub(cost) <= seen {
-        return Ok(());
-    }
-    if !matters(flood.chunk, spot.pos, level - cost) {
-        return Ok(());
-    }
-    buckets.push(level - cost, spot.pos)?;
-    flood.mark(spot, level - cost);
+    flood.mark(spot, SEEN);
+    bring(flood.chunk, blocks, from, spot.pos, level, seen, buckets)?;
+    Ok(())
+}
+
+/// Lets light come to two blocks from one beside both.
+#[inline(always)]
+fn offer_both<B: Blocks>(
+    flood: &mut Flood,
+    blocks: &B,
+    from: Pos,
+    first: Spot,
+    second: Spot,
+    level: u8,
+    buckets: &mut Buckets,
+) -> Result<(), AllocError>
+    requires level { level < 16 }
+    requires height { flood.old.height ≡ B.tall blocks.now }
+    requires first { IsSpot flood.old.chunk flood.old.height first }
+    requires second { IsSpot flood.old.chunk flood.old.height second }
+    requires first_beside { IsAdjacent from first.pos }
+    requires second_beside { IsAdjacent from second.pos }
+    requires comes { HasLight (B.terrain blocks.now) from level }
+    requires bright { (q : Pos) → 0 < light_of flood.old q → level ≤ light_of flood.old q }
+    requires marked { IsMarked (B.terrain blocks.now) flood.old.chunk level (raw_of flood.old) (todo_of buckets.old) }
+    ensures chunk { flood.new.chunk ≡ flood.old.chunk }
+    ensures height { flood.new.height ≡ flood.old.height }
+    ensures same { OnOk result ((q : Pos) → light_of flood.new q ≡ light_of flood.old q) }
+    ensures marked { OnOk result (IsMarked (B.terrain blocks.now) flood.old.chunk level (raw_of flood.new) (todo_of buckets.new)) }
+    ensures grown { OnOk result (IsGrown (B.terrain blocks.now) flood.old.chunk level (todo_of buckets.old) (todo_of buckets.new)) }
+    ensures first { OnOk result (IsOffered (B.terrain blocks.now) flood.old.chunk level (light_of flood.old) (todo_of buckets.new) first.pos) }
+    ensures second { OnOk result (IsOffered (B.terrain blocks.now) flood.old.chunk level (light_of flood.old) (todo_of buckets.new) second.pos) }
+    ensures others { OnOk result (todo_of buckets.new level ≡ todo_of buckets.old level) }
+{
+    offer(flood, blocks, from, first, level, buckets)?;
+    offer(flood, blocks, from, second, level, buckets)?;
     Ok(())
 }
 
@@ -67,32 +121,35 @@ fn offer<B: Blocks>(
 fn spread<B: Blocks>(
     flood: &mut Flood,
     blocks: &B,
-    pos: Pos,
+    spot: Spot,
     level: u8,
     buckets: &mut Buckets,
 ) -> Result<(), AllocError>
     requires level { level < 16 }
     requires height { flood.old.height ≡ B.tall blocks.now }
-    requires inner { IsFarFromEnds pos }
-    requires on { IsTrue (is_on flood.old.chunk flood.old.height pos) }
-    requires comes { HasLight (B.terrain blocks.now) pos level }
+    requires inner { IsFarFromEnds spot.pos }
+    requires place { IsPlace flood.old.chunk flood.old.height spot.pos spot.index }
+    requires comes { HasLight (B.terrain blocks.now) spot.pos level }
     requires bright { (q : Pos) → 0 < light_of flood.old q → level ≤ light_of flood.old q }
-    requires marked { IsMarked (byte_of flood.old) (light_of flood.old) (todo_of buckets.old) }
+    requires marked { IsMarked (B.terrain blocks.now) flood.old.chunk level (raw_of flood.old) (todo_of buckets.old) }
     ensures chunk { flood.new.chunk ≡ flood.old.chunk }
     ensures height { flood.new.height ≡ flood.old.height }
     ensures same { OnOk result ((q : Pos) → light_of flood.new q ≡ light_of flood.old q) }
-    ensures marked { OnOk result (IsMarked (byte_of flood.new) (light_of flood.new) (todo_of buckets.new)) }
+    ensures marked { OnOk result (IsMarked (B.terrain blocks.now) flood.old.chunk level (raw_of flood.new) (todo_of buckets.new)) }
     ensures grown { OnOk result (IsGrown (B.terrain blocks.now) flood.old.chunk level (todo_of buckets.old) (todo_of buckets.new)) }
-    ensures offered { OnOk result ((q : Pos) → IsAdjacent pos q → IsOffered (B.terrain blocks.now) flood.old.chunk level (light_of flood.old) (todo_of buckets.new) q) }
+    ensures offered { OnOk result ((q : Pos) → IsAdjacent spot.pos q → IsOffered (B.terrain blocks.now) flood.old.chunk level (light_of flood.old) (todo_of buckets.new) q) }
     ensures others { OnOk result (todo_of buckets.new level ≡ todo_of buckets.old level) }
 {
     if level < 2 {
         return Ok(());
     }
-    let spots = flood.beside(pos);
-    for spot in spots.iter() {
-        offer(flood, blocks, pos, *spot, level, buckets)?;
-    }
+    let pos = spot.pos;
+    let (below, above) = (flood.spot_below(spot), flood.spot_above(spot));
+    let (north, south) = (flood.spot_north(spot), flood.spot_south(spot));
+    let (west, east) = (flood.spot_west(spot), flood.spot_east(spot));
+    offer_both(flood, blocks, pos, below, above, level, buckets)?;
+    offer_both(flood, blocks, pos, north, south, level, buckets)?;
+    offer_both(flood, blocks, pos, west, east, level, buckets)?;
     Ok(())
 }
 
@@ -107,16 +164,17 @@ fn settle_level<B: Blocks>(
     requires high { level < 16 }
     requires height { flood.old.height ≡ B.tall blocks.now }
     requires flooding { IsFlooding (B.terrain blocks.now) flood.old.chunk level (light_of flood.old) (todo_of buckets.old) }
-    requires marked { IsMarked (byte_of flood.old) (light_of flood.old) (todo_of buckets.old) }
+    requires marked { IsMarked (B.terrain blocks.now) flood.old.chunk level (raw_of flood.old) (todo_of buckets.old) }
     ensures chunk { flood.new.chunk ≡ flood.old.chunk }
     ensures height { flood.new.height ≡ flood.old.height }
     ensures flooding { OnOk result (IsFlooding (B.terrain blocks.now) flood.new.chunk (level - 1) (light_of flood.new) (todo_of buckets.new)) }
-    ensures marked { OnOk result (IsMarked (byte_of flood.new) (light_of flood.new) (todo_of buckets.new)) }
+    ensures marked { OnOk result (IsMarked (B.terrain blocks.now) flood.new.chunk (level - 1) (raw_of flood.new) (todo_of buckets.new)) }
 {
     while let Some(pos) = buckets.pop(level) {
-        if flood.light(pos) == 0 {
-            flood.settle(pos, level);
-            spread(flood, blocks, pos, level, buckets)?;
+        let spot = flood.spot(pos);
+        if flood.byte(spot) < 128 {
+            flood.settle_at(spot, level);
+            spread(flood, blocks, spot, level, buckets)?;
         }
     }
     Ok(())
@@ -127,13 +185,13 @@ fn fill<B: Blocks>(blocks: &B, flood: &mut Flood, buckets: &mut Buckets) -> Resu
     requires near { MayBeLoaded flood.old.chunk }
     requires height { flood.old.height ≡ B.tall blocks.now }
     requires known { AreKnown (B.terrain blocks.now) (B.lamps blocks.now) flood.old.chunk }
-    requires dark { (p : Pos) → byte_of flood.old p ≡ 0 }
+    requires fresh { IsFresh flood.old }
     requires none { (n : ℕ) → todo_of buckets.old n ≡ [] }
     ensures chunk { flood.new.chunk ≡ flood.old.chunk }
     ensures height { flood.new.height ≡ flood.old.height }
     ensures light { OnOk result ((p : Pos) → chunk_of p ≡ flood.old.chunk → IsLight (B.terrain blocks.now) p (light_of flood.new p)) }
 {
-    start(flood.chunk, blocks, buckets)?;
+    start(flood, blocks, buckets)?;
     for step in 0..15 {
         settle_level(flood, blocks, 15 - step, buckets)?;
     }

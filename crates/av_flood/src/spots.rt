@@ -1,16 +1,18 @@
-//! Blocks of a board, with where their light stands.
-ghost use Rattle.std.specs.Prelude.{◌≡◌, ◌<◌, ◌≤◌, ◌+◌, ◌*◌, pos, ◌≤ℤ◌, ◌<ℤ◌, ◌+ℤ◌, ◌-ℤ◌, ◌*ℤ◌, IsTrue, MatchOption, All, map};
+//! Blocks of a board, with where their bytes stand.
+ghost use Rattle.std.specs.Prelude.{◌≡◌, ◌<◌, ◌+◌, ◌*◌, pos, ◌≤ℤ◌, ◌<ℤ◌, ◌+ℤ◌, ◌-ℤ◌, ◌*ℤ◌, IsTrue};
 ghost use Rattle.av_flood.specs.Offsets.{IsNth};
 
 use crate::board::Flood;
+use crate::bytes::{LAYER, ROW};
 use crate::sides::{above, below, east, north, south, west};
 use av_types::Pos;
 
-/// A block, and where its light stands if it is one of the board.
+/// A block, and where its byte stands; or a block beside one at the board's end, and where a byte stands that says that no
+/// light is of use.
 #[derive(Clone, Copy)]
 pub struct Spot {
     pub pos: Pos,
-    pub index: Option<usize>,
+    pub index: usize,
 }
 
 /// How many blocks a block of the board is from its west, north and lower end.
@@ -22,14 +24,14 @@ pub struct Steps {
 }
 
 impl Steps {
-    /// Where the block's light stands.
+    /// Where the block's byte stands, behind a layer of no blocks.
     fn index(self) -> usize
         requires x { self.x < 44 }
         requires z { self.z < 44 }
         requires y { self.y < 65536 }
-        ensures { result ≡ 44 * (44 * self.y + self.z) + self.x }
+        ensures { result ≡ 44 * (44 * (self.y + 1) + self.z) + self.x }
     {
-        (44 * (44 * self.y + self.z) + self.x) as usize
+        (44 * (44 * (self.y + 1) + self.z) + self.x) as usize
     }
 }
 
@@ -62,33 +64,9 @@ fn up(section: i32, size: u32, coordinate: i32) -> u32
     natural(steps)
 }
 
-/// Where the light of the block before stands, along a way of the board on which this is the next of so many.
-fn before(steps: u32, index: usize, apart: usize) -> Option<usize>
-    requires { apart * steps ≤ index }
-    ensures { MatchOption result (steps ≡ 0) (λ i. (0 < steps) × (i + apart ≡ index)) }
-{
-    if steps == 0 {
-        return None;
-    }
-    Some(index - apart)
-}
-
-/// Where the light of the block after stands, along a way of the board that has so many.
-fn after(steps: u32, size: u32, index: usize, apart: usize) -> Option<usize>
-    requires steps { steps < size }
-    requires index { index < 4294967296 }
-    requires apart { apart < 65536 }
-    ensures { MatchOption result (steps + 1 ≡ size) (λ i. (steps + 1 < size) × (i ≡ index + apart)) }
-{
-    if steps + 1 == size {
-        return None;
-    }
-    Some(index + apart)
-}
-
 impl Flood {
-    ghost use Rattle.av_flood.specs.Light.{sides, below, above, north, south, west, east};
-    ghost use Rattle.av_flood.specs.Board.{is_on};
+    ghost use Rattle.av_flood.specs.Light.{below, above, north, south, west, east};
+    ghost use Rattle.av_flood.specs.Board.{is_on, IsPlace};
     ghost use Rattle.av_flood.specs.Blocks.{IsFarFromEnds};
     ghost use Rattle.av_flood.specs.Spots.{IsSpot, AreSteps};
 
@@ -104,99 +82,100 @@ impl Flood {
         }
     }
 
+    /// A block of the board, and where its byte stands.
+    #[inline(always)]
+    pub(crate) fn spot(&self, pos: Pos) -> Spot
+        requires { IsTrue (is_on self.now.chunk self.now.height pos) }
+        ensures pos { result.pos ≡ pos }
+        ensures place { IsPlace self.now.chunk self.now.height pos result.index }
+    {
+        Spot {
+            pos,
+            index: self.steps(pos).index(),
+        }
+    }
+
     /// The block below one of the board.
-    fn spot_below(&self, pos: Pos, steps: Steps) -> Spot
-        requires inner { IsFarFromEnds pos }
-        requires steps { AreSteps self.now.chunk self.now.height pos steps }
-        ensures pos { result.pos ≡ below pos }
+    #[inline(always)]
+    pub(crate) fn spot_below(&self, spot: Spot) -> Spot
+        requires inner { IsFarFromEnds spot.pos }
+        requires place { IsPlace self.now.chunk self.now.height spot.pos spot.index }
+        ensures pos { result.pos ≡ below spot.pos }
         ensures spot { IsSpot self.now.chunk self.now.height result }
     {
         Spot {
-            pos: below(pos),
-            index: before(steps.y, steps.index(), 1936),
+            pos: below(spot.pos),
+            index: spot.index - LAYER,
         }
     }
 
     /// The block above one of the board.
-    fn spot_above(&self, pos: Pos, steps: Steps) -> Spot
-        requires inner { IsFarFromEnds pos }
-        requires steps { AreSteps self.now.chunk self.now.height pos steps }
-        ensures pos { result.pos ≡ above pos }
+    #[inline(always)]
+    pub(crate) fn spot_above(&self, spot: Spot) -> Spot
+        requires inner { IsFarFromEnds spot.pos }
+        requires place { IsPlace self.now.chunk self.now.height spot.pos spot.index }
+        ensures pos { result.pos ≡ above spot.pos }
         ensures spot { IsSpot self.now.chunk self.now.height result }
     {
         Spot {
-            pos: above(pos),
-            index: after(steps.y, 16 * self.height.sections, steps.index(), 1936),
+            pos: above(spot.pos),
+            index: spot.index + LAYER,
         }
     }
 
     /// The block north of one of the board.
-    fn spot_north(&self, pos: Pos, steps: Steps) -> Spot
-        requires inner { IsFarFromEnds pos }
-        requires steps { AreSteps self.now.chunk self.now.height pos steps }
-        ensures pos { result.pos ≡ north pos }
+    #[inline(always)]
+    pub(crate) fn spot_north(&self, spot: Spot) -> Spot
+        requires inner { IsFarFromEnds spot.pos }
+        requires place { IsPlace self.now.chunk self.now.height spot.pos spot.index }
+        ensures pos { result.pos ≡ north spot.pos }
         ensures spot { IsSpot self.now.chunk self.now.height result }
     {
         Spot {
-            pos: north(pos),
-            index: before(steps.z, steps.index(), 44),
+            pos: north(spot.pos),
+            index: spot.index - ROW,
         }
     }
 
     /// The block south of one of the board.
-    fn spot_south(&self, pos: Pos, steps: Steps) -> Spot
-        requires inner { IsFarFromEnds pos }
-        requires steps { AreSteps self.now.chunk self.now.height pos steps }
-        ensures pos { result.pos ≡ south pos }
+    #[inline(always)]
+    pub(crate) fn spot_south(&self, spot: Spot) -> Spot
+        requires inner { IsFarFromEnds spot.pos }
+        requires place { IsPlace self.now.chunk self.now.height spot.pos spot.index }
+        ensures pos { result.pos ≡ south spot.pos }
         ensures spot { IsSpot self.now.chunk self.now.height result }
     {
         Spot {
-            pos: south(pos),
-            index: after(steps.z, 44, steps.index(), 44),
+            pos: south(spot.pos),
+            index: spot.index + ROW,
         }
     }
 
     /// The block west of one of the board.
-    fn spot_west(&self, pos: Pos, steps: Steps) -> Spot
-        requires inner { IsFarFromEnds pos }
-        requires steps { AreSteps self.now.chunk self.now.height pos steps }
-        ensures pos { result.pos ≡ west pos }
+    #[inline(always)]
+    pub(crate) fn spot_west(&self, spot: Spot) -> Spot
+        requires inner { IsFarFromEnds spot.pos }
+        requires place { IsPlace self.now.chunk self.now.height spot.pos spot.index }
+        ensures pos { result.pos ≡ west spot.pos }
         ensures spot { IsSpot self.now.chunk self.now.height result }
     {
         Spot {
-            pos: west(pos),
-            index: before(steps.x, steps.index(), 1),
+            pos: west(spot.pos),
+            index: spot.index - 1,
         }
     }
 
     /// The block east of one of the board.
-    fn spot_east(&self, pos: Pos, steps: Steps) -> Spot
-        requires inner { IsFarFromEnds pos }
-        requires steps { AreSteps self.now.chunk self.now.height pos steps }
-        ensures pos { result.pos ≡ east pos }
+    #[inline(always)]
+    pub(crate) fn spot_east(&self, spot: Spot) -> Spot
+        requires inner { IsFarFromEnds spot.pos }
+        requires place { IsPlace self.now.chunk self.now.height spot.pos spot.index }
+        ensures pos { result.pos ≡ east spot.pos }
         ensures spot { IsSpot self.now.chunk self.now.height result }
     {
         Spot {
-            pos: east(pos),
-            index: after(steps.x, 44, steps.index(), 1),
+            pos: east(spot.pos),
+            index: spot.index + 1,
         }
-    }
-
-    /// The blocks that share a face with one of the board.
-    pub(crate) fn beside(&self, pos: Pos) -> [Spot; 6]
-        requires inner { IsFarFromEnds pos }
-        requires on { IsTrue (is_on self.now.chunk self.now.height pos) }
-        ensures places { map (λ s. s.pos) result ≡ sides pos }
-        ensures spots { All (IsSpot self.now.chunk self.now.height) result }
-    {
-        let steps = self.steps(pos);
-        [
-            self.spot_below(pos, steps),
-            self.spot_above(pos, steps),
-            self.spot_north(pos, steps),
-            self.spot_south(pos, steps),
-            self.spot_west(pos, steps),
-            self.spot_east(pos, steps),
-        ]
     }
 }

@@ -34,19 +34,20 @@ fn column(corner: ChunkPos, n: usize) -> ChunkPos
 }
 
 /// Which of three coordinates it is.
+#[inline(always)]
 fn step(from: i32, coordinate: i32) -> Option<usize>
-    requires high { from ≤ℤ pos 1073741823 }
     ensures { IfSome result (λ n. (n < 3) × (coordinate ≡ from +ℤ pos n)) }
 {
-    if coordinate < from || coordinate > from + 2 {
+    let steps = i64::from(coordinate) - i64::from(from);
+    if steps < 0 || 2 < steps {
         return None;
     }
-    Some((coordinate - from) as usize)
+    Some(steps as usize)
 }
 
 /// Which of the nine chunks it is.
+#[inline(always)]
 fn nth(corner: ChunkPos, at: ChunkPos) -> Option<usize>
-    requires { IsCorner corner }
     ensures { IfSome result (λ n. (n < 9) × (at ≡ column corner n)) }
 {
     let x = step(corner.x, at.x)?;
@@ -88,6 +89,7 @@ impl<'a> Around<'a> {
     }
 
     /// Where a chunk stands.
+    #[inline(always)]
     fn slot(&self, at: ChunkPos) -> usize
         ensures { result ≡ slot (positions_of self.now.world.now) at }
     {
@@ -115,6 +117,7 @@ impl Sections for Around<'_> {
         self.world.height()
     }
 
+    #[inline(always)]
     fn section(&self, at: SectionPos) -> Option<&Section> {
         section_in(self.world, self.slot(at.chunk()), at)
     }

@@ -32,6 +32,7 @@ pub(crate) fn list_at(lists: &[Vec<Pos>], index: usize) -> &[Pos]
 }
 
 /// The section at a position, of those of its chunk.
+#[inline(always)]
 fn layer(sections: &[Option<Section>], height: Height, at: SectionPos) -> Option<&Section>
     requires { length sections.now ≡ height.sections }
     ensures { option_copied result ≡ layer_at height sections.now at.y }
@@ -44,6 +45,7 @@ fn layer(sections: &[Option<Section>], height: Height, at: SectionPos) -> Option
 }
 
 /// The section at a position, from where its chunk stands.
+#[inline(always)]
 pub(crate) fn section_in(world: &World, index: usize, at: SectionPos) -> Option<&Section>
     requires { index ≡ slot (positions_of world.now) (chunk_of_section at) }
     ensures { filling_in (option_copied result) ≡ grid world.now at }

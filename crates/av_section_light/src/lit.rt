@@ -31,6 +31,7 @@ impl<S: Sections> Blocks for Lit<'_, S> {
         self.sections.height()
     }
 
+    #[inline(always)]
     fn cost(&self, pos: Pos) -> Option<u8> {
         let Some(section) = self.sections.section(pos.section()) else {
             return None;

@@ -1,46 +1,75 @@
-use Rattle.std.proofs.Common.{arith, refl, subst, sym, ◌-◌, ◌<◌, ◌≤◌}
-use Rattle.std.proofs.lemmas.Bool.{false≢true}
-use Rattle.av_flood.specs.Board.{byte_of, light_of}
+use Rattle.std.proofs.Common.{arith, ◌<◌, ◌-◌, ◌∙◌, ⊎_elim, sym, subst}
+use Rattle.av_flood.specs.Board.{raw_of, light_of}
 use Rattle.av_flood.specs.Blocks.{IsNear}
-use Rattle.av_flood.specs.Flooding.{Matters}
-use Rattle.av_flood.proofs.Boards.{on_board}
-use Rattle.av_flood.proofs.Floods.{IsGrown-pushed, IsSoundAt-next, IsOffered-pushed, IsOffered-far, IsOffered-far_off, IsOffered-seen, IsMarked-pushed, light_marked}
+use Rattle.av_flood.specs.Flooding.{Matters, IsGrown, todo_of}
+use Rattle.av_flood.proofs.Boards.{lit_raw, matters_above, apart_most}
+use Rattle.av_flood.proofs.Floods.{IsMarked-offered, brought_waits, IsOffered-brought, IsOffered-seen, IsOffered-off, IsOffered-same, light_marked}
 use Rattle.av_flood.proofs.flood.offer.Goals as goal
+
+pub mark-requires-clause-place : goal.mark-requires-clause-place
+mark-requires-clause-place g c = c.byte-seen.ensures.least (omega (arith, c.requires.level, c.saturating_sub.ensures, c.if-saturating_sub-seen.false))
+
+pub mark-requires-clause-unsettled : goal.mark-requires-clause-unsettled
+mark-requires-clause-unsettled g c =
+    let low : c.byte-seen.result < 14 = omega (arith, c.requires.level, c.saturating_sub.ensures, c.if-saturating_sub-seen.false) in
+    let is = c.byte-seen.ensures.place (c.byte-seen.ensures.least low) in
+    omega (arith, is, low)
+
+pub mark-requires-clause-far : goal.mark-requires-clause-far
+mark-requires-clause-far g c = let most = apart_most c.args.spot.index in omega (arith, most)
+
+pub bring-requires-clause-matters : goal.bring-requires-clause-matters
+bring-requires-clause-matters g c =
+    let low : c.byte-seen.result < 14 = omega (arith, c.requires.level, c.saturating_sub.ensures, c.if-saturating_sub-seen.false) in
+    let place = c.byte-seen.ensures.least low in
+    let far = c.byte-seen.ensures.far in
+    λ v less. subst (λ k. Matters k v c.args.spot.pos) (sym c.mark.ensures.chunk) (matters_above c.args.flood.now.chunk c.args.flood.now.height c.args.spot.pos c.args.spot.index v place (omega (arith, far, less)))
 
 pub returns-then-saturating_sub-seen-clause-offered : goal.returns-then-saturating_sub-seen-clause-offered
 returns-then-saturating_sub-seen-clause-offered g c =
-    let seen = c.byte-seen.ensures in
-    let less = c.saturating_sub.ensures in
-    IsOffered-seen _ _ _ 1 _ _ _ _ c.requires.marked c.requires.bright (omega arith) (let l = c.if-saturating_sub-seen.true in omega arith)
-
-pub returns-then-not-matters-clause-offered : goal.returns-then-not-matters-clause-offered
-returns-then-not-matters-clause-offered g c = IsOffered-far_off _ _ _ _ _ _ (λ m. false≢true (c.if-not-matters.ensures.1 (subst (λ n. Matters c.args.flood.now.chunk n c.args.spot.pos) (sym c.saturating_sub-2.ensures) m)))
-
-pub returns-then-not-matters-2-clause-offered : goal.returns-then-not-matters-2-clause-offered
-returns-then-not-matters-2-clause-offered g c = IsOffered-far _ _ _ _ _ _ _ (c.in-Some.ensures {u = tt}).1 (λ m. false≢true (c.if-not-matters-2.ensures.1 m))
-
-pub mark-requires-clause-on : goal.mark-requires-clause-on
-mark-requires-clause-on g c =
-    let known = c.in-Some.ensures {u = tt} in
-    let near = g.met.B.Blocks.near c.args.blocks.now c.args.spot.pos known.0 in
-    on_board _ _ _ _ (let h = c.requires.level in let l : c.args.level - c.in-Some.cost ≤ 15 = omega arith in l) (c.if-not-matters-2.ensures.0 refl)
-    (subst (λ h. IsNear h c.args.spot.pos) (sym c.requires.height) near)
+    let f = c.args.flood.now in
+    let t = g.B.Blocks.terrain c.args.blocks.now in
+    let q = c.args.spot.pos in
+    ⊎_elim
+    (λ place. IsOffered-same t f.chunk c.args.level (λ p. raw_of f p - 128) (light_of f) (todo_of c.args.buckets.now) q (λ p. lit_raw (raw_of f p))
+    (IsOffered-seen t f.chunk c.args.level (raw_of f) (todo_of c.args.buckets.now) q c.requires.marked
+    (λ p s. let e = lit_raw (raw_of f p) in let b = c.requires.bright p (let z : 0 < light_of f p = omega (arith, e, s) in z) in omega (arith, e, b))
+    (let is = c.byte-seen.ensures.place place in omega (arith, is, c.saturating_sub.ensures, c.if-saturating_sub-seen.true))))
+    (λ e. IsOffered-off t f.chunk f.height c.args.level (light_of f) (todo_of c.args.buckets.now) q
+    (λ l. subst (λ h. IsNear h q) (sym c.requires.height) (g.met.B.Blocks.near c.args.blocks.now q l)) (omega (arith, c.requires.level)) e.off)
+    c.requires.spot
 
 pub returns-clause-same : goal.returns-clause-same
 returns-clause-same g c =
-    let seen = c.byte-seen.ensures in
-    light_marked (byte_of c.args.flood.now) (byte_of c.mark.new.self) c.args.spot.pos (c.args.level - c.in-Some.cost) (let h = c.requires.level in omega arith) (subst (λ b. b < 128) c.byte-seen.ensures (let h = c.requires.level in let f = c.if-saturating_sub-seen.false in let l : c.byte-seen.result < 128 = omega (arith, c.saturating_sub.ensures) in l)) c.mark.ensures.bytes
+    let low : c.byte-seen.result < 14 = omega (arith, c.requires.level, c.saturating_sub.ensures, c.if-saturating_sub-seen.false) in
+    let is = c.byte-seen.ensures.place (c.byte-seen.ensures.least low) in
+    let f = c.args.flood.now in
+    λ p. lit_raw (raw_of c.mark.new.self p) ∙ light_marked (raw_of f) (raw_of c.mark.new.self) c.args.spot.pos (omega (arith, is, low)) c.mark.ensures.bytes p ∙ sym (lit_raw (raw_of f p))
 
 pub returns-clause-marked : goal.returns-clause-marked
 returns-clause-marked g c =
-    let seen = c.byte-seen.ensures in
-    IsMarked-pushed (byte_of c.args.flood.now) (byte_of c.mark.new.self) (light_of c.args.flood.now) (light_of c.mark.new.self) _ _ c.args.spot.pos (c.args.level - c.in-Some.cost) (let h = c.requires.level in omega arith) c.in_ok-push.ensures c.mark.ensures.bytes
-    (light_marked (byte_of c.args.flood.now) (byte_of c.mark.new.self) c.args.spot.pos (c.args.level - c.in-Some.cost) (let h = c.requires.level in omega arith) (subst (λ b. b < 128) c.byte-seen.ensures (let h = c.requires.level in let f = c.if-saturating_sub-seen.false in let l : c.byte-seen.result < 128 = omega (arith, c.saturating_sub.ensures) in l)) c.mark.ensures.bytes) c.requires.marked
+    let low : c.byte-seen.result < 14 = omega (arith, c.requires.level, c.saturating_sub.ensures, c.if-saturating_sub-seen.false) in
+    let is = c.byte-seen.ensures.place (c.byte-seen.ensures.least low) in
+    let f = c.args.flood.now in
+    let t = g.B.Blocks.terrain c.args.blocks.now in
+    let old = todo_of c.args.buckets.now in
+    let new = todo_of c.bring.new.buckets in
+    let now = c.in_ok-bring.ensures {u = tt} in
+    IsMarked-offered t f.chunk c.args.level (raw_of f) (raw_of c.mark.new.self) old new c.args.spot.pos c.mark.ensures.bytes now.grown.kept
+    (brought_waits t f.chunk c.args.level c.byte-seen.result (raw_of f) old new c.args.spot.pos c.requires.marked (sym is) (omega (arith, low)) now.grown.kept now.brought) c.requires.marked
 
 pub returns-clause-grown : goal.returns-clause-grown
 returns-clause-grown g c =
-    let known = c.in-Some.ensures {u = tt} in
-    IsGrown-pushed _ _ _ _ _ _ _ c.in_ok-push.ensures (let f = c.if-saturating_sub-seen-2.false in let l : c.in-Some.cost < c.args.level = omega (arith, c.saturating_sub-3.ensures) in let e = known.1 in omega arith) (IsSoundAt-next _ _ _ _ _ _ c.requires.beside c.requires.comes known.0 (let f = c.if-saturating_sub-seen-2.false in let l : c.in-Some.cost < c.args.level = omega (arith, c.saturating_sub-3.ensures) in omega arith) (let f = c.if-saturating_sub-seen-2.false in let l : c.in-Some.cost < c.args.level = omega (arith, c.saturating_sub-3.ensures) in omega (arith, known.1)) (c.if-not-matters-2.ensures.0 refl))
+    subst (λ k. IsGrown (g.B.Blocks.terrain c.args.blocks.now) k c.args.level (todo_of c.args.buckets.now) (todo_of c.bring.new.buckets)) c.mark.ensures.chunk (c.in_ok-bring.ensures {u = tt}).grown
 
 pub returns-clause-offered : goal.returns-clause-offered
-returns-clause-offered g c = IsOffered-pushed _ _ _ _ _ _ _ _ (c.in-Some.ensures {u = tt}).1 (let f = c.if-saturating_sub-seen-2.false in let l : c.in-Some.cost < c.args.level = omega (arith, c.saturating_sub-3.ensures) in l) c.in_ok-push.ensures
+returns-clause-offered g c =
+    let low : c.byte-seen.result < 14 = omega (arith, c.requires.level, c.saturating_sub.ensures, c.if-saturating_sub-seen.false) in
+    let is = c.byte-seen.ensures.place (c.byte-seen.ensures.least low) in
+    let f = c.args.flood.now in
+    let t = g.B.Blocks.terrain c.args.blocks.now in
+    let old = todo_of c.args.buckets.now in
+    let new = todo_of c.bring.new.buckets in
+    let now = c.in_ok-bring.ensures {u = tt} in
+    IsOffered-brought t f.chunk c.args.level (light_of f) new c.args.spot.pos
+    (brought_waits t f.chunk c.args.level c.byte-seen.result (raw_of f) old new c.args.spot.pos c.requires.marked (sym is) (omega (arith, low)) now.grown.kept now.brought)

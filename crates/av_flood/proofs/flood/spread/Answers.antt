@@ -1,39 +1,67 @@
-use Rattle.std.proofs.Common.{arith, get_or, refl, sym, subst, ◌∙◌, pos}
-use Rattle.std.specs.Prelude.{None}
-use Rattle.av_flood.specs.declared.spots.Spot.{Spot}
+use Rattle.std.proofs.Common.{arith, sym, subst, ◌∙◌}
+use Rattle.av_types.specs.declared.place.Pos.{Pos}
 use Rattle.av_flood.specs.Board.{light_of}
-use Rattle.av_flood.specs.Flooding.{todo_of, IsGrown, IsOffered}
-use Rattle.av_flood.proofs.Floods.{IsGrown-none, IsGrown-trans, IsOffered-grown, IsOffered-all, six_beside, is_beside, IsOffered-same, offered_more, bright_still}
+use Rattle.av_flood.specs.Flooding.{IsGrown, IsOffered, todo_of}
+use Rattle.av_flood.proofs.Floods.{IsGrown-trans, IsOffered-grown, IsOffered-same, IsOffered-all}
 use Rattle.av_flood.proofs.flood.spread.Goals as goal
 
-pub offer-requires-clause-bright : goal.offer-requires-clause-bright
-offer-requires-clause-bright g c = λ high. bright_still _ _ _ _ c.loop-spot.invariant.light c.requires.bright (c.loop-spot.invariant.marked.settled _ high)
+pub offer_both-requires-clause-first_beside : goal.offer_both-requires-clause-first_beside
+offer_both-requires-clause-first_beside g c = (0, omega arith, sym c.spot_below-below.ensures.pos)
 
-pub offer-requires-clause-beside : goal.offer-requires-clause-beside
-offer-requires-clause-beside g c = is_beside _ c.args.pos c.beside-spots.ensures.places _ _ (let less = c.loop-spot-test.true in omega arith)
+pub offer_both-requires-clause-second_beside : goal.offer_both-requires-clause-second_beside
+offer_both-requires-clause-second_beside g c = (1, omega arith, sym c.spot_above-above.ensures.pos)
 
-pub loop-spot-init : goal.loop-spot-init
-loop-spot-init g c = record { chunk = refl; height = refl; light = λ q. refl; marked = c.requires.marked; grown = IsGrown-none _ _ _ _; offered = λ k e l. absurd (omega arith); same = refl }
+pub offer_both-requires-2-clause-first_beside : goal.offer_both-requires-2-clause-first_beside
+offer_both-requires-2-clause-first_beside g c = (2, omega arith, sym c.spot_north-north.ensures.pos)
 
-pub loop-spot-preserved : goal.loop-spot-preserved
-loop-spot-preserved g c =
-    let now = c.in_ok-offer.ensures {u = tt} in
-    let inv = c.loop-spot.invariant in
+pub offer_both-requires-2-clause-second_beside : goal.offer_both-requires-2-clause-second_beside
+offer_both-requires-2-clause-second_beside g c = (3, omega arith, sym c.spot_south-south.ensures.pos)
+
+pub offer_both-requires-3-clause-first_beside : goal.offer_both-requires-3-clause-first_beside
+offer_both-requires-3-clause-first_beside g c = (4, omega arith, sym c.spot_west-west.ensures.pos)
+
+pub offer_both-requires-3-clause-second_beside : goal.offer_both-requires-3-clause-second_beside
+offer_both-requires-3-clause-second_beside g c = (5, omega arith, sym c.spot_east-east.ensures.pos)
+
+pub returns-clause-same : goal.returns-clause-same
+returns-clause-same g c =
+    let one = c.in_ok-offer_both.ensures {u = tt} in
+    let two = c.in_ok-offer_both-2.ensures {u = tt} in
+    let three = c.in_ok-offer_both-3.ensures {u = tt} in
+    λ q. three.same q ∙ two.same q ∙ one.same q
+
+pub returns-clause-grown : goal.returns-clause-grown
+returns-clause-grown g c =
+    let one = c.in_ok-offer_both.ensures {u = tt} in
+    let two = c.in_ok-offer_both-2.ensures {u = tt} in
+    let three = c.in_ok-offer_both-3.ensures {u = tt} in
     let t = g.B.Blocks.terrain c.args.blocks.now in
-    let nowhere : Spot = record { pos = record { x = pos 0; y = pos 0; z = pos 0 }; index = None } in
-    let grown = subst (λ k. IsGrown t k c.args.level (todo_of c.loop-spot.buckets) (todo_of c.offer.new.buckets)) inv.chunk now.grown in
-    let offered = subst (λ k. IsOffered t k c.args.level (light_of c.loop-spot.flood) (todo_of c.offer.new.buckets) (get_or c.beside-spots.result c.loop-spot.spot-index nowhere).pos) inv.chunk now.offered in
-    record {
-      chunk = now.chunk ∙ inv.chunk;
-      height = now.height ∙ inv.height;
-      light = λ q. now.same q ∙ inv.light q;
-      marked = now.marked;
-      grown = IsGrown-trans _ _ _ _ _ _ inv.grown grown;
-      offered = offered_more (λ s. IsOffered t c.args.flood.now.chunk c.args.level (light_of c.args.flood.now) (todo_of c.loop-spot.buckets) s.pos) (λ s. IsOffered t c.args.flood.now.chunk c.args.level (light_of c.args.flood.now) (todo_of c.offer.new.buckets) s.pos)
-          c.beside-spots.result c.loop-spot.spot-index _ _ (let long = six_beside _ c.args.pos c.beside-spots.ensures.places in let less = c.loop-spot-test.true in omega arith) refl (λ s. IsOffered-grown _ _ _ _ _ _ s.pos grown)
-          (IsOffered-same _ _ _ _ _ _ _ (λ q. sym (inv.light q)) offered) inv.offered;
-      same = now.others ∙ inv.same;
-    }
+    let second = subst (λ k. IsGrown t k c.args.level (todo_of c.offer_both.new.buckets) (todo_of c.offer_both-2.new.buckets)) one.chunk two.grown in
+    let third = subst (λ k. IsGrown t k c.args.level (todo_of c.offer_both-2.new.buckets) (todo_of c.offer_both-3.new.buckets)) (two.chunk ∙ one.chunk) three.grown in
+    IsGrown-trans _ _ _ _ _ _ one.grown (IsGrown-trans _ _ _ _ _ _ second third)
 
 pub returns-clause-offered : goal.returns-clause-offered
-returns-clause-offered g c = IsOffered-all _ _ _ _ _ c.args.pos _ _ c.beside-spots.ensures.places (let long = six_beside _ c.args.pos c.beside-spots.ensures.places in let most = c.loop-spot-test.false in omega arith) c.loop-spot.invariant.offered
+returns-clause-offered g c =
+    let one = c.in_ok-offer_both.ensures {u = tt} in
+    let two = c.in_ok-offer_both-2.ensures {u = tt} in
+    let three = c.in_ok-offer_both-3.ensures {u = tt} in
+    let t = g.B.Blocks.terrain c.args.blocks.now in
+    let f = c.args.flood.now in
+    let n = c.args.level in
+    let second = subst (λ k. IsGrown t k n (todo_of c.offer_both.new.buckets) (todo_of c.offer_both-2.new.buckets)) one.chunk two.grown in
+    let third = subst (λ k. IsGrown t k n (todo_of c.offer_both-2.new.buckets) (todo_of c.offer_both-3.new.buckets)) (two.chunk ∙ one.chunk) three.grown in
+    let end = todo_of c.offer_both-3.new.buckets in
+    let after_one = λ (q : Pos) (o : IsOffered t f.chunk n (light_of f) (todo_of c.offer_both.new.buckets) q). IsOffered-grown t f.chunk n (light_of f) _ end q third (IsOffered-grown t f.chunk n (light_of f) _ _ q second o) in
+    let after_two = λ (q : Pos) (o : IsOffered t c.offer_both.new.flood.chunk n (light_of c.offer_both.new.flood) (todo_of c.offer_both-2.new.buckets) q).
+    IsOffered-grown t f.chunk n (light_of f) _ end q third (IsOffered-same t f.chunk n (light_of c.offer_both.new.flood) (light_of f) _ q (λ p. sym (one.same p))
+    (subst (λ k. IsOffered t k n (light_of c.offer_both.new.flood) (todo_of c.offer_both-2.new.buckets) q) one.chunk o)) in
+    let after_three = λ (q : Pos) (o : IsOffered t c.offer_both-2.new.flood.chunk n (light_of c.offer_both-2.new.flood) end q).
+    IsOffered-same t f.chunk n (light_of c.offer_both-2.new.flood) (light_of f) end q (λ p. sym (two.same p ∙ one.same p))
+    (subst (λ k. IsOffered t k n (light_of c.offer_both-2.new.flood) end q) (two.chunk ∙ one.chunk) o) in
+    IsOffered-all t f.chunk n (light_of f) end c.args.spot.pos
+    (subst (IsOffered t f.chunk n (light_of f) end) c.spot_below-below.ensures.pos (after_one c.spot_below-below.result.pos one.first))
+    (subst (IsOffered t f.chunk n (light_of f) end) c.spot_above-above.ensures.pos (after_one c.spot_above-above.result.pos one.second))
+    (subst (IsOffered t f.chunk n (light_of f) end) c.spot_north-north.ensures.pos (after_two c.spot_north-north.result.pos two.first))
+    (subst (IsOffered t f.chunk n (light_of f) end) c.spot_south-south.ensures.pos (after_two c.spot_south-south.result.pos two.second))
+    (subst (IsOffered t f.chunk n (light_of f) end) c.spot_west-west.ensures.pos (after_three c.spot_west-west.result.pos three.first))
+    (subst (IsOffered t f.chunk n (light_of f) end) c.spot_east-east.ensures.pos (after_three c.spot_east-east.result.pos three.second))

@@ -1,13 +1,30 @@
-use Rattle.std.proofs.Common.{arith, subst}
-use Rattle.std.specs.Prelude.{MatchOption}
-use Rattle.av_flood.specs.Board.{IsOff, IsPlace}
-use Rattle.av_flood.proofs.Boards.{light_set}
+use Rattle.std.proofs.Common.{arith, ◌<◌}
+use Rattle.std.proofs.lemmas.List.Elements.{All-set}
+use Rattle.av_flood.proofs.Boards.{light_set, raw_at}
+use Rattle.av_flood.proofs.Quiet.{IsQuiet-set, IsFenced-set, count_low_set}
 use Rattle.av_flood.proofs.board.Flood.mark.Goals as goal
 
-pub returns-in-Some-clause-bytes : goal.returns-in-Some-clause-bytes
-returns-in-Some-clause-bytes c =
-    let chunk = c.args.self.now.chunk in
-    let height = c.args.self.now.height in
-    let pos = c.args.spot.pos in
-    let place : IsPlace chunk height pos c.in-Some.index = subst (λ o. MatchOption o (IsOff chunk height pos) (IsPlace chunk height pos)) c.in-Some.is c.requires.spot in
-    light_set chunk height pos _ _ _ place (omega (arith, c.args.self.now.long, c.args.self.now.light.ok.0, place.less))
+pub invariant_of-self-clause-quiet : goal.invariant_of-self-clause-quiet
+invariant_of-self-clause-quiet c =
+    let f = c.args.self.now in
+    IsQuiet-set f.touched.items f.light.items c.args.spot.index c.args.byte (omega (arith, c.requires.place.is)) (omega (arith, f.layers, f.touched.ok.0, c.requires.place.is, c.requires.place.less)) f.quiet
+
+pub invariant_of-self-clause-fenced : goal.invariant_of-self-clause-fenced
+invariant_of-self-clause-fenced c =
+    let f = c.args.self.now in
+    IsFenced-set _ f.light.items c.args.spot.index c.args.byte (omega (arith, c.requires.place.is)) c.requires.place.less (omega (arith, f.long, f.light.ok.0, c.requires.place.less)) c.requires.far f.fenced
+
+pub invariant_of-self-clause-counted : goal.invariant_of-self-clause-counted
+invariant_of-self-clause-counted c =
+    let f = c.args.self.now in
+    let was = raw_at f.chunk f.height c.args.spot.pos f.light.items c.args.spot.index c.requires.place in
+    let now = count_low_set f.light.items c.args.spot.index c.args.byte (omega (arith, f.long, f.light.ok.0, c.requires.place.less)) (omega (arith, was, c.requires.unsettled)) (omega arith) in
+    omega (arith, now, f.counted)
+
+pub invariant_of-self-clause-dim : goal.invariant_of-self-clause-dim
+invariant_of-self-clause-dim c = All-set (λ n. n < 144) c.args.self.now.light.items c.args.spot.index c.args.byte (omega arith) c.args.self.now.dim
+
+pub returns-clause-bytes : goal.returns-clause-bytes
+returns-clause-bytes c =
+    let f = c.args.self.now in
+    light_set f.chunk f.height c.args.spot.pos f.light.items c.args.byte c.args.spot.index c.requires.place (omega (arith, f.long, f.light.ok.0, c.requires.place.less))

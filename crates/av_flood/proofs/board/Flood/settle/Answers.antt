@@ -1,12 +1,20 @@
-use Rattle.std.proofs.Common.{arith}
-use Rattle.av_flood.proofs.Boards.{light_set, light_set_light, light_set_settled}
+use Rattle.std.proofs.Common.{◌≡◌, ◌+◌, false, subst, sym}
+use Rattle.av_flood.specs.Board.{raw_of, is_settled, IsPlace}
+use Rattle.av_flood.specs.Flooding.{IsSettled}
+use Rattle.av_flood.proofs.Boards.{settled_light, settled_settled, settled_byte, not_seen}
 use Rattle.av_flood.proofs.board.Flood.settle.Goals as goal
 
-pub returns-in-Some-clause-bytes : goal.returns-in-Some-clause-bytes
-returns-in-Some-clause-bytes c = light_set _ _ c.args.pos _ _ _ c.in-Some.ensures (omega (arith, c.args.self.now.long, c.args.self.now.light.ok.0, (c.in-Some.ensures {u = tt}).less))
+pub settle_at-requires-clause-place : goal.settle_at-requires-clause-place
+settle_at-requires-clause-place c = subst (λ p. IsPlace c.args.self.now.chunk c.args.self.now.height p c.spot-spot.result.index) (sym c.spot-spot.ensures.pos) c.spot-spot.ensures.place
 
-pub returns-in-Some-clause-light : goal.returns-in-Some-clause-light
-returns-in-Some-clause-light c = light_set_light _ _ c.args.pos _ _ _ c.in-Some.ensures (omega (arith, c.args.self.now.long, c.args.self.now.light.ok.0, (c.in-Some.ensures {u = tt}).less))
+pub settle_at-requires-clause-unsettled : goal.settle_at-requires-clause-unsettled
+settle_at-requires-clause-unsettled c = not_seen _ (subst (λ p. is_settled c.args.self.now p ≡ false) (sym c.spot-spot.ensures.pos) c.requires.unsettled)
 
-pub returns-in-Some-clause-settled : goal.returns-in-Some-clause-settled
-returns-in-Some-clause-settled c = light_set_settled _ _ c.args.pos _ _ _ c.in-Some.ensures (omega (arith, c.args.self.now.long, c.args.self.now.light.ok.0, (c.in-Some.ensures {u = tt}).less))
+pub returns-clause-light : goal.returns-clause-light
+returns-clause-light c = settled_light (raw_of c.args.self.now) (raw_of c.settle_at.new.self) c.args.pos c.args.level (subst (λ p. IsSettled (raw_of c.args.self.now) (raw_of c.settle_at.new.self) p (128 + c.args.level)) c.spot-spot.ensures.pos c.settle_at.ensures.bytes)
+
+pub returns-clause-settled : goal.returns-clause-settled
+returns-clause-settled c = settled_settled (raw_of c.args.self.now) (raw_of c.settle_at.new.self) c.args.pos c.args.level (subst (λ p. IsSettled (raw_of c.args.self.now) (raw_of c.settle_at.new.self) p (128 + c.args.level)) c.spot-spot.ensures.pos c.settle_at.ensures.bytes)
+
+pub returns-clause-bytes : goal.returns-clause-bytes
+returns-clause-bytes c = settled_byte (raw_of c.args.self.now) (raw_of c.settle_at.new.self) c.args.pos c.args.level (subst (λ p. IsSettled (raw_of c.args.self.now) (raw_of c.settle_at.new.self) p (128 + c.args.level)) c.spot-spot.ensures.pos c.settle_at.ensures.bytes)

@@ -1,5 +1,6 @@
+use Rattle.std.proofs.Common.{refl}
 use Rattle.av_flood.proofs.Beside.{east_is}
 use Rattle.av_flood.proofs.board.Flood.spot_east.Goals as goal
 
 pub returns-clause-spot : goal.returns-clause-spot
-returns-clause-spot c = east_is _ _ _ _ c.requires.steps _ _ _ c.east.ensures c.index.ensures c.after.ensures
+returns-clause-spot c = east_is _ _ _ _ c.requires.place _ _ c.east.ensures refl
