@@ -126,10 +126,13 @@ def main():
         subprocess.run([compiler, "-shared", "-fPIC", "-O1", source, "-o", library, "-ldl"], check=True)
         source = edit(1, 8, 64, 8, WATER)
         one_chunk = edit(1, 8, 72, 8, WATER) + edit(1, 8, 40, 8, WATER)
+        # more entries than are turned without a plan
+        lakes = "".join(edit(1, x, y, z, WATER) for x in range(5, 11) for y in (72, 40) for z in range(6, 9))
         for name, line, data, edits, workers in (
                 ("one worker", "chunks 1 turns 1", flat(), source, 1),
                 ("two workers", "chunks 2 turns 2", flat(chunks=((0, 0), (1, 0))), source + edit(1, 24, 64, 8, WATER), 2),
-                ("two parts of one chunk", "chunks 1 turns 2", flat(), one_chunk, 2)):
+                ("two parts of one chunk", "chunks 1 turns 2", flat(), one_chunk, 2),
+                ("two parts of many entries", "chunks 1 turns 36", flat(), lakes, 2)):
             folder = os.path.join(work, name.replace(" ", "_"))
             counts.append(check_run(name, line, Run(program, library, folder, data, edits, workers)))
         for name, workers in (("one thread", 0), ("one worker", 1), ("two workers", 2)):

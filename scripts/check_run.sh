@@ -59,6 +59,17 @@ for workers in 1 3 5 8; do
   run "$top/samples" "by_$workers" "$edits" 20 "$workers" > /dev/null
   same whole "by_$workers"
 done
+for x in 5 6 7 8 9 10; do
+  for z in 6 7 8; do
+    printf '1 %d %d %d minecraft:water[level=0]\n' "$x" 104 "$z" "$x" 88 "$z"
+  done
+done > "$work/lake_edits"
+# 36 entries of two lakes are due in tick 6, more than are turned without a plan.
+run "$top/samples" lakes "$work/lake_edits" 20 1 > /dev/null
+for workers in 2 4 8; do
+  run "$top/samples" "lakes_by_$workers" "$work/lake_edits" 20 "$workers" > /dev/null
+  same lakes "lakes_by_$workers"
+done
 run "$work/early" resumed "$work/no_edits" 10 3 > /dev/null
 same whole resumed
 run "$work/early" early "$work/no_edits" 10 3 > /dev/null

@@ -87,22 +87,21 @@ fn expect_crew<R: Threads + Wait + Sync + Abort, G: Gate + Sync>(
     Ok(())
 }
 
-/// Twelve ticks with these edits give the same count, blocks and entries by each number of workers as on one thread, in
-/// parts, and also without.
-fn expect_same<R: Threads + Wait + Sync + Abort>(
+/// Twelve ticks with these edits give the same count, blocks and entries by each number of workers as on one thread.
+fn expect_same<R: Threads + Wait + Sync + Abort, G: Gate + Sync>(
     rt: &R,
     alloc: Global,
     kinds: &Kinds,
     edits: &[Edit],
+    gate: &G,
 ) -> Result<(), Fault> {
     let flat = world_of(alloc, &CHUNKS, &[], &[])?;
     let serial = run_edits(alloc, flat, kinds, edits, 12)?;
     let want = contents(alloc, &serial.world)?;
-    let gate = Counting::of(true);
     for workers in 1..9 {
-        expect_crew(rt, alloc, kinds, edits, workers, &gate, serial.count, &want)?;
+        expect_crew(rt, alloc, kinds, edits, workers, gate, serial.count, &want)?;
     }
-    expect_crew(rt, alloc, kinds, edits, 2, &NoGate, serial.count, &want)
+    Ok(())
 }
 
 /// A thousand worlds.
@@ -114,7 +113,63 @@ fn drawn_worlds(rt: HostRuntime) -> Result<(), Fail> {
     let mut draw = Draw { state: 15 };
     for _ in 0..1_000 {
         let edits = drawn_edits(alloc, &mut draw)?;
-        expect_same(&rt, alloc, &kinds, edits.as_slice())?;
+        expect_same(&rt, alloc, &kinds, edits.as_slice(), &NoGate)?;
     }
+    Ok(())
+}
+
+/// The same worlds, whose ticks are worked off in parts, since a gate watches.
+#[test]
+fn drawn_worlds_in_parts(rt: HostRuntime) -> Result<(), Fail> {
+    let alloc = rt.alloc();
+    let flat = world_of(alloc, &CHUNKS, &[], &[])?;
+    let (_, kinds) = edits_and_kinds(alloc, 1, &flat, "", 0)?;
+    let mut draw = Draw { state: 15 };
+    for _ in 0..1_000 {
+        let edits = drawn_edits(alloc, &mut draw)?;
+        expect_same(&rt, alloc, &kinds, edits.as_slice(), &Counting::of(true))?;
+    }
+    Ok(())
+}
+
+/// A source of tick 1 in the middle of a section of one of the four chunks, so that its reach is of this section alone.
+fn drawn_source(draw: &mut Draw, line: u64) -> Edit {
+    let chunk = draw.below(4);
+    Edit {
+        line,
+        tick: 1,
+        pos: Pos {
+            x: (16 * chunk + 5 + draw.below(6)) as i32,
+            y: draw.below(12) as i32 + 66,
+            z: draw.below(6) as i32 + 5,
+        },
+        number: 1,
+    }
+}
+
+/// Sixty sources.
+fn drawn_sources(alloc: Global, draw: &mut Draw) -> Result<Vec<Edit>, AllocError> {
+    let mut edits = Vec::new(alloc);
+    for line in 1..61 {
+        edits.push(drawn_source(draw, line))?;
+    }
+    Ok(edits)
+}
+
+/// A hundred worlds with more entries in tick 6 than are turned without a plan, and in four parts: these are worked off in
+/// jobs, though no gate watches.
+#[test]
+fn drawn_lakes(rt: HostRuntime) -> Result<(), Fail> {
+    let alloc = rt.alloc();
+    let flat = world_of(alloc, &CHUNKS, &[], &[])?;
+    let (_, kinds) = edits_and_kinds(alloc, 1, &flat, "", 0)?;
+    let mut draw = Draw { state: 33 };
+    let gate = Counting::of(false);
+    for _ in 0..100 {
+        let edits = drawn_sources(alloc, &mut draw)?;
+        expect_same(&rt, alloc, &kinds, edits.as_slice(), &gate)?;
+    }
+    // four jobs in tick 6, with 2 to 8 workers
+    assert!(rt; gate.count() >= 2800);
     Ok(())
 }
