@@ -15,3 +15,4 @@ pub mod InOrder
 pub mod StoredEntries
 pub mod WrittenOne
 pub mod FirstUse
+pub mod Placing

@@ -1,11 +1,11 @@
 //! The indices of a section's places into its palette.
-ghost use Rattle.std.specs.Prelude.{◌≡◌, ◌<◌, ◌≤◌, ◌^◌, ◌+◌, ◌⊎◌, ℕ, nat_eq, ◌-◌, IsTrue, Some, true, false, map, option_map, length, slice_index, slice_index_or, All, Contains, IfOk, IfErr, OnOk};
+ghost use Rattle.std.specs.Prelude.{◌≡◌, ◌<◌, ◌≤◌, ◌^◌, ◌+◌, ◌⊎◌, ◌≢◌, ℕ, nat_eq, ◌-◌, IsTrue, Some, true, false, map, option_map, length, slice_index, slice_index_or, All, AllPairs, Contains, IfOk, IfErr, OnOk};
 ghost use Rattle.indexmap.specs.IndexSet.{insert_key};
 ghost use Rattle.std.specs.Option.{option_copied};
 ghost use Rattle.av_nbt.specs.View.{view};
 ghost use Rattle.av_pack.specs.Packing.{bits_for, longs_for, packed_at, unpacked};
 ghost use Rattle.av_section.specs.BlockStates.{data_of, packed_indices, are_below};
-ghost use Rattle.av_section.specs.Distinct.{AreEachOnce, ArePlaces};
+ghost use Rattle.av_section.specs.Distinct.{AreEachOnce, ArePlaces, ArePlacesByNumber};
 ghost use Rattle.av_section.specs.Judged.{AreNoIndices};
 ghost use Rattle.av_section.specs.Packed.{HasAllBelow, IsRepacked};
 
@@ -17,6 +17,9 @@ use std::alloc::{AllocError, Global};
 
 /// Up to how many numbers each is compared with each other.
 const FEW: usize = 32;
+
+/// How many numbers there can be.
+const NUMBERS: usize = 65536;
 
 /// The longs of a data tag, none where there is no tag.
 pub(crate) fn data_longs<'a>(tag: Option<&'a Tag>) -> Option<&'a [i64]>
@@ -179,12 +182,8 @@ pub(crate) fn first_missing(palette: &[u16]) -> u16
     16
 }
 
-/// Where each number stands in a palette that has it.
-pub(crate) fn places_in(
-    alloc: Global,
-    palette: &[u16],
-    numbers: &[u16],
-) -> Result<Vec<u16>, AllocError>
+/// Where each number stands in a palette that has it, by a search for each.
+fn places_by_search(alloc: Global, palette: &[u16], numbers: &[u16]) -> Result<Vec<u16>, AllocError>
     requires there { All (Contains palette.now) numbers.now }
     requires few { length palette.now ≤ 65536 }
     ensures { IfOk result (λ places. ArePlaces palette.now numbers.now places.items) }
@@ -192,6 +191,49 @@ pub(crate) fn places_in(
     let mut places = Vec::with_capacity(alloc, numbers.len())?;
     for number in numbers {
         places.push(index_of(palette, *number) as u16)?;
+    }
+    Ok(places)
+}
+
+/// A place for each number that there can be.
+fn no_places(alloc: Global) -> Result<Vec<u16>, AllocError>
+    ensures { IfOk result (λ places. length places.items ≡ 65536) }
+{
+    vec![in alloc; 0u16; NUMBERS]
+}
+
+/// The place of each number of a palette, by the number.
+fn places_by_number(alloc: Global, palette: &[u16]) -> Result<Vec<u16>, AllocError>
+    requires distinct { AllPairs (λ x y. x ≢ y) palette.now }
+    requires few { length palette.now ≤ 65536 }
+    ensures { IfOk result (λ places. ArePlacesByNumber palette.now places.items) }
+{
+    let mut places = no_places(alloc)?;
+    for (place, number) in palette.iter().enumerate() {
+        places[usize::from(*number)] = place as u16;
+    }
+    Ok(places)
+}
+
+/// Where each number stands in a palette that has it and has none twice.
+pub(crate) fn places_in(
+    alloc: Global,
+    palette: &[u16],
+    numbers: &[u16],
+) -> Result<Vec<u16>, AllocError>
+    requires there { All (Contains palette.now) numbers.now }
+    requires distinct { AllPairs (λ x y. x ≢ y) palette.now }
+    requires few { length palette.now ≤ 65536 }
+    ensures { IfOk result (λ places. ArePlaces palette.now numbers.now places.items) }
+{
+    if palette.len() <= FEW {
+        return places_by_search(alloc, palette, numbers);
+    }
+    // one look-up for each number, whatever the palette's length is
+    let by_number = places_by_number(alloc, palette)?;
+    let mut places = Vec::with_capacity(alloc, numbers.len())?;
+    for number in numbers {
+        places.push(by_number[usize::from(*number)])?;
     }
     Ok(places)
 }
