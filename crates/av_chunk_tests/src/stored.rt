@@ -377,3 +377,43 @@ fn air_is_written_without_longs(rt: HostRuntime) -> Result<(), Fail> {
     let section = Section::filled(rt.alloc(), 0)?;
     expect_written(&rt, rt.alloc(), &section, &table, &palette, None)
 }
+
+/// A table that knows a palette's states reads its sections as before and stays as it is. One that lacks a state reads none.
+#[test]
+fn known_states_are_read_by_their_numbers(rt: HostRuntime) -> Result<(), Fail> {
+    let mut table = StateTable::new(rt.alloc())?;
+    let (palette, longs) = (palette(rt.alloc(), 17)?, two_longs(rt.alloc())?);
+    let longs = Tag::long_array(longs);
+    let unknown = Section::read_known(rt.alloc(), Some(&palette), Some(&longs), &table)?;
+    expect_true(&rt, unknown.is_none());
+    let _first = Section::read(rt.alloc(), Some(&palette), Some(&longs), &mut table)?;
+    let known = Section::read_known(rt.alloc(), Some(&palette), Some(&longs), &table)?;
+    let section = known.ok_or(Fault::BadPalette)?;
+    expect_sizes(&rt, &section, (17, 342, 5));
+    for (place, number) in [(12, 22), (4092, 22), (4095, 25)] {
+        expect_number(&rt, &section, place, number);
+    }
+    let short = Section::read_known(rt.alloc(), Some(&palette), None, &table);
+    expect_equal(&rt, short.err(), Some(Fault::BadPacked));
+    Ok(())
+}
+
+/// 38 states, numbered from 10 on, and then the first and the last of them once more. Places 0, 1 and 2 have the indices 38, 39
+/// and 37, and all others 0: 38 and 0 are one state, and so are 39 and 37.
+#[test]
+fn states_that_come_twice_have_one_number(rt: HostRuntime) -> Result<(), Fail> {
+    let mut table = StateTable::new(rt.alloc())?;
+    let mut entries = entries(rt.alloc(), 38)?;
+    for number in [0u16, 37] {
+        entries.push(entry(rt.alloc(), number.to_be_bytes().as_slice())?)?;
+    }
+    let palette = Tag::list(TagType::Compound, entries);
+    let longs = longs_of(rt.alloc(), 410, 38 + 39 * 64 + 37 * 4096)?;
+    let section = Section::read(rt.alloc(), Some(&palette), Some(&longs), &mut table)?;
+    expect_equal(&rt, table.len(), 48);
+    expect_sizes(&rt, &section, (38, 410, 6));
+    for (place, number) in [(0, 10), (1, 47), (2, 47), (3, 10), (4095, 10)] {
+        expect_number(&rt, &section, place, number);
+    }
+    Ok(())
+}

@@ -16,3 +16,5 @@ pub mod StoredEntries
 pub mod WrittenOne
 pub mod FirstUse
 pub mod Placing
+pub mod KnownStates
+pub mod KnownRead

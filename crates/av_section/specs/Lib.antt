@@ -10,3 +10,4 @@ pub mod Section
 pub mod Indexed
 pub mod Reading
 pub mod Law
+pub mod Known

@@ -5,6 +5,7 @@
 ghost use Rattle.av_section.specs.Law.{StoredEntriesAreStates};
 
 mod indices;
+mod known;
 mod numbering;
 mod order;
 mod palette;

@@ -20,7 +20,7 @@ pub(crate) const NAME: &[u8] = b"Name";
 /// The name of a palette entry's properties.
 pub(crate) const PROPERTIES: &[u8] = b"Properties";
 /// The most entries that a palette in a file has.
-const MOST_ENTRIES: usize = 4096;
+pub(crate) const MOST_ENTRIES: usize = 4096;
 
 /// The property of a tag, which is a text.
 fn property(alloc: Global, named: &Named) -> Result<Property, Fault>
@@ -71,7 +71,7 @@ fn is_of_entry(named: &Named) -> bool
 }
 
 /// Whether each tag is a `Name` or `Properties`.
-fn are_of_entry(tags: &[Named]) -> bool
+pub(crate) fn are_of_entry(tags: &[Named]) -> bool
     ensures { result ≡ list_all is_of_entry (named_views tags.now) }
 {
     for named in tags {

@@ -10,6 +10,7 @@ use crate::indices::{
     are_below, data_longs, distinct, first_missing, index_of, judge_longs, mapped, places_in,
     repacked, unpacked,
 };
+use crate::known::palette_numbers;
 use crate::numbering::number_states;
 use crate::order::written_order;
 use crate::palette::palette_states;
@@ -54,13 +55,15 @@ fn push_number(palette: &mut Vec<u16>, number: u16) -> Result<(), AllocError>
 }
 
 impl Section {
-    ghost use Rattle.std.specs.Prelude.{All, IsOk, Some, true, false, map, option_map, ◌==◌, OnOk};
+    ghost use Rattle.std.specs.Prelude.{All, IsOk, IfSome, Some, true, false, map, option_map, ◌==◌, OnOk};
     ghost use Rattle.std.specs.Option.{option_copied};
     ghost use Rattle.av_nbt.specs.View.{view};
     ghost use Rattle.av_state.specs.Table.{states};
     ghost use Rattle.av_state.specs.States.{state_of};
-    ghost use Rattle.av_section.specs.BlockStates.{palette_tag, data_tag, indices_if, packed_indices, all_zero};
+    ghost use Rattle.av_section.specs.BlockStates.{palette_tag, data_tag, indices_if, indices_in, packed_indices, all_zero};
     ghost use Rattle.av_section.specs.Distinct.{AreEachOnce};
+    ghost use Rattle.av_section.specs.Judged.{AreNoIndices};
+    ghost use Rattle.av_section.specs.Known.{IsPlaced};
     ghost use Rattle.av_section.specs.Indexed.{IsNumberedSection, IsNoSection, HasNumbers};
     ghost use Rattle.av_section.specs.Section.{number_at, is_pending, CanSet, KeepsPlaces, SetsNumber, SetsPending, IsFilled, AreParts, HasNumbersBelow, section_states};
     ghost use Rattle.av_section.specs.Reading.{IsRead, IsStatesRefusal, OnlyGrows};
@@ -80,6 +83,9 @@ impl Section {
         ensures err { IfErr result (IsStatesRefusal (option_map view (option_copied palette.entry)) (option_map view (option_copied longs.entry)) (states table.old)) }
         ensures table { OnlyGrows (states table.old) (states table.new) }
     {
+        if let Some(section) = Section::read_known(alloc, palette, longs, table)? {
+            return Ok(section);
+        }
         let entries = palette_states(alloc, palette)?;
         let Some(longs) = data_longs(longs) else {
             return Err(Fault::BadPacked);
@@ -89,6 +95,54 @@ impl Section {
         } else {
             Section::packed(alloc, entries.as_slice(), longs, table)?
         };
+        Ok(section)
+    }
+
+    /// What `read` answers of the same, where the table knows all states of the palette: their numbers are looked up by the
+    /// texts of the tags. None where it does not, or where the palette is refused.
+    pub fn read_known(
+        alloc: Global,
+        palette: Option<&Tag>,
+        longs: Option<&Tag>,
+        table: &StateTable,
+    ) -> Result<Option<Self>, Fault>
+        ensures ok { IfOk result (λ found. IfSome found (IsRead (option_map view (option_copied palette.entry)) (option_map view (option_copied longs.entry)) (states table.now) (states table.now))) }
+        ensures err { IfErr result (IsStatesRefusal (option_map view (option_copied palette.entry)) (option_map view (option_copied longs.entry)) (states table.now)) }
+    {
+        let Some(numbers) = palette_numbers(alloc, palette, table)? else {
+            return Ok(None);
+        };
+        let Some(longs) = data_longs(longs) else {
+            return Err(Fault::BadPacked);
+        };
+        let section = Section::placed(alloc, numbers.as_slice(), longs)?;
+        Ok(Some(section))
+    }
+
+    /// The section of the numbers of a palette's entries and its longs.
+    fn placed(alloc: Global, numbers: &[u16], longs: &[i64]) -> Result<Self, Fault>
+        requires some { 0 < length numbers.now }
+        requires few { length numbers.now ≤ 4096 }
+        ensures ok { IfOk result (IsPlaced numbers.now (indices_in (length numbers.now) longs.now)) }
+        ensures err { IfErr result (AreNoIndices (indices_in (length numbers.now) longs.now)) }
+    {
+        if longs.is_empty() {
+            return Section::placed_everywhere(alloc, numbers);
+        }
+        judge_longs(longs, numbers.len())?;
+        let section = Section::indexed(alloc, numbers, longs)?;
+        Ok(section)
+    }
+
+    /// The section of the number of a palette's one entry, which is at every place.
+    fn placed_everywhere(alloc: Global, numbers: &[u16]) -> Result<Self, Fault>
+        ensures ok { IfOk result (IsPlaced numbers.now (indices_if (length numbers.now == 1) all_zero)) }
+        ensures err { IfErr result (AreNoIndices (indices_if (length numbers.now == 1) all_zero)) }
+    {
+        if numbers.len() != 1 {
+            return Err(Fault::BadPacked);
+        }
+        let section = Section::filled(alloc, numbers[0])?;
         Ok(section)
     }
 

@@ -3,3 +3,4 @@ pub mod Numbering
 pub mod Keys
 pub mod Ordered
 pub mod Storable
+pub mod Told

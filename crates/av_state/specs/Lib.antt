@@ -5,4 +5,5 @@ pub mod Views
 pub mod States
 pub mod Table
 pub mod Form
+pub mod Texts
 pub mod Hashing

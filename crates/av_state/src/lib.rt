@@ -3,6 +3,8 @@
 
 pub mod state;
 pub mod table;
+pub mod text;
 
 pub use state::{Property, State};
 pub use table::StateTable;
+pub use text::PropertyText;

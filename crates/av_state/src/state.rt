@@ -4,7 +4,7 @@
 ghost use Rattle.std.specs.Prelude.{◌≡◌, ◌≢◌, ◌↔◌, ◌<◌, ◌≤◌, IsTrue, IfOk, IfErr, IfSome, OnOk, ◌++◌, ◌&&◌, option_map, is_some, map, Some, None};
 ghost use Rattle.std.specs.List.{list_all};
 ghost use Rattle.av_types.specs.declared.fault.Fault.TheVariants.{OutOfMemory, BadWaterLevel};
-ghost use Rattle.av_state.specs.BlockState.{is_short, is_short_property, starts_above, keys_rise, is_storable, storable, in_order, value_of, air_name, water_name, index_in, capped_level, air, water};
+ghost use Rattle.av_state.specs.BlockState.{is_short, is_short_property, starts_above, keys_rise, is_storable, storable, in_order, value_of, air_name, water_name, index_in, capped_level, water_level, air, water};
 ghost use Rattle.av_state.specs.Views.{property_of, properties_of};
 ghost use Rattle.av_state.specs.Words.{property_text, more_text};
 
@@ -56,11 +56,11 @@ pub struct State {
     pub ghost storable: { IsTrue (is_short name.items && list_all is_short_property (properties_of properties.items) && keys_rise (properties_of properties.items)) },
 }
 
-const AIR: &[u8] = b"minecraft:air";
+pub(crate) const AIR: &[u8] = b"minecraft:air";
 
-const WATER: &[u8] = b"minecraft:water";
+pub(crate) const WATER: &[u8] = b"minecraft:water";
 
-const LEVEL: &[u8] = b"level";
+pub(crate) const LEVEL: &[u8] = b"level";
 
 /// The texts of water's levels.
 const LEVEL_TEXTS: [&[u8]; 16] = [
@@ -168,10 +168,7 @@ impl State {
         ensures value { result ≡ level_of (state_of self.now) }
         ensures bound { IfSome result (λ n. n ≤ 8) }
     {
-        match self.value(LEVEL) {
-            None => Some(0),
-            Some(text) => capped_level(index_in(text, LEVEL_TEXTS.as_slice())),
-        }
+        level_of_text(self.value(LEVEL))
     }
 
     /// Whether there is a form that the state takes when it is read: there is none for water whose level is not 0 to 15.
@@ -272,7 +269,7 @@ impl Clone for State {
 }
 
 /// Whether a file has room for a text's length.
-fn is_short(text: &[u8]) -> bool
+pub(crate) fn is_short(text: &[u8]) -> bool
     ensures { result ≡ is_short text.now }
 {
     text.len() <= LONGEST_TEXT
@@ -326,6 +323,17 @@ fn index_in(text: &[u8], texts: &[&[u8]]) -> Option<usize>
     ensures { result ≡ index_in text.now (map (λ t. t.now) texts.now) }
 {
     texts.iter().position(|known| text == *known)
+}
+
+/// The level of water that a text spells, and 0 where there is none.
+pub(crate) fn level_of_text(text: Option<&[u8]>) -> Option<u16>
+    ensures value { result ≡ water_level (option_map (λ t. t.now) text.entry) }
+    ensures bound { IfSome result (λ n. n ≤ 8) }
+{
+    match text {
+        None => Some(0),
+        Some(text) => capped_level(index_in(text, LEVEL_TEXTS.as_slice())),
+    }
 }
 
 /// The level of an index of `LEVEL_TEXTS`: 8 and above is falling water.

@@ -5,6 +5,7 @@ ghost use Rattle.av_state.specs.States.{state_of};
 ghost use Rattle.std.proofs.Props.{props};
 
 use crate::state::{Form, State};
+use crate::text::{PropertyText, StateText};
 use av_types::{Fault, Wet};
 use indexmap::IndexSet;
 use std::alloc::{AllocError, Global};
@@ -25,9 +26,10 @@ pub struct StateTable {
 impl StateTable {
     ghost use Rattle.std.specs.Prelude.{◌<◌, ◌↔◌, ◌≢◌, length, IfOk, IfErr, IfSome, OnErr, slice_get, option_and_then, Some, None, false};
     ghost use Rattle.av_types.specs.declared.fault.Fault.TheVariants.{OutOfMemory, BadWaterLevel, TooManyStates};
-    ghost use Rattle.av_state.specs.BlockState.{meant, wet_of};
+    ghost use Rattle.av_state.specs.BlockState.{meant, storable, wet_of};
     ghost use Rattle.av_state.specs.StateList.{first_states, most_states, number_in, Numbers, IsNew, IsOneTooMany};
     ghost use Rattle.av_state.specs.Table.{states};
+    ghost use Rattle.av_state.specs.Texts.{properties_told, state_told, form_of};
 
     /// The table of the ten first states: air, and water of the levels 0 to 8. Refuses with `OutOfMemory` alone.
     pub fn new(alloc: Global) -> Result<Self, Fault>
@@ -75,6 +77,52 @@ impl StateTable {
             Form::Fixed(number) => Some(number),
             Form::NoLevel => None,
             Form::Same => self.place(state),
+        }
+    }
+
+    /// The number of the state of a name and properties in any order, in the form that it takes when it is read, where
+    /// there is such a state, a file can hold it, and it is there. The properties are put in order. Refuses with
+    /// `OutOfMemory` alone.
+    pub fn number_of_texts(
+        &self,
+        name: &[u8],
+        properties: &mut Vec<PropertyText<'_>>,
+    ) -> Result<Option<u16>, Fault>
+        ensures value { IfOk result (λ n. n ≡ option_and_then (number_in (states self.now)) (form_of (record {
+          name = name.now;
+          properties = properties_told properties.old.items;
+        }))) }
+        ensures memory { IfErr result (λ e. e ≡ OutOfMemory) }
+    {
+        properties.sort_by(|p, q| p.key.cmp(q.key))?;
+        let state = StateText {
+            name,
+            properties: properties.as_slice(),
+        };
+        Ok(self.number_of_text(state))
+    }
+
+    /// The number of a state whose texts stand elsewhere, as `number_of_texts` answers it.
+    fn number_of_text(&self, state: StateText<'_>) -> Option<u16>
+        ensures { result ≡ option_and_then (number_in (states self.now)) (option_and_then meant (storable (state_told state.entry))) }
+    {
+        if !state.is_storable() {
+            return None;
+        }
+        match state.form() {
+            Form::Same => self.place_of(state),
+            Form::Fixed(known) => Some(known),
+            Form::NoLevel => None,
+        }
+    }
+
+    /// The number of a state whose texts stand elsewhere, as it is.
+    fn place_of(&self, state: StateText<'_>) -> Option<u16>
+        ensures { result ≡ number_in (states self.now) (state_told state.entry) }
+    {
+        match self.numbers.get_index_of(state) {
+            Some(index) => Some(index as u16),
+            None => None,
         }
     }
 

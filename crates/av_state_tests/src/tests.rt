@@ -1,6 +1,6 @@
 //! Block states and their numbers, by hand.
 use crate::expecting::{expect_equal, expect_true};
-use av_state::{Property, State, StateTable};
+use av_state::{Property, PropertyText, State, StateTable};
 use av_types::{Fault, Wet};
 use std::alloc::Global;
 use std::process::Abort;
@@ -321,4 +321,50 @@ fn a_copy_is_the_same_state(rt: HostRuntime) -> Result<(), Fail> {
     let copy = furnace(rt.alloc())?.clone()?;
     let want = b"minecraft:furnace[facing=north,lit=true]";
     expect_text(&rt, rt.alloc(), &copy, want.as_slice())
+}
+
+/// A table answers this number of a name, and of keys and values in that order.
+fn expect_known(
+    rt: &impl Abort,
+    alloc: Global,
+    table: &StateTable,
+    name: &str,
+    pairs: &[(&str, &str)],
+    want: Option<u16>,
+) -> Result<(), Fault> {
+    let mut texts = Vec::new(alloc);
+    for (key, value) in pairs {
+        let (key, value) = (key.as_bytes(), value.as_bytes());
+        texts.push(PropertyText { key, value })?;
+    }
+    let found = table.number_of_texts(name.as_bytes(), &mut texts)?;
+    assert_eq!(rt; found, want, "{name}");
+    Ok(())
+}
+
+/// Air and water have their numbers from the start, in the form that they take; the furnace is number 10, by its
+/// properties in any order.
+#[test]
+fn numbers_are_found_by_texts(rt: HostRuntime) -> Result<(), Fail> {
+    let mut table = StateTable::new(rt.alloc())?;
+    let furnace = "minecraft:furnace";
+    let lit = [("facing", "north"), ("lit", "true")];
+    expect_interned(&rt, rt.alloc(), &mut table, furnace, &lit, 10)?;
+    let cases: [(&str, &[(&str, &str)], Option<u16>); 10] = [
+        (furnace, &[("facing", "north"), ("lit", "true")], Some(10)),
+        (furnace, &[("lit", "true"), ("facing", "north")], Some(10)),
+        (furnace, &[("facing", "north")], None),
+        (furnace, &[("facing", "north"), ("lit", "false")], None),
+        (furnace, &[("lit", "true"), ("lit", "true")], None),
+        ("minecraft:air", &[("lit", "true")], Some(0)),
+        ("minecraft:air", &[("lit", "true"), ("lit", "true")], None),
+        ("minecraft:water", &[], Some(1)),
+        ("minecraft:water", &[("level", "9")], Some(9)),
+        ("minecraft:water", &[("level", "16")], None),
+    ];
+    for (name, pairs, want) in cases {
+        expect_known(&rt, rt.alloc(), &table, name, pairs, want)?;
+    }
+    expect_equal(&rt, table.len(), 11);
+    Ok(())
 }

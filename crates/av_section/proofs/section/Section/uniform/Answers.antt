@@ -1,12 +1,9 @@
 -- One entry is at each place.
-use Rattle.std.proofs.Common.{◌≡◌, ℕ, ◌<◌, ◌∙◌, refl, length, get_or, arith, eq-eqb}
-use Rattle.std.proofs.lemmas.List.{get_or-replicate, get_or_default}
+use Rattle.std.proofs.Common.{◌<◌, ◌∙◌, refl, length, arith, eq-eqb}
+use Rattle.std.proofs.lemmas.List.{get_or_default}
 use Rattle.av_section.specs.BlockStates.{all_zero}
+use Rattle.av_section.proofs.KnownRead.{zero_at}
 use Rattle.av_section.proofs.section.Section.uniform.Goals as goal
-
-zero_at : (i : ℕ) → i < 4096 → get_or all_zero i 0 ≡ 0
-unfolding all_zero
-zero_at i low = get_or-replicate 4096 i 0 0 low
 
 pub returns-clause-ok : goal.returns-clause-ok
 returns-clause-ok c =

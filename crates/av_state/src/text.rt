@@ -1,0 +1,166 @@
+//! Names and properties whose texts stand elsewhere, as in a file's tags: a table is asked by them without a copy.
+ghost use Rattle.std.specs.Prelude.{◌≡◌, ◌&&◌, IfSome, option_map, length, true};
+ghost use Rattle.std.specs.List.{list_all};
+ghost use Rattle.std.specs.Cmp.Lexicographic.{pointwise};
+ghost use Rattle.std.specs.Str.{bytes_eq};
+ghost use Rattle.av_state.specs.BlockState.{is_short_property, starts_above, keys_rise, is_storable, value_of, level_of};
+ghost use Rattle.av_state.specs.Hashing.{tells};
+ghost use Rattle.av_state.specs.Texts.{properties_told, state_told};
+
+use crate::state::{AIR, Form, LEVEL, Property, State, WATER, is_short, level_of_text};
+use indexmap::Equivalent;
+use std::hash::{Hash, Hasher};
+
+/// A property whose texts stand elsewhere.
+#[derive(Debug, Clone, Copy, PartialEq, Eq)]
+pub struct PropertyText<'a> {
+    /// The property's name.
+    pub key: &'a [u8],
+    /// Its value, as text.
+    pub value: &'a [u8],
+}
+
+impl Hash for PropertyText<'_> {
+    ghost use Rattle.av_state.specs.Hashing.{told_texts, told_texts-equal};
+
+    ghost hash_input = { told_texts };
+
+    ghost respects_eq = { told_texts-equal };
+
+    fn hash<H: Hasher>(&self, state: &mut H) {
+        state.write(self.key);
+        state.write(self.value);
+    }
+}
+
+/// A name and properties whose texts stand elsewhere.
+#[derive(Debug, Clone, Copy, PartialEq, Eq)]
+pub(crate) struct StateText<'a> {
+    pub(crate) name: &'a [u8],
+    pub(crate) properties: &'a [PropertyText<'a>],
+}
+
+impl Hash for StateText<'_> {
+    ghost use Rattle.std.specs.Prelude.{◌∷◌};
+    ghost use Rattle.av_state.specs.Hashing.{all_told_texts, told_state-equal};
+
+    ghost hash_input = { λ s. s.name.now ∷ all_told_texts s.properties.now };
+
+    ghost respects_eq = { λ s t. told_state-equal s.name.now t.name.now s.properties.now t.properties.now };
+
+    fn hash<H: Hasher>(&self, state: &mut H) {
+        state.write(self.name);
+        for property in self.properties {
+            property.hash(state);
+        }
+    }
+}
+
+/// Whether the texts are those of a property.
+fn tells(text: PropertyText<'_>, property: &Property) -> bool
+    ensures { result ≡ tells text.entry property.now }
+{
+    text.key == property.key.as_slice() && text.value == property.value.as_slice()
+}
+
+/// Whether the texts are those of properties, one by one.
+fn all_tell(texts: &[PropertyText<'_>], properties: &[Property]) -> bool
+    ensures { result ≡ pointwise tells texts.now properties.now }
+{
+    if texts.len() != properties.len() {
+        return false;
+    }
+    for index in 0..texts.len() {
+        if !tells(texts[index], &properties[index]) {
+            return false;
+        }
+    }
+    true
+}
+
+impl Equivalent<State> for StateText<'_> {
+    ghost use Rattle.av_state.specs.Hashing.{state-hashed, state-told-again};
+
+    ghost equivalent = { λ s k. bytes_eq s.name.now k.name.items && pointwise tells s.properties.now k.properties.items };
+
+    ghost respects_hash = { λ s k. state-hashed s.name.now k.name.items s.properties.now k.properties.items };
+
+    ghost respects_eq = { λ s x y. state-told-again s.name.now x.name.items y.name.items s.properties.now x.properties.items y.properties.items };
+
+    fn equivalent(&self, key: &State) -> bool {
+        self.name == key.name.as_slice() && all_tell(self.properties, key.properties.as_slice())
+    }
+}
+
+/// The value of a key.
+fn value_in<'a>(key: &[u8], properties: &[PropertyText<'a>]) -> Option<&'a [u8]>
+    ensures { option_map (λ v. v.now) result ≡ value_of key.now (properties_told properties.now) }
+{
+    for property in properties {
+        if key == property.key {
+            return Some(property.value);
+        }
+    }
+    None
+}
+
+/// Whether each text is short.
+fn are_short(properties: &[PropertyText<'_>]) -> bool
+    ensures { result ≡ list_all is_short_property (properties_told properties.now) }
+{
+    for property in properties {
+        if !is_short(property.key) || !is_short(property.value) {
+            return false;
+        }
+    }
+    true
+}
+
+/// Whether the first key is above this one.
+fn starts_above(key: &[u8], properties: &[PropertyText<'_>]) -> bool
+    ensures { result ≡ starts_above key.now (properties_told properties.now) }
+{
+    match properties.first() {
+        None => true,
+        Some(first) => key.cmp(first.key).is_lt(),
+    }
+}
+
+/// Whether each key is above the one before it.
+fn keys_rise(properties: &[PropertyText<'_>]) -> bool
+    ensures { result ≡ keys_rise (properties_told properties.now) }
+{
+    for index in 0..properties.len() {
+        if !starts_above(properties[index].key, &properties[index + 1..]) {
+            return false;
+        }
+    }
+    true
+}
+
+impl StateText<'_> {
+    ghost use Rattle.av_state.specs.Form.{IsForm};
+
+    /// Whether a file can hold the state.
+    pub(crate) fn is_storable(self) -> bool
+        ensures { result ≡ is_storable (state_told self.entry) }
+    {
+        is_short(self.name) && are_short(self.properties) && keys_rise(self.properties)
+    }
+
+    /// Which of the three forms the state takes.
+    pub(crate) fn form(self) -> Form
+        ensures { IsForm (state_told self.entry) result }
+    {
+        if self.name == AIR {
+            return Form::Fixed(0);
+        }
+        if self.name != WATER {
+            return Form::Same;
+        }
+        match level_of_text(value_in(LEVEL, self.properties)) {
+            Some(level) => Form::Fixed(level + 1),
+            None => Form::NoLevel,
+        }
+    }
+}
