@@ -4,3 +4,4 @@ pub mod Kept
 pub mod Least
 pub mod Lookup
 pub mod OrderLemmas
+pub mod Pass
