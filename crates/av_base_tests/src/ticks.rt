@@ -204,6 +204,62 @@ fn few_of_many_leave(rt: HostRuntime) -> Result<(), Fail> {
     Ok(())
 }
 
+/// The entry at z of 200 that are due in another order than they stand in: those due in the ticks 0 to 9 are at z 0, 143,
+/// 86, 29, 172, 115, 58, 1, 144 and 87.
+fn one_of_mixed(z: i32) -> Entry {
+    entry(z, i64::from(z) * 7 % 200, 0)
+}
+
+/// A list of these 200 entries.
+fn mixed(alloc: Global) -> Result<TickList, Fault> {
+    let mut list = TickList::new(alloc);
+    for z in 0..200 {
+        list.add(one_of_mixed(z))?;
+    }
+    Ok(list)
+}
+
+/// Whether the entries at z 0 to 199 that a list has are those that are due after a tick.
+fn has_later(list: &TickList, now: i64) -> bool {
+    (0..200).all(|z| list.has(entry(z, 0, 0).pos) == (one_of_mixed(z).due > now))
+}
+
+/// In tick 0 one of 200 entries leaves, in tick 4 four of 199, and in tick 9 five of 195.
+#[test]
+fn one_four_and_five_of_many_leave(rt: HostRuntime) -> Result<(), Fail> {
+    let mut list = mixed(rt.alloc())?;
+    list.drop_due(0);
+    expect_equal(&rt, (list.len(), list.soonest()), (199, 1));
+    expect_equal(
+        &rt,
+        (list.has(entry(0, 0, 0).pos), list.has(entry(143, 0, 0).pos)),
+        (false, true),
+    );
+    expect_equal(&rt, has_later(&list, 0), true);
+    list.drop_due(4);
+    expect_equal(&rt, (list.len(), list.soonest()), (195, 5));
+    expect_equal(
+        &rt,
+        (
+            list.has(entry(172, 0, 0).pos),
+            list.has(entry(115, 0, 0).pos),
+        ),
+        (false, true),
+    );
+    expect_equal(&rt, has_later(&list, 4), true);
+    list.drop_due(9);
+    expect_equal(&rt, (list.len(), list.soonest()), (190, 10));
+    expect_equal(
+        &rt,
+        (list.has(entry(87, 0, 0).pos), list.has(entry(30, 0, 0).pos)),
+        (false, true),
+    );
+    expect_equal(&rt, has_later(&list, 9), true);
+    expect_equal(&rt, list.iter().next().copied(), Some(entry(2, 14, 0)));
+    expect_equal(&rt, list.iter().last().copied(), Some(entry(199, 193, 0)));
+    Ok(())
+}
+
 /// Of 200 entries, 67 are due in tick 0, at z 0, 3 and so on to 198. One of them can come again, behind those that stayed.
 #[test]
 fn one_of_many_that_left_comes_again(rt: HostRuntime) -> Result<(), Fail> {
