@@ -3,3 +3,4 @@ pub mod Positions
 pub mod Steps
 pub mod Written
 pub mod Law
+pub mod Batches
