@@ -72,7 +72,8 @@ impl RegionWriter {
         })
     }
 
-    /// Writes the payloads of the next indices, 1,024 at most with those before.
+    /// Writes the payloads of the next indices, 1,024 at most with those before. Room is asked for
+    /// once, and what is there may move, so few and large batches are best.
     ///
     /// Answers `ChunkTooLarge`, with the chunk's place in the world, for the first payload that
     /// needs more than 255 sectors. Else it refuses with `OutOfMemory` alone. After a refusal
