@@ -35,11 +35,11 @@ pub record Waits (todo : Levels) (p : Pos) (n : ℕ) : Type 0 where
 abbrev pub Has : (Pos → ℕ) → Levels → Pos → ℕ → Type 0
 Has lit todo p n = (n ≤ lit p) ⊎ Waits todo p n
 
--- on a board of which nothing was touched the bytes say of no light that it is of use elsewhere than it is
+-- a board of which nothing was touched: no block has light, and no light that matters is said to be of no use
 abbrev pub IsFresh : Flood → Type 0
 IsFresh f = (p : Pos) → (raw_of f p < 128) × ((v : ℕ) → v ≤ raw_of f p → Matters f.chunk v p → ⊥)
 
--- on a board no block has light
+-- no block of the board has light
 abbrev pub IsDark : Flood → Type 0
 IsDark f = (p : Pos) → raw_of f p < 128
 

@@ -15,7 +15,7 @@ pub record AreDark (n : ℕ) (light : List ℕ) : Type 0 where
   pub beside : (i : ℕ) → IsBeside (1936 * n + 1936) i → slice_index_or light i 64 ≡ 64
   pub within : (i : ℕ) → i < 1936 * n → slice_index_or light (1936 + i) 0 ≡ apart (i % 1936)
 
--- there no light is of use, and elsewhere none that does not reach the chunk
+-- the bytes say that beside the blocks no light is of use, and elsewhere none that does not reach the chunk
 pub record IsFenced (n : ℕ) (light : List ℕ) : Type 0 where
   pub beside : (i : ℕ) → IsBeside n i → slice_index_or light i 64 ≡ 64
   pub far : (i : ℕ) → apart (i % 1936) ≤ slice_index_or light i 64
