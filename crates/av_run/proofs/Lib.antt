@@ -2,3 +2,4 @@ pub mod Edited
 pub mod Lit
 pub mod Inputs
 pub mod Answered
+pub mod Crossings

@@ -3,6 +3,7 @@
 
 mod counts;
 pub mod input;
+mod release;
 mod runs;
 mod writing;
 

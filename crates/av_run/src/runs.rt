@@ -12,6 +12,7 @@ ghost use Rattle.av_run.specs.Finished.{reached_from, IsFinished};
 
 use crate::counts::are_counts_good;
 use crate::input::{Input, read_input_on};
+use crate::release::release;
 use crate::writing::written;
 use av_crew::{Gate, run_ticks};
 use av_sink::RegionFile;
@@ -59,10 +60,12 @@ fn finish<R: Threads + Wait + Sync, G: Gate + Sync>(
         gate,
     )?;
     let files = written(rt, alloc, &world, &rest, &kinds, ticks)?;
+    let chunks = world.positions().len() as u64;
+    release(rt, world, rest);
     Ok(Outcome {
         files,
         turns,
-        chunks: world.positions().len() as u64,
+        chunks,
     })
 }
 

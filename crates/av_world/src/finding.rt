@@ -97,4 +97,12 @@ impl World {
     {
         &self.chunks[index]
     }
+
+    /// All chunks, in the order of the positions. The world is no more.
+    pub fn into_chunks(self) -> Vec<Chunk>
+        ensures { result.items ≡ chunks_of self }
+    {
+        let World { chunks, .. } = self;
+        chunks
+    }
 }

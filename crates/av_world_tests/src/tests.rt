@@ -100,6 +100,20 @@ fn chunks_stand_by_z_and_then_by_x(rt: HostRuntime) -> Result<(), Fail> {
     Ok(())
 }
 
+/// Entries of SOUTH come to the second of its chunks alone.
+#[test]
+fn chunks_are_taken_in_order(rt: HostRuntime) -> Result<(), Fail> {
+    let mut world = flat_world(rt.alloc(), Height::game(), &[SOUTH, FIRST])?;
+    wait(&mut world, entry(at(0, 64, 16), 9, 0))?;
+    let chunks = world.into_chunks();
+    let waiting: Vec<usize> = chunks
+        .iter()
+        .map(|chunk| chunk.ticks.len())
+        .collect(rt.alloc())?;
+    assert_eq!(rt; waiting.as_slice(), [0usize, 1].as_slice());
+    Ok(())
+}
+
 /// Blocks with their numbers, in a world of the chunks (0, 0) and (-1, 0). What is not loaded has none.
 fn numbers() -> [(Pos, Option<u16>); 17] {
     [
