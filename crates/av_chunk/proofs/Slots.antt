@@ -156,7 +156,7 @@ HoldSections-part : (h : Height) (old new : List BlockState) (rows : List (List 
 HoldSections-part h old new rows ms (Inside y s kept) r u g p new_number placed held = HoldSections-inside h old new rows ms y s kept r u g p (new_number y p.number) placed held
 HoldSections-part h old new rows ms (Outside o) r u g p new_number placed held = HoldSections-outside h old new rows ms o r u g p placed held
 
-AreFound-part : (h : Height) (rows : List (List NamedTag)) (ms : List NamedTag) (start old new : List BlockState) (part : Part) (r u : Sections)
+pub AreFound-part : (h : Height) (rows : List (List NamedTag)) (ms : List NamedTag) (start old new : List BlockState) (part : Part) (r u : Sections)
     → OnlyGrows old new → IsSectionRead h ms old new part → HasNewNumber rows ms → IsPartPlaced h part r u → AreFound h rows start old r → AreFound h (rows ++ ms ∷ []) start new u
 AreFound-part h rows ms start old new part r u g read new_number placed before = record {
   no_fault = flat_map-append (section_faults h) rows (ms ∷ []) ∙ rw (before.no_fault, read.no_fault) refl;
@@ -258,3 +258,6 @@ part_fits h table ms (Outside o) p = tt
 
 pub OnlyGrows-trans : (a b d : List BlockState) → OnlyGrows a b → OnlyGrows b d → OnlyGrows a d
 OnlyGrows-trans a b d p q = record { more = p.more ++ q.more; grown = q.grown ∙ (ap (λ (x : List BlockState). x ++ q.more) p.grown ∙ append_assoc a p.more q.more) }
+
+pub OnlyGrows-same : (table : List BlockState) → OnlyGrows table table
+OnlyGrows-same table = record { more = []; grown = sym (append-nil table) }

@@ -43,7 +43,7 @@ pub enum Reading {
 }
 
 /// The tags of a List, none where there is no tag.
-fn items(alloc: Global, list: Option<Tag>) -> Vec<Tag>
+pub(crate) fn items(alloc: Global, list: Option<Tag>) -> Vec<Tag>
     requires { is_other compounds_of (option_map view list) ≡ false }
     ensures rows { opened (views result.items) ≡ list_rows (option_map view list) }
     ensures compounds { has_other (views result.items) ≡ false }

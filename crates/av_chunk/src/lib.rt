@@ -5,6 +5,7 @@ pub mod block;
 mod build;
 pub mod chunk;
 mod faults;
+mod known;
 pub mod light;
 pub mod payload;
 mod pending;

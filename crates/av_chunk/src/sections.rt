@@ -76,7 +76,7 @@ fn read_states(
 }
 
 /// Whether a section of that number is in the height.
-fn is_inside(height: Height, y: i8) -> bool
+pub(crate) fn is_inside(height: Height, y: i8) -> bool
     ensures { result ≡ is_section_of height y }
 {
     height.has_section(i32::from(y))
@@ -128,7 +128,7 @@ pub(crate) fn offset_of(height: Height, y: i32) -> usize
 
 impl Sections {
     /// All sections missing.
-    fn missing(alloc: Global, height: Height) -> Result<Self, AllocError>
+    pub(crate) fn missing(alloc: Global, height: Height) -> Result<Self, AllocError>
         ensures { IfOk result (AreMissing height) }
     {
         let mut sections = Vec::new(alloc);
@@ -145,7 +145,7 @@ impl Sections {
     }
 
     /// Puts a section where it belongs.
-    fn place(&mut self, part: Part, height: Height) -> Result<(), AllocError>
+    pub(crate) fn place(&mut self, part: Part, height: Height) -> Result<(), AllocError>
         requires fits { FitsHeight height part }
         requires count { length self.old.sections.items ≡ height.sections }
         requires count_kept { length self.old.kept.items ≡ height.sections }
@@ -174,7 +174,7 @@ fn fill(alloc: Global, slot: &mut Option<Section>) -> Result<(), AllocError>
 }
 
 /// Puts a section of air wherever there is none.
-fn fill_all(alloc: Global, sections: &mut Vec<Option<Section>>) -> Result<(), AllocError>
+pub(crate) fn fill_all(alloc: Global, sections: &mut Vec<Option<Section>>) -> Result<(), AllocError>
     ensures { OnOk result (AreFilled sections.old.items sections.new.items) }
 {
     for index in 0..sections.len() {

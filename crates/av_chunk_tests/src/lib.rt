@@ -10,6 +10,8 @@ mod expecting;
 #[cfg(test)]
 mod judging;
 #[cfg(test)]
+mod known;
+#[cfg(test)]
 mod parts;
 #[cfg(test)]
 mod payloads;
