@@ -1,25 +1,42 @@
--- What a world and a region's rest hold may be read by several threads.
+-- What a world and a region's rest hold, and a table, may be read by several threads; what a thread reads may go to another.
 use Rattle.std.proofs.Crossing.{crosses}
-use denote.Param.Send.{IsSync, sendable}
+use denote.Param.Send.{IsSend, IsSync, sendable}
 use Rattle.av_nbt.proofs.tag.Tag.TheLaws.TheKnot as tags
 use Rattle.av_nbt.specs.contracts.tag.Named as Named
 use Rattle.av_nbt.specs.contracts.tag.Tag as Tag
+use Rattle.av_state.specs.contracts.table.StateTable as StateTable
 use Rattle.av_chunk.specs.contracts.rest.ChunkRest as ChunkRest
 use Rattle.av_world.specs.contracts.worlds.World as World
+use Rattle.av_image.specs.contracts.ahead.BatchAhead as BatchAhead
 use Rattle.av_image.specs.contracts.rest.RegionRest as RegionRest
 
 pub world_sync : IsSync World.the_row
 world_sync = search (sendable, crosses) depth 60 fits 20000
 
+pub table_sync : IsSync StateTable.the_row
+table_sync = search (sendable, crosses) depth 60 fits 20000
+
 -- tags hold tags
 tag_sync : IsSync Tag.the_row
 tag_sync = search (sendable, crosses, tags.crosses) depth 60 fits 20000
 
+tag_send : IsSend Tag.the_row
+tag_send = search (sendable, crosses, tags.crosses) depth 60 fits 20000
+
 named_sync : IsSync Named.the_row
 named_sync = search (sendable, crosses, tags.crosses) depth 60 fits 20000
+
+named_send : IsSend Named.the_row
+named_send = search (sendable, crosses, tags.crosses) depth 60 fits 20000
 
 rest_sync : IsSync (ChunkRest.the_field).row
 rest_sync = search (sendable, crosses, tag_sync, named_sync) depth 60 fits 20000
 
+rest_send : IsSend (ChunkRest.the_field).row
+rest_send = search (sendable, crosses, tag_send, named_send) depth 60 fits 20000
+
 pub region_sync : IsSync RegionRest.the_row
 region_sync = search (sendable, crosses, rest_sync) depth 60 fits 20000
+
+pub batch_send : IsSend BatchAhead.the_row
+batch_send = search (sendable, crosses, named_send, rest_send) depth 60 fits 20000

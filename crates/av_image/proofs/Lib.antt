@@ -15,3 +15,4 @@ pub mod PayloadLists
 pub mod Placing
 pub mod Crossings
 pub mod BatchPlaces
+pub mod Grown

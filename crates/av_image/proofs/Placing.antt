@@ -27,7 +27,7 @@ set_keeps P (x ∷ xs) zero y d h is (suc j) = h (suc j)
 set_keeps P (x ∷ xs) (suc i) y d h is zero = h zero
 set_keeps P (x ∷ xs) (suc i) y d h is (suc j) = set_keeps (λ n. P (suc n)) xs i y d (λ n. h (suc n)) is j
 
-same_read : {X : Type 0} (xs : List X) (i : ℕ) (a b : X) → i < length xs → get_or xs i a ≡ get_or xs i b
+pub same_read : {X : Type 0} (xs : List X) (i : ℕ) (a b : X) → i < length xs → get_or xs i a ≡ get_or xs i b
 same_read [] i a b l = absurd (omega arith)
 same_read (x ∷ xs) zero a b l = refl
 same_read (x ∷ xs) (suc i) a b l = same_read xs i a b (omega arith)

@@ -1,12 +1,17 @@
-//! Documents of a region that several threads decode before its places are read, each the next that none has taken.
-ghost use Rattle.std.specs.Prelude.{◌≡◌, ◌+◌, ◌<◌, length, IfOk, IfSome};
+//! Payloads of a region that several threads read before its places are read, each the next that none has taken.
+ghost use Rattle.std.specs.Prelude.{◌≡◌, ◌+◌, ◌<◌, ◌≤◌, length, IfOk, IfSome};
 ghost use Rattle.std.specs.List.{All};
 ghost use Rattle.av_region.specs.Region.{Holds};
-ghost use Rattle.av_image.specs.Ahead.{IsDecoded, IsTaken, AreAhead};
+ghost use Rattle.av_state.specs.Table.{states};
+ghost use Rattle.av_chunk.specs.Payload.{IsPayloadReading};
+ghost use Rattle.av_image.specs.Ahead.{IsMadeOf, IsMadeBy, IsMadeIn, IsTaken, AreAhead};
 
 use crate::batch::{BATCH, Batch, LARGEST_AHEAD};
 use crate::dealt::empty_places;
+use av_chunk::{Chunk, Reading};
 use av_nbt::{Root, decode};
+use av_state::StateTable;
+use av_types::{ChunkPos, Height};
 use rayon::current_num_threads;
 use rayon::prelude::*;
 use std::alloc::{AllocError, Global};
@@ -14,17 +19,73 @@ use std::sync::atomic::AtomicU64;
 use std::sync::atomic::Ordering::SeqCst;
 use std::thread::Threads;
 
-/// The document of a payload, and its place in its batch.
+/// How many states each table has. One with no more knows hardly any chunk, so none is tried.
+const FIRST_STATES: usize = 10;
+
+/// What a thread makes of a payload before its place is read.
 #[derive(Drop)]
-struct BatchRoot {
-    offset: usize,
-    root: Root,
+pub(crate) enum Ahead {
+    /// What it is read as, where the table has all its states.
+    Read(Reading),
+    /// Its document, where that has a state that is new or is to be refused.
+    Decoded(Root),
 }
 
-/// The payload at a place of a batch, where one is decoded ahead.
+/// What was made of a payload, and its place in its batch.
+#[derive(Drop)]
+struct BatchAhead {
+    offset: usize,
+    ahead: Ahead,
+}
+
+/// What a payload is read as, where the table has all states of its chunk. None where it is to be refused too.
+fn known(
+    alloc: Global,
+    payload: &[u8],
+    at: ChunkPos,
+    height: Height,
+    table: &StateTable,
+) -> Option<Reading>
+    requires { length payload.now ≤ 1044475 }
+    ensures { IfSome result (IsPayloadReading at height payload.now (states table.now) (states table.now)) }
+{
+    let Ok(root) = decode(alloc, payload) else {
+        return None;
+    };
+    match Chunk::read_known(alloc, root, at, height, table) {
+        Ok(reading) => reading,
+        Err(_) => None,
+    }
+}
+
+/// What is made of a payload. None where it spells no document, or memory for one is refused: the place's reader finds why.
+fn ahead_of(
+    alloc: Global,
+    payload: &[u8],
+    at: ChunkPos,
+    height: Height,
+    table: &StateTable,
+) -> Option<Ahead>
+    requires { length payload.now ≤ 1044475 }
+    ensures { IfSome result (IsMadeOf at height payload.now (states table.now)) }
+{
+    if table.len() > FIRST_STATES {
+        if let Some(reading) = known(alloc, payload, at, height, table) {
+            return Some(Ahead::Read(reading));
+        }
+    }
+    // Only chunks with a state that is new, or that are refused, are decoded twice.
+    match decode(alloc, payload) {
+        Ok(root) => Some(Ahead::Decoded(root)),
+        Err(_) => None,
+    }
+}
+
+/// The payload at a place of a batch, where one is read ahead.
 fn payload_ahead<'a>(batch: &Batch<'a>, offset: usize) -> Option<&'a [u8]>
     requires { offset < 64 }
-    ensures { IfSome result (λ payload. Holds batch.now.region.bytes.now (batch.now.first + offset) payload.now) }
+    ensures holds { IfSome result (λ payload. Holds batch.now.region.bytes.now (batch.now.first + offset) payload.now) }
+    ensures small { IfSome result (λ payload. length payload.now ≤ 262144) }
 {
     match batch.region.payload(batch.first + offset) {
         Ok(Some(payload)) if payload.len() <= LARGEST_AHEAD => Some(payload),
@@ -32,77 +93,105 @@ fn payload_ahead<'a>(batch: &Batch<'a>, offset: usize) -> Option<&'a [u8]>
     }
 }
 
-/// Adds the document at a place of a batch. Where there is none it adds nothing: the place's reader finds why.
-fn add_root(
+/// Adds what is made of the payload at a place of a batch. Where nothing is it adds nothing.
+fn add_ahead(
     alloc: Global,
     batch: &Batch<'_>,
+    table: &StateTable,
     offset: usize,
-    roots: &mut Vec<BatchRoot>,
+    made: &mut Vec<BatchAhead>,
 ) -> Result<(), AllocError>
     requires offset { offset < 64 }
-    requires roots { All (IsDecoded batch.now) roots.old.items }
-    ensures { All (IsDecoded batch.now) roots.new.items }
+    requires made { All (IsMadeIn batch.now (states table.now)) made.old.items }
+    ensures { All (IsMadeIn batch.now (states table.now)) made.new.items }
 {
     let Some(payload) = payload_ahead(batch, offset) else {
         return Ok(());
     };
-    let Ok(root) = decode(alloc, payload) else {
+    let at = batch.pos.chunk_at(batch.first + offset);
+    let Some(ahead) = ahead_of(alloc, payload, at, batch.height, table) else {
         return Ok(());
     };
-    roots.push(BatchRoot { offset, root })?;
+    made.push(BatchAhead { offset, ahead })?;
     Ok(())
 }
 
-/// The documents that this thread decodes, until all places are taken.
-fn roots_taken(
+/// What this thread makes, until all places are taken.
+fn made_here(
     alloc: Global,
     batch: &Batch<'_>,
+    table: &StateTable,
     next: &AtomicU64,
-) -> Result<Vec<BatchRoot>, AllocError>
-    ensures { IsTaken batch.now result }
+) -> Result<Vec<BatchAhead>, AllocError>
+    ensures { IsTaken batch.now (states table.now) result }
 {
-    let mut roots = Vec::new(alloc);
+    let mut made = Vec::new(alloc);
     for _ in 0..BATCH {
         let offset = next.fetch_add(1, SeqCst) as usize;
         if offset >= BATCH {
             break;
         }
-        add_root(alloc, batch, offset, &mut roots)?;
+        add_ahead(alloc, batch, table, offset, &mut made)?;
     }
-    Ok(roots)
+    Ok(made)
 }
 
-/// Puts documents into their places.
-fn place_all(batch: &Batch<'_>, mut roots: Vec<BatchRoot>, places: &mut Vec<Option<Root>>)
-    requires each { All (IsDecoded batch.now) roots.items }
+/// Puts what was made of a payload into its place.
+#[tactic(auto, using(crate::proofs::BatchPlaces::ahead_set))]
+fn put_ahead(
+    batch: &Batch<'_>,
+    table: &StateTable,
+    offset: usize,
+    ahead: Ahead,
+    places: &mut Vec<Option<Ahead>>,
+)
+    requires offset { offset < 64 }
+    requires made { IsMadeBy batch.now (states table.now) offset ahead }
     requires long { length places.old.items ≡ 64 }
-    requires ahead { AreAhead batch.now places.old.items }
+    requires ahead { AreAhead batch.now (states table.now) places.old.items }
     ensures long { length places.new.items ≡ 64 }
-    ensures ahead { AreAhead batch.now places.new.items }
+    ensures ahead { AreAhead batch.now (states table.now) places.new.items }
 {
-    while let Some(BatchRoot { offset, root }) = roots.pop() {
-        places[offset] = Some(root);
+    places[offset] = Some(ahead);
+}
+
+/// Puts what was made into its places.
+fn place_all(
+    batch: &Batch<'_>,
+    table: &StateTable,
+    mut made: Vec<BatchAhead>,
+    places: &mut Vec<Option<Ahead>>,
+)
+    requires each { All (IsMadeIn batch.now (states table.now)) made.items }
+    requires long { length places.old.items ≡ 64 }
+    requires ahead { AreAhead batch.now (states table.now) places.old.items }
+    ensures long { length places.new.items ≡ 64 }
+    ensures ahead { AreAhead batch.now (states table.now) places.new.items }
+{
+    while let Some(BatchAhead { offset, ahead }) = made.pop() {
+        put_ahead(batch, table, offset, ahead, places);
     }
 }
 
-/// The documents of several threads, in their places.
+/// What several threads made, in its places.
 fn gathered(
     alloc: Global,
     batch: &Batch<'_>,
-    mut taken: Vec<Result<Vec<BatchRoot>, AllocError>>,
-) -> Result<Vec<Option<Root>>, AllocError>
-    requires { All (IsTaken batch.now) taken.items }
+    table: &StateTable,
+    mut taken: Vec<Result<Vec<BatchAhead>, AllocError>>,
+) -> Result<Vec<Option<Ahead>>, AllocError>
+    requires { All (IsTaken batch.now (states table.now)) taken.items }
     ensures long { IfOk result (λ places. length places.items ≡ 64) }
-    ensures ahead { IfOk result (λ places. AreAhead batch.now places.items) }
+    ensures ahead { IfOk result (λ places. AreAhead batch.now (states table.now) places.items) }
 {
     let mut places = empty_places(alloc, BATCH)?;
-    while let Some(roots) = taken.pop() {
-        place_all(batch, roots?, &mut places);
+    while let Some(made) = taken.pop() {
+        place_all(batch, table, made?, &mut places);
     }
     Ok(places)
 }
 
-/// How many payloads of a batch are decoded ahead.
+/// How many payloads of a batch are read ahead.
 fn count_payloads(batch: &Batch<'_>) -> usize {
     let mut count = 0;
     for offset in 0..BATCH {
@@ -113,19 +202,21 @@ fn count_payloads(batch: &Batch<'_>) -> usize {
     count
 }
 
-/// The documents of a batch, decoded by as many threads as there are processors. A place is empty where it has no payload,
-/// or one that is large or spells no document. No thread is started for a single payload.
-pub(crate) fn roots_ahead(
+/// What as many threads as there are processors make of the payloads of a batch, by the states that a table has. A place is empty
+/// where it has no payload, or one that is large or spells no document, or where memory for that was refused. No thread is
+/// started for a single payload.
+pub(crate) fn read_ahead(
     rt: &(impl Threads + Sync),
     alloc: Global,
     batch: &Batch<'_>,
-) -> Result<Vec<Option<Root>>, AllocError>
+    table: &StateTable,
+) -> Result<Vec<Option<Ahead>>, AllocError>
     ensures long { IfOk result (λ places. length places.items ≡ 64) }
-    ensures ahead { IfOk result (λ places. AreAhead batch.now places.items) }
+    ensures ahead { IfOk result (λ places. AreAhead batch.now (states table.now) places.items) }
 {
     let payloads = count_payloads(batch);
     if payloads < 2 {
-        return gathered(alloc, batch, Vec::new(alloc));
+        return gathered(alloc, batch, table, Vec::new(alloc));
     }
     let next = AtomicU64::new(0);
     let count = current_num_threads(rt).min(payloads);
@@ -133,10 +224,10 @@ pub(crate) fn roots_ahead(
         .into_par_iter()
         .with_min_len(1)
         .map(
-            |_thread: usize| -> Result<Vec<BatchRoot>, AllocError>
-                ensures { IsTaken batch.entry.now result }
-            { roots_taken(alloc, batch, &next) },
+            |_thread: usize| -> Result<Vec<BatchAhead>, AllocError>
+                ensures { IsTaken batch.entry.now (states table.entry.now) result }
+            { made_here(alloc, batch, table, &next) },
         )
-        .collect::<Vec<Result<Vec<BatchRoot>, AllocError>>>(rt, alloc)?;
-    gathered(alloc, batch, taken)
+        .collect::<Vec<Result<Vec<BatchAhead>, AllocError>>>(rt, alloc)?;
+    gathered(alloc, batch, table, taken)
 }

@@ -42,9 +42,9 @@ fn load_at_on(
     Ok(world_and_rest(alloc, regions, height, table)?)
 }
 
-/// What `load` answers, of the same. The payloads of a region are decoded by as many threads as there are processors, at most 64
-/// at a time and none of more than 256 KiB; the chunks are then read of their documents one after the other, as `load` reads
-/// them.
+/// What `load` answers, of the same. Payloads, at most 64 at a time and none of more than 256 KiB, are decoded by as many threads as
+/// there are processors, and read by them where the table had all their states before these 64. All others are read one after
+/// the other, as `load` reads them.
 ///
 /// # Errors
 /// The first of these, in this order: `RegionRange` where a region is out of the limits; `RepeatedRegion` where one comes

@@ -2,17 +2,15 @@
 ghost use Rattle.std.specs.Prelude.{◌≡◌, ◌≢◌, ◌≤◌, ◌<◌, IfOk, IfErr, IfSome, length};
 ghost use Rattle.av_types.specs.declared.fault.Fault.TheVariants.{OutOfMemory};
 ghost use Rattle.av_types.specs.Places.{IsInLimits, chunk_at};
-ghost use Rattle.av_nbt.specs.Spelling.{SpellsDocument};
-ghost use Rattle.av_nbt.specs.View.{document};
 ghost use Rattle.av_state.specs.Table.{states};
 ghost use Rattle.av_section.specs.Reading.{OnlyGrows};
 ghost use Rattle.av_chunk.specs.Payload.{IsPayloadReading, IsPayloadFault};
 ghost use Rattle.av_files.specs.FirstFault.{IsPlaceFault};
-ghost use Rattle.av_image.specs.Ahead.{IsRootAt};
+ghost use Rattle.av_image.specs.Ahead.{IsMadeOf, IsMadeAt};
 ghost use Rattle.av_image.specs.Placed.{IsPlaceRead, IsPayloadRead};
 
+use crate::ahead::Ahead;
 use av_chunk::{Chunk, ChunkRest, Reading, read_payload};
-use av_nbt::Root;
 use av_region::Region;
 use av_state::StateTable;
 use av_types::{ChunkPos, Fault, Height, RegionPos};
@@ -29,24 +27,25 @@ pub enum Place {
     Full { chunk: Chunk, rest: ChunkRest },
 }
 
-/// What a payload is read as, by its document where that was decoded before.
+/// What a payload is read as, by what was made of it before.
 fn reading(
     alloc: Global,
     payload: &[u8],
-    root: Option<Root>,
+    ahead: Option<Ahead>,
     at: ChunkPos,
     height: Height,
     table: &mut StateTable,
 ) -> Result<Reading, Fault>
     requires small { length payload.now ≤ 1044475 }
-    requires root { IfSome root (λ r. SpellsDocument (document r) payload.now) }
+    requires ahead { IfSome ahead (IsMadeOf at height payload.now (states table.old)) }
     ensures ok { IfOk result (IsPayloadReading at height payload.now (states table.old) (states table.new)) }
     ensures err { IfErr result (λ e. e ≢ OutOfMemory → IsPayloadFault at height payload.now (states table.old) e) }
     ensures table { OnlyGrows (states table.old) (states table.new) }
 {
-    match root {
+    match ahead {
+        Some(Ahead::Read(reading)) => Ok(reading),
+        Some(Ahead::Decoded(root)) => Chunk::read(alloc, root, at, height, table),
         None => read_payload(alloc, payload, at, height, table),
-        Some(root) => Chunk::read(alloc, root, at, height, table),
     }
 }
 
@@ -54,28 +53,28 @@ fn reading(
 fn held(
     alloc: Global,
     payload: &[u8],
-    root: Option<Root>,
+    ahead: Option<Ahead>,
     at: ChunkPos,
     height: Height,
     table: &mut StateTable,
 ) -> Result<Place, Fault>
     requires small { length payload.now ≤ 1044475 }
-    requires root { IfSome root (λ r. SpellsDocument (document r) payload.now) }
+    requires ahead { IfSome ahead (IsMadeOf at height payload.now (states table.old)) }
     ensures ok { IfOk result (IsPayloadRead height (states table.old) (states table.new) payload.now at) }
     ensures err { IfErr result (λ e. e ≢ OutOfMemory → IsPayloadFault at height payload.now (states table.old) e) }
     ensures table { OnlyGrows (states table.old) (states table.new) }
 {
-    match reading(alloc, payload, root, at, height, table)? {
+    match reading(alloc, payload, ahead, at, height, table)? {
         Reading::Kept => Ok(Place::Kept(Vec::from_slice(alloc, payload)?)),
         Reading::Full { chunk, rest } => Ok(Place::Full { chunk, rest }),
     }
 }
 
-/// What a region holds at an index, read by its document where that was decoded before.
+/// What a region holds at an index, read by what was made of its payload before.
 pub(crate) fn read_place_by(
     alloc: Global,
     region: &Region<'_>,
-    root: Option<Root>,
+    ahead: Option<Ahead>,
     pos: RegionPos,
     index: usize,
     height: Height,
@@ -83,14 +82,14 @@ pub(crate) fn read_place_by(
 ) -> Result<Place, Fault>
     requires limits { IsInLimits pos }
     requires index { index < 1024 }
-    requires root { IfSome root (IsRootAt region.now.bytes.now index) }
+    requires ahead { IfSome ahead (IsMadeAt height (states table.old) region.now.bytes.now (chunk_at pos index) index) }
     ensures ok { IfOk result (IsPlaceRead height (states table.old) (states table.new) region.now.bytes.now (chunk_at pos index) index) }
     ensures err { IfErr result (λ e. e ≢ OutOfMemory → IsPlaceFault height (states table.old) region.now.bytes.now (chunk_at pos index) index e) }
     ensures table { OnlyGrows (states table.old) (states table.new) }
 {
     match region.payload(index)? {
         None => Ok(Place::Absent),
-        Some(payload) => held(alloc, payload, root, pos.chunk_at(index), height, table),
+        Some(payload) => held(alloc, payload, ahead, pos.chunk_at(index), height, table),
     }
 }
 

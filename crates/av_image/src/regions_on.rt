@@ -1,4 +1,4 @@
-//! All places of region files, whose payloads several threads decode.
+//! All places of region files, whose payloads several threads read ahead.
 ghost use Rattle.std.specs.Prelude.{◌≡◌, ◌≢◌, ◌+◌, IfOk, IfErr, OnOk, length, map};
 ghost use Rattle.std.specs.List.{All};
 ghost use Rattle.av_types.specs.declared.fault.Fault.TheVariants.{OutOfMemory};
@@ -11,11 +11,10 @@ ghost use Rattle.av_image.specs.Ahead.{AreAhead};
 ghost use Rattle.av_image.specs.Placed.{ArePlacesRead, IsRegionRead, AreRegionsRead, file_of};
 ghost use Rattle.av_image.specs.Ways.{GoesOn, Stops};
 
-use crate::ahead::roots_ahead;
+use crate::ahead::{Ahead, read_ahead};
 use crate::batch::{BATCH, Batch};
 use crate::places::{Place, read_place_by};
 use crate::regions::{ReadRegion, read_stamps};
-use av_nbt::Root;
 use av_region::Region;
 use av_sink::RegionFile;
 use av_state::StateTable;
@@ -23,31 +22,28 @@ use av_types::{Fault, Height, RegionPos};
 use std::alloc::Global;
 use std::thread::Threads;
 
-/// Reads the places of a batch, behind those before it, by the documents that were decoded.
+/// Reads the places of a batch, behind those before it, by what was made of their payloads.
 fn read_batch(
     alloc: Global,
     batch: &Batch<'_>,
-    mut roots: Vec<Option<Root>>,
-    pos: RegionPos,
-    height: Height,
+    mut ahead: Vec<Option<Ahead>>,
     table: &mut StateTable,
     places: &mut Vec<Place>,
 ) -> Result<(), Fault>
-    requires limits { IsInLimits pos }
-    requires long { length roots.items ≡ 64 }
-    requires ahead { AreAhead batch.now roots.items }
-    ensures ok { OnOk result (GoesOn height (file_of pos batch.now.region.bytes.now) (states table.old) batch.now.first places.old.items (states table.new) (batch.now.first + 64) places.new.items) }
-    ensures err { IfErr result (λ e. e ≢ OutOfMemory → Stops height (file_of pos batch.now.region.bytes.now) (states table.old) batch.now.first places.old.items e) }
+    requires long { length ahead.items ≡ 64 }
+    requires ahead { AreAhead batch.now (states table.old) ahead.items }
+    ensures ok { OnOk result (GoesOn batch.now.height (file_of batch.now.pos batch.now.region.bytes.now) (states table.old) batch.now.first places.old.items (states table.new) (batch.now.first + 64) places.new.items) }
+    ensures err { IfErr result (λ e. e ≢ OutOfMemory → Stops batch.now.height (file_of batch.now.pos batch.now.region.bytes.now) (states table.old) batch.now.first places.old.items e) }
     ensures table { OnlyGrows (states table.old) (states table.new) }
 {
     for offset in 0..BATCH {
         let place = read_place_by(
             alloc,
             &batch.region,
-            roots[offset].take(),
-            pos,
+            ahead[offset].take(),
+            batch.pos,
             batch.first + offset,
-            height,
+            batch.height,
             table,
         )?;
         places.push(place)?;
@@ -55,8 +51,8 @@ fn read_batch(
     Ok(())
 }
 
-/// All places of a region, in the order of their indices. Only a batch is decoded before it is read: the documents of all
-/// would take much memory, and most of the work on a region that is refused early would be for nothing.
+/// All places of a region, in the order of their indices. Only a batch is read ahead, by the states that those before it left:
+/// the documents of all would take much memory, and most of the work on a region that is refused early would be for nothing.
 fn read_places_on(
     rt: &(impl Threads + Sync),
     alloc: Global,
@@ -74,10 +70,12 @@ fn read_places_on(
     for number in 0..1024 / BATCH {
         let batch = Batch {
             region: *region,
+            pos,
+            height,
             first: BATCH * number,
         };
-        let roots = roots_ahead(rt, alloc, &batch)?;
-        read_batch(alloc, &batch, roots, pos, height, table, &mut places)?;
+        let ahead = read_ahead(rt, alloc, &batch, table)?;
+        read_batch(alloc, &batch, ahead, table, &mut places)?;
     }
     Ok(places)
 }

@@ -1,5 +1,5 @@
 //! Small region files, read as a world and a rest.
-use crate::flat::{Block, Flat, Waiting, flat_region, push_chunk, push_pad, region};
+use crate::flat::{Block, Flat, Waiting, chunk, flat_region, push_chunk, push_pad, region};
 use crate::saves::{saved, saved_broken, saved_broken_on, saved_on};
 use av_image::{Rest, Slot, load, load_on};
 use av_rules::Rules;
@@ -188,6 +188,62 @@ fn the_first_fault_of_a_region(rt: HostRuntime) -> Result<(), Fail> {
         ];
         let files = kept_chunks(alloc, 66, others.as_slice())?;
         assert!(rt; read_on(&rt, alloc, files).err() == Some(fault));
+    }
+    Ok(())
+}
+
+/// The height of a chunk that has the section of y 48 to 63 alone.
+const ONE_SECTION: Height = Height {
+    min_section: 3,
+    sections: 1,
+};
+
+/// The least corner of the layer of stone of the chunk that begins at (x, z).
+fn corner(x: i32, z: i32) -> Pos {
+    Pos { x, y: 63, z }
+}
+
+/// The chunk of one section that has this block at the least corner of its layer of stone.
+fn small_chunk(alloc: Global, corner: Pos, block: Block) -> Result<Vec<u8>, AllocError> {
+    let flat = Flat {
+        height: ONE_SECTION,
+        blocks: &[(corner, block)],
+        entries: &[],
+    };
+    chunk(alloc, flat, corner.chunk())
+}
+
+/// The number of the state at a block whose y is from 48 to 63.
+fn number_at(world: &World, pos: Pos) -> Option<u16> {
+    let index = world.index_of(pos.chunk())?;
+    let section = world.chunk(index).sections.get(7)?.as_ref()?;
+    Some(section.get(pos.place()))
+}
+
+/// Of chunks that are read together, some have states that are known, and others one that is new. Stone is number 10, behind
+/// air and water, and glowstone, which only the second 64 places have, is 11.
+#[test]
+fn states_that_are_known_and_new(rt: HostRuntime) -> Result<(), Fail> {
+    let alloc = rt.alloc();
+    let chunks = [
+        (0, corner(0, 0), Block::Stone, 10),
+        (64, corner(0, 32), Block::Stone, 10),
+        (65, corner(16, 32), Block::Glowstone, 11),
+        (66, corner(32, 32), Block::Stone, 10),
+        (67, corner(48, 32), Block::Glowstone, 11),
+    ];
+    let mut payloads = Vec::new(alloc);
+    for (index, corner, block, _) in chunks {
+        payloads.push((index, small_chunk(alloc, corner, block)?))?;
+    }
+    let files = kept_chunks(alloc, 68, payloads.as_slice())?;
+    let rules = Rules::read(alloc, b"version = 1")?;
+    let mut table = StateTable::new(alloc)?;
+    let (world, _) = load_on(&rt, alloc, files, &rules, &mut table)?;
+    assert_eq!(rt; table.len(), 12);
+    assert_eq!(rt; world.positions().len(), 5);
+    for (_, corner, _, number) in chunks {
+        assert!(rt; number_at(&world, corner) == Some(number));
     }
     Ok(())
 }

@@ -9,8 +9,8 @@ use Rattle.av_image.proofs.regions_on.read_batch.Given as goal
 abbrev pub invariant-loop-offset : goal.invariant-loop-offset
 invariant-loop-offset l =
     record {
-      way : GoesOn l.height (file_of l.pos l.batch.region.bytes.now) (states l.fn.table) l.batch.first l.fn.places.items (states l.table) (l.batch.first + l.offset) l.places.items;
+      way : GoesOn l.batch.height (file_of l.batch.pos l.batch.region.bytes.now) (states l.fn.table) l.batch.first l.fn.places.items (states l.table) (l.batch.first + l.offset) l.places.items;
       grown : OnlyGrows (states l.fn.table) (states l.table);
-      long : length l.roots.items ≡ 64;
-      ahead : AreAhead l.batch l.roots.items;
+      long : length l.ahead.items ≡ 64;
+      ahead : AreAhead l.batch (states l.fn.table) l.ahead.items;
     }
