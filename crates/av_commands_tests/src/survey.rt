@@ -1,9 +1,11 @@
 //! What is found wrong with small region files.
+use crate::chunks::{Layer, add_chunk};
 use crate::expecting::expect_equal;
 use av_sink::RegionFile;
 use av_survey::survey;
 use av_types::{ChunkPos, Fault, Height, RegionPos};
 use std::alloc::{AllocError, Global};
+use std::process::Abort;
 use std::test::Fail;
 
 /// A region of two chunks: that at index 0 is compressed in another way, and that at index 33 has the length 0.
@@ -100,4 +102,96 @@ fn lists_that_are_refused(rt: HostRuntime) -> Result<(), Fail> {
         None,
     );
     Ok(())
+}
+
+/// Expects one fault of the file of a region, that of the chunk at (x, 0).
+fn expect_one(
+    rt: &impl Abort,
+    alloc: Global,
+    bytes: Vec<u8>,
+    x: i32,
+    fault: &Fault,
+) -> Result<(), Fail> {
+    let mut files = Vec::new(alloc);
+    files.push(RegionFile {
+        pos: RegionPos { x: 0, z: 0 },
+        bytes,
+    })?;
+    let found = survey(alloc, files, Height::game())?;
+    expect_equal(rt, found.len(), 1);
+    for finding in &found {
+        expect_equal(rt, finding.chunk, Some(ChunkPos { x, z: 0 }));
+        expect_equal(rt, &finding.fault, fault);
+    }
+    Ok(())
+}
+
+/// The second chunk has the states of the first, and then a section of two states whose indices are missing. The third has
+/// the states of both. 16 states have 4 bits each, so their indices are 256 longs.
+#[test]
+fn a_fault_behind_known_states(rt: HostRuntime) -> Result<(), Fail> {
+    let alloc = rt.alloc();
+    let known = Layer {
+        letter: b'k',
+        states: 16,
+        longs: 256,
+    };
+    let bare = Layer {
+        letter: b'm',
+        states: 2,
+        longs: 0,
+    };
+    let more = Layer {
+        letter: b'm',
+        states: 16,
+        longs: 256,
+    };
+    let mut bytes = Vec::new(alloc);
+    add_chunk(alloc, &mut bytes, 0, &[known])?;
+    add_chunk(alloc, &mut bytes, 1, &[known, bare])?;
+    add_chunk(alloc, &mut bytes, 2, &[known, more])?;
+    expect_one(&rt, alloc, bytes, 1, &Fault::BadPacked)
+}
+
+/// So many sections of 4,096 states each, with letters from `a` on. 4,096 states have 12 bits each, five to a long, so
+/// their indices are 820 longs.
+fn sections_of_many(alloc: Global, count: u8) -> Result<Vec<Layer>, AllocError> {
+    let mut layers = Vec::new(alloc);
+    for section in 0..count {
+        layers.push(Layer {
+            letter: b'a'.wrapping_add(section),
+            states: 4096,
+            longs: 820,
+        })?;
+    }
+    Ok(layers)
+}
+
+/// A table has 65,535 states at most, of which ten are there from the start. The first chunk has 1,000 and the second
+/// 65,040 others: together these are too many, and each alone they are not. The third has 65,536. 1,000 states have 10 bits
+/// each, six to a long, so their indices are 683 longs.
+#[test]
+fn states_that_are_too_many_together(rt: HostRuntime) -> Result<(), Fail> {
+    let alloc = rt.alloc();
+    let few = Layer {
+        letter: b'z',
+        states: 1000,
+        longs: 683,
+    };
+    let mut many = sections_of_many(alloc, 15)?;
+    many.push(Layer {
+        letter: b'y',
+        states: 3600,
+        longs: 820,
+    })?;
+    let mut bytes = Vec::new(alloc);
+    add_chunk(alloc, &mut bytes, 0, &[few])?;
+    add_chunk(alloc, &mut bytes, 1, many.as_slice())?;
+    add_chunk(
+        alloc,
+        &mut bytes,
+        2,
+        sections_of_many(alloc, 16)?.as_slice(),
+    )?;
+    expect_one(&rt, alloc, bytes, 2, &Fault::TooManyStates)
 }

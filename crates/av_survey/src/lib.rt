@@ -4,6 +4,7 @@
 pub mod finding;
 mod listing;
 mod places;
+mod shared;
 pub mod surveying;
 
 pub use finding::Finding;
