@@ -4,7 +4,6 @@
 pub mod finding;
 mod listing;
 mod places;
-mod shared;
 pub mod surveying;
 
 pub use finding::Finding;

@@ -9,7 +9,6 @@ ghost use Rattle.av_survey.specs.Survey.{FindsInAll, FindsInFile, FindsUpTo, IsS
 use crate::finding::Finding;
 use crate::listing::judged;
 use crate::places::fault_at;
-use crate::shared::SharedTable;
 use av_region::Region;
 use av_sink::RegionFile;
 use av_types::{Fault, Height, RegionPos};
@@ -26,9 +25,8 @@ fn survey_places(
     ensures { IfOk result (λ found. FindsUpTo height pos region.now.bytes.now 1024 found.items) }
 {
     let mut found = Vec::new(alloc);
-    let mut shared = SharedTable::new(alloc)?;
     for index in 0..1024 {
-        let fault = fault_at(alloc, region, pos, index, height, &mut shared)?;
+        let fault = fault_at(alloc, region, pos, index, height)?;
         Finding::note(&mut found, pos, pos.chunk_at(index), fault)?;
     }
     Ok(found)
