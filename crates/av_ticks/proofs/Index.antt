@@ -16,7 +16,7 @@ use Rattle.av_types.proofs.SamePlaces.{same_pos_is}
 use Rattle.av_ticks.specs.Entries.{same_pos, is_pending, are_apart, is_due}
 use Rattle.av_ticks.specs.Keys.{timed, is_at, is_after, if_after, IsIndexOf}
 use Rattle.av_ticks.proofs.Kept.{not_pending_kept}
-use Rattle.av_ticks.proofs.Lookup.{apart_before, map-push, same_pos_symm}
+use Rattle.av_ticks.proofs.Lookup.{apart_before, map-push}
 
 abbrev pub Key : Type 0
 Key = ℤ × ℤ × ℤ
@@ -141,42 +141,3 @@ lookup_later now p ts distinct = lookup-filter-values key_laws (is_after now) (p
 pub index-later : (now : ℕ) (ts new : List Timed) (es : List Entry) → are_apart es ≡ true → IsIndexOf ts es → ((p : Pos) → lookup (is_at p) new ≡ if_after (pos now) (lookup (is_at p) ts))
     → IsIndexOf new (filter (λ e. not (is_due now e)) es)
 index-later now ts new es apart index later = λ p. later p ∙ (ap (if_after (pos now)) (index p) ∙ sym (timed_later now p es apart))
-
--- where each due entry's time goes, those after the tick stay
-pub due_gone : (now : ℕ) (p : Pos) (es : List Entry) → are_apart es ≡ true
-    → cond (is_pending p (filter (is_due now) es)) None (lookup (is_at p) (map timed es)) ≡ if_after (pos now) (lookup (is_at p) (map timed es))
-due_gone now p [] apart = refl
-due_gone now p (e ∷ es) apart = by (is_pending e.pos es) refl (same_pos p e.pos) refl (int_le e.due (pos now)) refl (λ a. due_gone now p es a) where
-  due : List Entry → List Entry
-  due l = filter (is_due now) l
-
-  by : (n : Bool) → is_pending e.pos es ≡ n → (b : Bool) → same_pos p e.pos ≡ b → (c : Bool) → int_le e.due (pos now) ≡ c
-      → (are_apart es ≡ true → cond (is_pending p (due es)) None (lookup (is_at p) (map timed es)) ≡ if_after (pos now) (lookup (is_at p) (map timed es)))
-      → cond (is_pending p (due (e ∷ es))) None (lookup (is_at p) (map timed (e ∷ es))) ≡ if_after (pos now) (lookup (is_at p) (map timed (e ∷ es)))
-  by true n b s c d rest = absurd (true≢false (sym (rw n at apart)))
-  by false n true s true d rest = rw (d, s) (rw d refl)
-  by false n true s false d rest =
-      let gone : is_pending p (due es) ≡ false = subst (λ q. is_pending q (due es) ≡ false) (sym (same_pos_is p e.pos s)) (not_pending_kept (is_due now) e.pos es n) in
-      rw (d, s) (rw (d, gone) refl)
-  by false n false s true d rest = rw (d, s) (rest (rw n at apart))
-  by false n false s false d rest = rw (d, s) (rest (rw n at apart))
-
--- an index without the times of the due entries
-pub index_gone : (now : ℕ) (ts new : List Timed) (es few : List Entry) → are_apart es ≡ true → IsIndexOf ts es → few ≡ filter (is_due now) es
-    → ((p : Pos) → lookup (is_at p) new ≡ cond (is_pending p few) None (lookup (is_at p) ts)) → (p : Pos) → lookup (is_at p) new ≡ if_after (pos now) (lookup (is_at p) ts)
-index_gone now ts new es few apart index are gone p =
-    gone p ∙ (ap (λ l. cond (is_pending p l) None (lookup (is_at p) ts)) are
-    ∙ (ap (cond (is_pending p (filter (is_due now) es)) None) (index p) ∙ (due_gone now p es apart ∙ ap (if_after (pos now)) (sym (index p)))))
-
--- one time more that goes
-pub gone_more : (p : Pos) (e : Entry) (rest : List Entry) (o n : Option ℤ) → n ≡ cond (same_pos p e.pos) None o → cond (is_pending p rest) None n ≡ cond (is_pending p (e ∷ rest)) None o
-gone_more p e rest o n is = ap (cond (is_pending p rest) None) is ∙ by (same_pos p e.pos) (is_pending p rest) where
-  by : (b c : Bool) → cond c None (cond b None o) ≡ cond (cond b true c) None o
-  by true true = refl
-  by true false = refl
-  by false c = refl
-
--- where the time of a key goes, those of other positions stay
-pub key_gone : (at : Pos) (old new : List Timed) → ((q : Key) → lookup (same_key q) new ≡ cond (same_key (at.x, at.y, at.z) q) None (lookup (same_key q) old))
-    → (p : Pos) → lookup (is_at p) new ≡ cond (same_pos p at) None (lookup (is_at p) old)
-key_gone at old new gone p = gone (p.x, p.y, p.z) ∙ ap (λ b. cond b None (lookup (is_at p) old)) (same_pos_symm at p)

@@ -4,4 +4,3 @@ pub mod Kept
 pub mod Least
 pub mod Lookup
 pub mod OrderLemmas
-pub mod Pass

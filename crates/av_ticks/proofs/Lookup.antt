@@ -5,7 +5,7 @@ use Rattle.av_types.specs.declared.place.Pos.{Pos}
 use Rattle.av_types.specs.declared.tick.Entry.{Entry}
 use Rattle.av_ticks.specs.Entries.{same_pos, is_pending, are_apart}
 
-pub same_pos_symm : (p q : Pos) → same_pos p q ≡ same_pos q p
+same_pos_symm : (p q : Pos) → same_pos p q ≡ same_pos q p
 same_pos_symm p q = rw (int_eq_equiv.symm p.x q.x, int_eq_equiv.symm p.y q.y, int_eq_equiv.symm p.z q.z)
 
 is_pending-push : (p : Pos) (es : List Entry) (e : Entry) → is_pending p es ≡ false → same_pos p e.pos ≡ false → is_pending p (es ++ e ∷ []) ≡ false

@@ -1,7 +1,6 @@
 //! Lists of scheduled water ticks (<https://minecraft.wiki/w/Tick#Scheduled_tick>).
 #![tactic(auto)]
 
-mod dropped;
 pub mod laws;
 pub mod list;
 pub mod merge;

@@ -41,6 +41,17 @@ fn sooner(one: i64, other: i64) -> i64
     if one <= other { one } else { other }
 }
 
+/// The least time of some entries, and the greatest of all times where there is none.
+fn soonest_of(entries: &[Entry]) -> i64
+    ensures { result ≡ least_due entries.now }
+{
+    let mut soonest = i64::MAX;
+    for entry in entries {
+        soonest = sooner(soonest, entry.due);
+    }
+    soonest
+}
+
 /// The entries that are due in a tick or before it, in the order in which they stand.
 fn find_due(alloc: Global, entries: &[Entry], now: u32) -> Result<Vec<Entry>, AllocError>
     ensures { IfOk result (λ due. due.items ≡ filter (is_due now) entries.now) }
@@ -201,6 +212,7 @@ impl TickList {
         ensures entries { entries self.new ≡ filter (λ e. not (is_due now e)) (entries self.old) }
         ensures room { room self.old ≤ room self.new }
     {
-        self.soonest = self.store.drop_due(now);
+        self.store.drop_due(now);
+        self.soonest = soonest_of(self.store.as_slice());
     }
 }

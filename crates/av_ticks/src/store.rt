@@ -1,15 +1,12 @@
 //! Entries in order, with an index of their positions where they are many and are looked up.
-ghost use Rattle.std.specs.Prelude.{ℕ, pos, int_le, ◌≡◌, ◌<◌, ◌≤◌, ◌+◌, ◌-◌, ◌^◌, [], ◌∷◌, ◌++◌, List, length, take, map, filter, not, false, true, None, IsOk, IfOk, OnOk, OnErr, is_ok, if◌then◌else◌, vec_capacity, vec_len};
+ghost use Rattle.std.specs.Prelude.{ℕ, pos, int_le, ◌≡◌, ◌<◌, ◌≤◌, ◌+◌, ◌-◌, ◌^◌, [], ◌∷◌, ◌++◌, length, take, map, filter, not, false, true, None, IsOk, IfOk, OnOk, OnErr, is_ok, if◌then◌else◌, vec_capacity, vec_len};
 ghost use Rattle.std.specs.List.{list_all};
 ghost use Rattle.std.specs.Map.{lookup};
 ghost use Rattle.indexmap.specs.IndexMap.{spare};
 ghost use Rattle.av_types.specs.declared.place.Pos.{Pos};
-ghost use Rattle.av_types.specs.declared.tick.Entry.{Entry};
-ghost use Rattle.av_ticks.specs.Dropped.{IsNoted};
-ghost use Rattle.av_ticks.specs.Entries.{are_apart, is_due, is_pending, least_due, same_pos};
+ghost use Rattle.av_ticks.specs.Entries.{are_apart, is_due, is_pending, same_pos};
 ghost use Rattle.av_ticks.specs.Keys.{timed, is_at, is_after, if_after, IsIndexOf};
 
-use crate::dropped::{Gone, drop_entries};
 use av_types::{Entry, Pos};
 use indexmap::IndexMap;
 use std::alloc::{AllocError, Global};
@@ -104,24 +101,18 @@ fn reserve_entries(entries: &mut Vec<Entry>, additional: usize) -> Result<(), Al
     Ok(())
 }
 
-/// Lets the time of a position go, found by its key.
-fn drop_key(times: &mut Times, pos: Pos)
-    ensures times { (p : Pos) → lookup (is_at p) times.new.entries ≡ (if same_pos p pos then None else lookup (is_at p) times.old.entries) }
-    ensures room { spare times.old ≤ spare times.new }
+/// Lets the entries go that are due.
+fn drop_entries(entries: &mut Vec<Entry>, now: u32)
+    ensures entries { entries.new.items ≡ filter (λ e. not (is_due now e)) entries.old.items }
+    ensures fewer { vec_len entries.new ≤ vec_len entries.old }
+    ensures room { vec_capacity entries.old - vec_len entries.old ≤ vec_capacity entries.new - vec_len entries.new }
 {
-    let _due = times.swap_remove(&key(pos));
-}
-
-/// Lets the times of a few entries go, with no pass over the others. Answers how many places do not come free.
-fn drop_each(times: &mut Times, few: &[Entry]) -> usize
-    ensures times { (p : Pos) → lookup (is_at p) times.new.entries ≡ (if is_pending p few.now then None else lookup (is_at p) times.old.entries) }
-    ensures room { spare times.old ≤ spare times.new }
-{
-    let capacity = times.capacity();
-    for entry in few {
-        drop_key(times, entry.pos);
-    }
-    capacity.saturating_sub(times.capacity())
+    let now = i64::from(now);
+    entries.retain(
+        |entry: &Entry| -> bool
+            ensures { result ≡ not (int_le entry.now.due now) }
+        { entry.due > now },
+    );
 }
 
 /// Lets the time at a place go if it is due, and the last one come there. Answers the place at which to go on.
@@ -153,17 +144,6 @@ fn drop_few(times: &mut Times, now: u32) -> usize
         place = drop_at(times, place, now);
     }
     capacity.saturating_sub(times.capacity())
-}
-
-/// Lets the times go that are due, where a pass has noted the entries that are. Answers how many places do not come free.
-fn drop_known(times: &mut Times, gone: &Gone, now: u32) -> usize
-    ensures times { (es : List Entry) → are_apart es ≡ true → IsIndexOf times.old.entries es → IsNoted gone.now (filter (is_due now) es) → (p : Pos) → lookup (is_at p) times.new.entries ≡ if_after (pos now) (lookup (is_at p) times.old.entries) }
-    ensures room { spare times.old ≤ spare times.new }
-{
-    match gone.few() {
-        Some(few) => drop_each(times, few),
-        None => drop_few(times, now),
-    }
 }
 
 /// Lets the times go that are due, and makes the index anew, so that all their places come free.
@@ -313,27 +293,25 @@ impl Store {
         self.add_indexed(entry)
     }
 
-    /// Lets the entries go that are due in tick `now` or before it. Answers the least time of the others, and the
-    /// greatest of all times where there is none.
-    pub(crate) fn drop_due(&mut self, now: u32) -> i64
+    /// Lets the entries go that are due in tick `now` or before it.
+    pub(crate) fn drop_due(&mut self, now: u32)
         requires apart { are_apart (stored self.old) ≡ true }
         ensures entries { stored self.new ≡ filter (λ e. not (is_due now e)) (stored self.old) }
-        ensures least { result ≡ least_due (stored self.new) }
         ensures room { spare_in self.old ≤ spare_in self.new }
     {
-        let dropped = drop_entries(&mut self.entries, now);
+        let len = self.entries.len();
+        drop_entries(&mut self.entries, now);
         if !self.is_indexed {
-            return dropped.soonest;
+            return;
         }
-        // Where few leave, each leaves the index in one step, and very few with no pass over it. To make it anew takes a
-        // step for each that stays.
-        if self.lost.saturating_add(dropped.gone.count) <= self.entries.len() / LOST_ONE_IN {
-            let lost = drop_known(&mut self.times, &dropped.gone, now);
+        let gone = len - self.entries.len();
+        // Where few leave, each leaves the index in one step. To make it anew takes a step for each that stays.
+        if self.lost.saturating_add(gone) <= self.entries.len() / LOST_ONE_IN {
+            let lost = drop_few(&mut self.times, now);
             self.lost = self.lost.saturating_add(lost);
         } else {
             drop_many(&mut self.times, now);
             self.lost = 0;
         }
-        dropped.soonest
     }
 }
