@@ -247,7 +247,8 @@ impl Flood {
         self.count += 1;
     }
 
-    /// Gives a block of the board its light, once. No other call does.
+    /// Gives a block of the board its light, once, as `settle_at` does where it is known where the byte stands. No other
+    /// call does.
     pub fn settle(&mut self, pos: Pos, level: u8)
         requires on { IsTrue (is_on self.old.chunk self.old.height pos) }
         requires unsettled { is_settled self.old pos ≡ false }
