@@ -1,8 +1,6 @@
 //! Regions by hand.
-ghost use Rattle.std.specs.Prelude.{◌≤◌};
-
 use crate::expecting::expect_equal;
-use av_region::{Region, RegionWriter, write, written_holds};
+use av_region::{Region, write, written_holds};
 use av_types::{ChunkPos, Fault, RegionPos};
 use std::alloc::Global;
 use std::test::Fail;
@@ -192,77 +190,6 @@ fn two_chunks_of_256_sectors(rt: HostRuntime) -> Result<(), Fail> {
     let fault = write(rt.alloc(), REGION, &payloads, &[0; 1024]).err();
     // the chunk at index 33 is 1 to the east and 1 to the south of the region's first
     let named = ChunkPos { x: -31, z: 65 };
-    expect_equal(&rt, fault, Some(Fault::ChunkTooLarge(named)));
-    Ok(())
-}
-
-/// A region written in two batches, the second of which begins at that index.
-fn written_in_two(
-    alloc: Global,
-    payloads: &[Option<&[u8]>; 1024],
-    second: usize,
-    stamps: &[u32; 1024],
-) -> Result<Vec<u8>, Fault>
-    requires { second ≤ 1024 }
-{
-    let mut writer = RegionWriter::new(alloc, REGION)?;
-    writer.append(&payloads[..second])?;
-    writer.append(&payloads[second..])?;
-    writer.finish(stamps)
-}
-
-#[test]
-fn two_batches(rt: HostRuntime) -> Result<(), Fail> {
-    let two_sectors = vec![in rt.alloc(); 7u8; 4092]?;
-    let whole_sector = vec![in rt.alloc(); 8u8; 4091]?;
-    let mut payloads: [Option<&[u8]>; 1024] = [None; 1024];
-    payloads[0] = Some(&[5]);
-    payloads[33] = Some(two_sectors.as_slice());
-    payloads[700] = Some(&[6]);
-    payloads[1023] = Some(whole_sector.as_slice());
-    let mut stamps = [0; 1024];
-    stamps[1] = 0x0102_0304;
-    stamps[1023] = 9;
-    let file = written_in_two(rt.alloc(), &payloads, 700, &stamps)?;
-
-    // the chunks have the sectors 2, 3 and 4, 5, and 6
-    let mut locations = [0u8; 4096];
-    locations[2] = 2;
-    locations[3] = 1;
-    locations[134] = 3;
-    locations[135] = 2;
-    locations[2802] = 5;
-    locations[2803] = 1;
-    locations[4094] = 6;
-    locations[4095] = 1;
-    expect_equal(&rt, file.len(), 28672);
-    expect_equal(&rt, file.get(..4096), Some(locations.as_slice()));
-    for (at, want) in [
-        (4096u16, [0, 0, 0, 0, 1, 2, 3, 4]),
-        (8184, [0, 0, 0, 0, 0, 0, 0, 9]),
-        (8192, [0, 0, 0, 2, 3, 5, 0, 0]),
-        (12288, [0, 0, 15, 253, 3, 7, 7, 7]),
-        (20480, [0, 0, 0, 2, 3, 6, 0, 0]),
-        (24576, [0, 0, 15, 252, 3, 8, 8, 8]),
-        (28664, [8, 8, 8, 8, 8, 8, 8, 8]),
-    ] {
-        let at = usize::from(at);
-        expect_equal(&rt, file.get(at..at + 8), Some(want.as_slice()));
-    }
-    let model = write(rt.alloc(), REGION, &payloads, &stamps)?;
-    expect_equal(&rt, file.as_slice(), model.as_slice());
-    Ok(())
-}
-
-/// A chunk of the second batch is named by its place in the region.
-#[test]
-fn second_batch_with_256_sectors(rt: HostRuntime) -> Result<(), Fail> {
-    let payload = vec![in rt.alloc(); 0u8; 1_044_476]?;
-    let mut payloads: [Option<&[u8]>; 1024] = [None; 1024];
-    payloads[40] = Some(payload.as_slice());
-    let fault = written_in_two(rt.alloc(), &payloads, 33, &[0; 1024]).err();
-    // the chunk at index 40 is 8 to the east and 1 to the south of the region's first
-    let named = ChunkPos { x: -24, z: 65 };
     expect_equal(&rt, fault, Some(Fault::ChunkTooLarge(named)));
     Ok(())
 }

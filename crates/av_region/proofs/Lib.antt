@@ -3,4 +3,3 @@ pub mod Positions
 pub mod Steps
 pub mod Written
 pub mod Law
-pub mod Batches

@@ -1,8 +1,8 @@
 -- The first element that passes, of a list that a function makes of another.
-use Rattle.std.proofs.Common.{◌≡◌, ◌∙◌, ℕ, ◌+◌, ◌-◌, ◌<◌, ◌≤◌, Bool, true, false, not, cond, List, [], ◌∷◌, ◌++◌, length, length-append, map, nat_lt, get_or, Some, None, refl, sym, ap, arith, below_more, inl, inr}
+use Rattle.std.proofs.Common.{◌≡◌, ◌∙◌, ℕ, ◌+◌, ◌<◌, ◌≤◌, Bool, true, false, not, cond, List, [], ◌∷◌, length, map, nat_lt, get_or, Some, None, refl, sym, ap, arith, below_more, inl, inr}
 use Rattle.std.specs.List.{prefix_len, position_or_len, position}
 use Rattle.std.proofs.lemmas.Bool.{lt-ltb, le-ltb, cases_lt}
-use Rattle.std.proofs.lemmas.List.{length-map, get_or_default, get_or_append_left, get_or-append_right}
+use Rattle.std.proofs.lemmas.List.{length-map, get_or_default}
 use Rattle.std.proofs.lemmas.List.Sums.{position_or_len_is, fails_before_first}
 
 prefix_len-map : {X Y : Type 0} (p : Y → Bool) (f : X → Y) (xs : List X) → prefix_len p (map f xs) ≡ prefix_len (λ x. p (f x)) xs
@@ -54,14 +54,3 @@ none_passes q xs i d none lt = elim (cases_lt (position_or_len q xs) (length xs)
 
 pub fails_everywhere : {X Y : Type 0} (p : Y → Bool) (f : X → Y) (xs : List X) (i : ℕ) (x : X) → position p (map f xs) ≡ None → i < length xs → x ≡ get_or xs i x → p (f x) ≡ false
 fails_everywhere p f xs i x none lt e = ap (λ y. p (f y)) e ∙ none_passes (λ y. p (f y)) xs i x (sym (position-map p f xs) ∙ none) lt
-
-both_fail : {X : Type 0} (q : X → Bool) (xs ys : List X) (k : ℕ) (d : X) → position q xs ≡ None → position q ys ≡ None → k < length (xs ++ ys) → q (get_or (xs ++ ys) k d) ≡ false
-both_fail q xs ys k d none more lt = elim (cases_lt k (length xs)) [
-  | inl below ↦ ap q (get_or_append_left xs ys d k below) ∙ none_passes q xs k d none below
-  | inr above ↦ ap q (get_or-append_right xs ys (length xs) k d refl above) ∙ none_passes q ys (k - length xs) d more (omega (arith, length-append xs ys))
-]
-
--- where none passes of one list and none of another
-pub none_of_both : {X : Type 0} (q : X → Bool) (xs ys : List X) → position q xs ≡ None → position q ys ≡ None → position q (xs ++ ys) ≡ None
-none_of_both q xs ys none more =
-    sym (found_none q (λ x. x) (xs ++ ys) (length (xs ++ ys)) (record { fails = λ k d lt. both_fail q xs ys k d none more lt }) (omega arith) ∙ position-map q (λ x. x) (xs ++ ys))

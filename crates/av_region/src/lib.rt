@@ -5,10 +5,8 @@
 pub mod laws;
 mod layout;
 pub mod reading;
-pub mod writer;
 pub mod writing;
 
 pub use laws::written_holds;
 pub use reading::Region;
-pub use writer::RegionWriter;
 pub use writing::write;

@@ -12,7 +12,7 @@ use std::alloc::{AllocError, Global};
 use std::convert::AsSlice;
 
 /// The sector after the header, where the first chunk stands.
-pub(crate) const FIRST_SECTOR: u32 = 2;
+const FIRST_SECTOR: u32 = 2;
 
 /// The greatest number that a chunk's length field can have in 255 sectors, which is as many as a
 /// location can count.
@@ -29,7 +29,7 @@ fn is_too_large<P: AsSlice<u8>>(payload: &Option<P>) -> bool
 }
 
 /// The first index at which a payload is too large.
-pub(crate) fn first_too_large<P: AsSlice<u8>>(payloads: &[Option<P>]) -> Option<usize>
+fn first_too_large<P: AsSlice<u8>>(payloads: &[Option<P>]) -> Option<usize>
     ensures { result ≡ first_too_large (map (option_map P.items) payloads.now) }
 {
     for (index, payload) in payloads.iter().enumerate() {
@@ -66,7 +66,7 @@ fn location_for<P: AsSlice<u8>>(sector: u32, payload: &Option<P>) -> u32
 }
 
 /// How many sectors all chunks fill.
-pub(crate) fn total_sectors<P: AsSlice<u8>>(payloads: &[Option<P>]) -> u32
+fn total_sectors<P: AsSlice<u8>>(payloads: &[Option<P>]) -> u32
     requires small { first_too_large (map (option_map P.items) payloads.now) ≡ None }
     requires count { length payloads.now ≤ 1024 }
     ensures value { result ≡ sum_by sectors_for (map (option_map P.items) payloads.now) }
@@ -79,16 +79,16 @@ pub(crate) fn total_sectors<P: AsSlice<u8>>(payloads: &[Option<P>]) -> u32
     sectors
 }
 
-/// Appends the locations of chunks, the first of which begins at a sector.
-pub(crate) fn write_locations<P: AsSlice<u8>>(
+/// Appends the header's locations.
+fn write_locations<P: AsSlice<u8>>(
     file: &mut Vec<u8>,
-    mut sector: u32,
     payloads: &[Option<P>],
 ) -> Result<(), AllocError>
     requires small { first_too_large (map (option_map P.items) payloads.now) ≡ None }
-    requires sectors { sector + 255 * length payloads.now ≤ 2 + 255 * 1024 }
-    ensures { OnOk result (file.new.items ≡ file.old.items ++ locations_from sector (map (option_map P.items) payloads.now)) }
+    requires count { length payloads.now ≤ 1024 }
+    ensures { OnOk result (file.new.items ≡ file.old.items ++ locations_from 2 (map (option_map P.items) payloads.now)) }
 {
+    let mut sector = FIRST_SECTOR;
     for payload in payloads {
         let location = location_for(sector, payload);
         file.extend_from_slice(&location.to_be_bytes())?;
@@ -98,7 +98,7 @@ pub(crate) fn write_locations<P: AsSlice<u8>>(
 }
 
 /// Appends the header's timestamps.
-pub(crate) fn write_stamps(file: &mut Vec<u8>, stamps: &[u32]) -> Result<(), AllocError>
+fn write_stamps(file: &mut Vec<u8>, stamps: &[u32]) -> Result<(), AllocError>
     ensures { OnOk result (file.new.items ≡ file.old.items ++ flat_map (to_be_bytes w32) stamps.now) }
 {
     for stamp in stamps {
@@ -110,8 +110,7 @@ pub(crate) fn write_stamps(file: &mut Vec<u8>, stamps: &[u32]) -> Result<(), All
 /// Appends a chunk: its length field, its type, the payload and zeros to whole sectors.
 fn write_chunk<P: AsSlice<u8>>(file: &mut Vec<u8>, chunk: &Option<P>) -> Result<(), AllocError>
     requires { is_too_large (option_map P.items chunk.now) ≡ false }
-    ensures bytes { OnOk result (file.new.items ≡ file.old.items ++ chunk_bytes (option_map P.items chunk.now)) }
-    ensures longer { length file.old.items ≤ length file.new.items }
+    ensures { OnOk result (file.new.items ≡ file.old.items ++ chunk_bytes (option_map P.items chunk.now)) }
 {
     let Some(payload) = chunk else {
         return Ok(());
@@ -127,13 +126,12 @@ fn write_chunk<P: AsSlice<u8>>(file: &mut Vec<u8>, chunk: &Option<P>) -> Result<
 }
 
 /// Appends all chunks.
-pub(crate) fn write_chunks<P: AsSlice<u8>>(
+fn write_chunks<P: AsSlice<u8>>(
     file: &mut Vec<u8>,
     payloads: &[Option<P>],
 ) -> Result<(), AllocError>
     requires { first_too_large (map (option_map P.items) payloads.now) ≡ None }
-    ensures bytes { OnOk result (file.new.items ≡ file.old.items ++ flat_map chunk_bytes (map (option_map P.items) payloads.now)) }
-    ensures longer { length file.old.items ≤ length file.new.items }
+    ensures { OnOk result (file.new.items ≡ file.old.items ++ flat_map chunk_bytes (map (option_map P.items) payloads.now)) }
 {
     for payload in payloads {
         write_chunk(file, payload)?;
@@ -166,7 +164,7 @@ pub fn write<P: AsSlice<u8>>(
     }
     let size = HEADER + SECTOR * total_sectors(payloads) as usize;
     let mut file = Vec::with_capacity(alloc, size)?;
-    write_locations(&mut file, FIRST_SECTOR, payloads)?;
+    write_locations(&mut file, payloads)?;
     write_stamps(&mut file, stamps)?;
     write_chunks(&mut file, payloads)?;
     Ok(file)

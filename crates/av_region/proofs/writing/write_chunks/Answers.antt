@@ -7,7 +7,7 @@ use Rattle.av_region.proofs.writing.write_chunks.Goals as goal
 pub write_chunk-requires : goal.write_chunk-requires
 write_chunk-requires g c = fails_everywhere _ _ c.args.payloads.now c.loop-payload.payload-index c.payload-item.result c.requires (omega arith) c.payload-item.is
 
-pub returns-clause-bytes : goal.returns-clause-bytes
-returns-clause-bytes g c =
-    pieces_end (λ payload. chunk_bytes (option_map g.P.AsSlice.items payload)) c.args.payloads.now c.loop-payload.payload-index _ _ (omega arith) c.loop-payload.invariant.written
+pub returns : goal.returns
+returns g c =
+    pieces_end (λ payload. chunk_bytes (option_map g.P.AsSlice.items payload)) c.args.payloads.now c.loop-payload.payload-index _ _ (omega arith) c.loop-payload.invariant
     ∙ ap (λ bytes. c.args.file.now.items ++ bytes) (sym (flat_map-map chunk_bytes (option_map g.P.AsSlice.items) c.args.payloads.now))
