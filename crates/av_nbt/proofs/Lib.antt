@@ -12,3 +12,4 @@ pub mod Views
 pub mod Names
 pub mod Slots
 pub mod Each
+mod Sizes

@@ -9,4 +9,5 @@ pub mod Shape
 pub mod Outcome
 pub mod Reading
 pub mod Appending
+pub mod Size
 pub mod Order

@@ -1,9 +1,18 @@
-//! How many bytes a document takes: room asked for, of which no contract speaks.
+//! How many bytes are written of a document: the room that is asked for before it is written. A number above the greatest
+//! `usize` counts as that.
+ghost use Rattle.std.specs.Prelude.{◌≡◌, ◌*◌, length};
+ghost use Rattle.av_nbt.specs.Nbt.{items_of, members_of};
+ghost use Rattle.av_nbt.specs.View.{document, view, views, named_view, named_views};
+ghost use Rattle.av_nbt.specs.Writing.{written, written_items, written_members, written_named, written_document};
+ghost use Rattle.av_nbt.specs.Size.{capped};
+
 use crate::tag::{Named, Root, Tag};
 
 /// The bytes of the tags of a List.
 #[cycle(sizing)]
-fn items_size(items: &[Tag]) -> usize {
+fn items_size(items: &[Tag]) -> usize
+    ensures { result ≡ capped (length (written_items (items_of (views items.now)))) }
+{
     let mut size: usize = 0;
     for item in items {
         size = size.saturating_add(tag_size(item));
@@ -13,7 +22,9 @@ fn items_size(items: &[Tag]) -> usize {
 
 /// The bytes of a tag with its type and its name.
 #[cycle(sizing)]
-fn named_size(named: &Named) -> usize {
+fn named_size(named: &Named) -> usize
+    ensures { result ≡ capped (length (written_named (named_view named.now))) }
+{
     tag_size(&named.tag)
         .saturating_add(named.name.len())
         .saturating_add(3)
@@ -21,17 +32,21 @@ fn named_size(named: &Named) -> usize {
 
 /// The bytes of the tags of a Compound, and of its end.
 #[cycle(sizing)]
-fn members_size(members: &[Named]) -> usize {
-    let mut size: usize = 1;
+fn members_size(members: &[Named]) -> usize
+    ensures { result ≡ capped (length (written_members (members_of (named_views members.now)))) }
+{
+    let mut size: usize = 0;
     for named in members {
         size = size.saturating_add(named_size(named));
     }
-    size
+    size.saturating_add(1)
 }
 
 /// The bytes of a tag.
 #[cycle(sizing)]
-fn tag_size(tag: &Tag) -> usize {
+fn tag_size(tag: &Tag) -> usize
+    ensures { result ≡ capped (length (written (view tag.now))) }
+{
     match tag {
         Tag::Byte(_) => 1,
         Tag::Short(_) => 2,
@@ -47,7 +62,9 @@ fn tag_size(tag: &Tag) -> usize {
 }
 
 /// The bytes of a document.
-pub(crate) fn root_size(root: &Root) -> usize {
+pub(crate) fn root_size(root: &Root) -> usize
+    ensures { result ≡ capped (length (written_document (document root.now))) }
+{
     members_size(root.tags.as_slice())
         .saturating_add(root.name.len())
         .saturating_add(3)
