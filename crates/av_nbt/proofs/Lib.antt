@@ -12,4 +12,5 @@ pub mod Views
 pub mod Names
 pub mod Slots
 pub mod Each
+mod Fewest
 mod Sizes

@@ -10,4 +10,5 @@ pub mod Outcome
 pub mod Reading
 pub mod Appending
 pub mod Size
+pub mod Room
 pub mod Order

@@ -6,6 +6,7 @@ mod distinct;
 mod fields;
 pub mod members;
 pub mod reader;
+mod room;
 mod size;
 pub mod tag;
 pub mod writer;

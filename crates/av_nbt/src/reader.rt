@@ -8,15 +8,13 @@ ghost use Rattle.av_nbt.specs.Reading.{Gives, leaf_at, list_at, named_at, compou
 
 use crate::distinct::are_distinct;
 use crate::fields;
+use crate::room::with_room;
 use crate::tag::{Named, Root, Tag, TagType};
 use av_types::Fault;
 use std::alloc::Global;
 
 /// How deep Lists and Compounds may nest, the root's own Compound among them.
 const DEPTH: u32 = 512;
-
-/// For how many tags of a List memory is asked before the first is read.
-const ROOM: usize = 64;
 
 /// A tag of a type that holds no tags.
 #[tactic(auto, unfolding(crate::specs::Reading::leaf_at))]
@@ -79,8 +77,8 @@ fn items(
 ) -> Result<(Vec<Tag>, &[u8]), Fault>
     ensures { Gives (λ p. (views p.0.items, p.1.now)) result (repeat_at (payload_at depth tag_type) count bytes.now) }
 {
-    // most Lists are short: their memory is asked for once, and no count in a file asks for much
-    let mut items = Vec::with_capacity(alloc, count.min(ROOM))?;
+    let nesting = DEPTH.saturating_sub(depth);
+    let mut items = with_room(alloc, tag_type, count, bytes.len(), nesting)?;
     let mut rest = bytes;
     for _ in 0..count {
         let (tag, after) = payload(alloc, depth, tag_type, rest)?;
