@@ -18,15 +18,11 @@ properties_texts (p ∷ ps) = property_texts p ++ properties_texts ps
 abbrev pub equal_properties : Property → Property → Bool
 equal_properties p q = bytes_eq p.key.items q.key.items && bytes_eq p.value.items q.value.items
 
--- two texts that are equal each
-pub both-equal : (k v l w : List ℕ) → (bytes_eq k l && bytes_eq v w) ≡ true → k ∷ v ∷ [] ≡ l ∷ w ∷ []
-both-equal k v l w h =
-    let (first, second) = and_parts (bytes_eq k l) (bytes_eq v w) h in
-    ap (λ t. t ∷ v ∷ []) ((bytes_eq-Decides k l).0 first) ∙ ap (λ t. l ∷ t ∷ []) ((bytes_eq-Decides v w).0 second)
-
 -- equal properties are hashed alike
 pub property_texts-equal : (p q : Property) → equal_properties p q ≡ true → property_texts p ≡ property_texts q
-property_texts-equal p q h = both-equal p.key.items p.value.items q.key.items q.value.items h
+property_texts-equal p q h =
+    let (k, v) = and_parts (bytes_eq p.key.items q.key.items) (bytes_eq p.value.items q.value.items) h in
+    ap (λ t. t ∷ p.value.items ∷ []) ((bytes_eq-Decides p.key.items q.key.items).0 k) ∙ ap (λ t. q.key.items ∷ t ∷ []) ((bytes_eq-Decides p.value.items q.value.items).0 v)
 
 pub properties_texts-equal : (ps qs : List Property) → pointwise equal_properties ps qs ≡ true → properties_texts ps ≡ properties_texts qs
 properties_texts-equal [] [] h = refl
@@ -43,6 +39,12 @@ state_texts-equal n m ps qs h =
     ap (λ t. t ∷ properties_texts ps) ((bytes_eq-Decides n m).0 here) ∙ ap (λ t. m ∷ t) (properties_texts-equal ps qs more)
 
 -- ---- texts that stand elsewhere
+
+-- two texts that are equal each
+both-equal : (k v l w : List ℕ) → (bytes_eq k l && bytes_eq v w) ≡ true → k ∷ v ∷ [] ≡ l ∷ w ∷ []
+both-equal k v l w h =
+    let (first, second) = and_parts (bytes_eq k l) (bytes_eq v w) h in
+    ap (λ t. t ∷ v ∷ []) ((bytes_eq-Decides k l).0 first) ∙ ap (λ t. l ∷ t ∷ []) ((bytes_eq-Decides v w).0 second)
 
 abbrev pub told_texts : PropertyText → List (List ℕ)
 told_texts p = p.key.now ∷ p.value.now ∷ []
