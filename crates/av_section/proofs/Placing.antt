@@ -1,26 +1,79 @@
--- One more number of a list, at its place in a palette.
-use Rattle.std.proofs.Common.{◌≡◌, ℕ, ◌<◌, ◌+◌, List, [], ◌∷◌, ◌++◌, length, get_or, All, Contains, sym, ap, ◌∙◌, subst, inl, inr, arith}
+-- A list whose elements are replaced one by one, as numbers by their places.
+use Rattle.std.proofs.Common.{◌≡◌, ℕ, ◌<◌, ◌≤◌, ◌+◌, nat_eq, List, [], ◌∷◌, ◌++◌, length, get_or, set, map, All, Bool, true, false, cond, refl, sym, ap, ◌∙◌, subst, inl, inr, arith, length-append, get_or-set_same, get_or-set_other}
+use Rattle.std.specs.List.{list_any}
 use Rattle.std.proofs.lemmas.Bool.{cases_lt}
-use Rattle.std.proofs.lemmas.List.{get_or_append_left, get_or_default}
-use Rattle.std.proofs.lemmas.List.Elements.{All-push}
-use Rattle.std.proofs.Math.Seq.{get_or-append_seam}
-use Rattle.av_section.specs.Distinct.{ArePlacesByNumber}
+use Rattle.std.proofs.lemmas.List.{get_or_append_left, get_or_default, get_or-map, length-map, length-set, ext_get_or}
+use Rattle.indexmap.specs.IndexSet.{insert_key}
+use Rattle.av_section.specs.Distinct.{ArePlaces}
+use Rattle.av_section.specs.WrittenPalette.{numbers_of}
 
--- a number of the palette stands at the place that is noted for it
-pub place_noted : (palette noted : List ℕ) (n : ℕ) → ArePlacesByNumber palette noted → Contains palette n → (get_or noted n 0 < length palette) × (get_or palette (get_or noted n 0) 0 ≡ n)
-place_noted palette noted n a (j, low, e) =
-    let here : get_or palette j 0 ≡ n = get_or_default palette j 0 n low ∙ e in
-    let place : get_or noted n 0 ≡ j = ap (λ x. get_or noted x 0) (sym here) ∙ a.own j low in
-    (subst (λ k. k < length palette) (sym place) low, ap (λ k. get_or palette k 0) place ∙ here)
+-- those that came are replaced, and the others are as they were
+pub record Replaced (R : ℕ → ℕ → Type 0) (old new : List ℕ) (i : ℕ) : Type 0 where
+  pub long : length new ≡ length old
+  pub done : (j : ℕ) → j < i → R (get_or old j 0) (get_or new j 0)
+  pub left : (j : ℕ) → i ≤ j → get_or new j 0 ≡ get_or old j 0
 
-pub placed_below : (palette places : List ℕ) (x : ℕ) → All (λ place. place < length palette) places → x < length palette → All (λ place. place < length palette) (places ++ x ∷ [])
-placed_below palette places x below low = All-push (λ place. place < length palette) places x below low
+pub replaced_none : (R : ℕ → ℕ → Type 0) (xs : List ℕ) → Replaced R xs xs 0
+replaced_none R xs = record { long = refl; done = λ j low. absurd (omega (arith, low)); left = λ j low. refl }
 
-pub placed_more : (palette numbers places : List ℕ) (x i : ℕ) → length places ≡ i → ((j : ℕ) → j < i → get_or palette (get_or places j 0) 0 ≡ get_or numbers j 0)
-    → get_or palette x 0 ≡ get_or numbers i 0 → (j : ℕ) → j < i + 1 → get_or palette (get_or (places ++ x ∷ []) j 0) 0 ≡ get_or numbers j 0
-placed_more palette numbers places x i count before here j low = elim (cases_lt j (length places)) [
-  | inl within ↦ ap (λ k. get_or palette k 0) (get_or_append_left places (x ∷ []) 0 j within) ∙ before j (omega (arith, within, count))
-  | inr past ↦ (
-      let last : j ≡ length places = omega (arith, past, count, low) in
-      ap (λ k. get_or palette (get_or (places ++ x ∷ []) k 0) 0) last ∙ ap (λ k. get_or palette k 0) (get_or-append_seam places x [] 0) ∙ here ∙ ap (λ k. get_or numbers k 0) (sym (last ∙ count)))
-]
+pub replaced_more : (R : ℕ → ℕ → Type 0) (old new next : List ℕ) (i x : ℕ) → i < length old → Replaced R old new i → next ≡ set new i x → R (get_or old i 0) x → Replaced R old next (i + 1)
+replaced_more R old new next i x low r e h =
+    let within : i < length new = omega (arith, r.long, low) in
+    rw e (record {
+      long = length-set new i x ∙ r.long;
+      done = λ j before. elim (cases_lt j i) [
+        | inl lt ↦ subst (λ v. R (get_or old j 0) v) (sym (get_or-set_other new i j x 0 (λ q. omega (arith, lt, q)))) (r.done j lt)
+        | inr ge ↦ (
+            let same : i ≡ j = omega (arith, before, ge) in
+            subst (λ k. R (get_or old k 0) (get_or (set new i x) k 0)) same (subst (λ v. R (get_or old i 0) v) (sym (get_or-set_same new i x 0 within)) h))
+      ];
+      left = λ j after. get_or-set_other new i j x 0 (λ q. omega (arith, after, q)) ∙ r.left j (omega (arith, after));
+    })
+
+replaced_also : (R S : ℕ → ℕ → Type 0) (old new : List ℕ) (i : ℕ) → ((a b : ℕ) → R a b → S a b) → Replaced R old new i → Replaced S old new i
+replaced_also R S old new i f r = record { long = r.long; done = λ j low. f (get_or old j 0) (get_or new j 0) (r.done j low); left = r.left }
+
+-- ---- places
+
+abbrev pub StandsAt : List ℕ → ℕ → ℕ → Type 0
+StandsAt once number place = (place < length once) × (get_or once place 0 ≡ number)
+
+stands_if : (b : Bool) (ks : List ℕ) (n a k : ℕ) → StandsAt ks a k → StandsAt (cond b ks (ks ++ n ∷ [])) a k
+stands_if true ks n a k h = h
+stands_if false ks n a k h = (omega (arith, length-append ks (n ∷ []), h.0), get_or_append_left ks (n ∷ []) 0 k h.0 ∙ h.1)
+
+-- one more number, at its place
+pub placed_more : (numbers once places next new : List ℕ) (i n place : ℕ) → i < length numbers → n ≡ get_or places i 0 → next ≡ insert_key nat_eq once n → place < length next → get_or next place 0 ≡ n
+    → new ≡ set places i place → Replaced (StandsAt once) numbers places i → Replaced (StandsAt next) numbers new (i + 1)
+placed_more numbers once places next new i n place low at e within is f r =
+    let kept : (a k : ℕ) → StandsAt once a k → StandsAt next a k = λ a k h. subst (λ ks. StandsAt ks a k) (sym e) (stands_if (list_any (nat_eq n) once) once n a k h) in
+    replaced_more (StandsAt next) numbers places new i place low (replaced_also (StandsAt once) (StandsAt next) numbers places i kept r) f (within, is ∙ at ∙ r.left i (omega arith))
+
+pub all_placed : (numbers once places : List ℕ) (i : ℕ) → i ≡ length numbers → Replaced (StandsAt once) numbers places i → ArePlaces once numbers places
+all_placed numbers once places i end r = record {
+  count = r.long;
+  below = λ k d low. subst (λ v. v < length once) (get_or_default places k 0 d low) (r.done k (omega (arith, low, end, r.long))).0;
+  numbers_are = λ j low. (r.done j (omega (arith, low, end))).1;
+}
+
+-- the numbers that stand at the places
+pub placed_numbers : (numbers once places : List ℕ) → ArePlaces once numbers places → numbers_of once places ≡ numbers
+placed_numbers numbers once places p =
+    let f : ℕ → ℕ = λ k. get_or once k 0 in
+    ext_get_or 0 (map f places) numbers (length-map places f ∙ p.count) (λ k low. (
+    let within : k < length places = omega (arith, low, length-map places f) in
+    get_or-map f places k 0 0 within ∙ p.numbers_are k (omega (arith, within, p.count))))
+
+pub own_places : (once places : List ℕ) → All (λ v. v < length once) places → ArePlaces once (numbers_of once places) places
+own_places once places below =
+    let f : ℕ → ℕ = λ k. get_or once k 0 in
+    record { count = sym (length-map places f); below = below; numbers_are = λ j low. sym (get_or-map f places j 0 0 (omega (arith, low, length-map places f))) }
+
+-- ---- a place for each index
+
+pub all_mapped : (places old new : List ℕ) (i : ℕ) → i ≡ length old → Replaced (λ a b. b ≡ get_or places a 0) old new i → new ≡ map (λ k. get_or places k 0) old
+all_mapped places old new i end r =
+    let f : ℕ → ℕ = λ k. get_or places k 0 in
+    ext_get_or 0 new (map f old) (r.long ∙ sym (length-map old f)) (λ k low. (
+    let within : k < length old = omega (arith, low, r.long) in
+    r.done k (omega (arith, within, end)) ∙ sym (get_or-map f old k 0 0 within)))

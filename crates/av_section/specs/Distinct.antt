@@ -15,8 +15,3 @@ pub record ArePlaces (palette numbers places : List ℕ) : Type 0 where
   pub count : length places ≡ length numbers
   pub below : All (λ place. place < length palette) places
   pub numbers_are : (j : ℕ) → j < length numbers → slice_index palette (slice_index places j) ≡ slice_index numbers j
-
--- for each number that there can be a place, which for those of the palette is theirs
-pub record ArePlacesByNumber (palette places : List ℕ) : Type 0 where
-  pub count : length places ≡ 65536
-  pub own : (j : ℕ) → j < length palette → slice_index places (slice_index palette j) ≡ j

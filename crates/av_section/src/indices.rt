@@ -5,7 +5,7 @@ ghost use Rattle.std.specs.Option.{option_copied};
 ghost use Rattle.av_nbt.specs.View.{view};
 ghost use Rattle.av_pack.specs.Packing.{bits_for, longs_for, packed_at, unpacked};
 ghost use Rattle.av_section.specs.BlockStates.{data_of, packed_indices, are_below};
-ghost use Rattle.av_section.specs.Distinct.{AreEachOnce, ArePlaces, ArePlacesByNumber};
+ghost use Rattle.av_section.specs.Distinct.{AreEachOnce, ArePlaces};
 ghost use Rattle.av_section.specs.Judged.{AreNoIndices};
 ghost use Rattle.av_section.specs.Packed.{HasAllBelow, IsRepacked};
 
@@ -17,9 +17,6 @@ use std::alloc::{AllocError, Global};
 
 /// Up to how many numbers each is compared with each other.
 const FEW: usize = 32;
-
-/// How many numbers there can be.
-const NUMBERS: usize = 65536;
 
 /// The longs of a data tag, none where there is no tag.
 pub(crate) fn data_longs<'a>(tag: Option<&'a Tag>) -> Option<&'a [i64]>
@@ -91,40 +88,73 @@ pub(crate) fn repacked(
     Ok(longs)
 }
 
-/// Puts a number at the end, where it is not there yet.
-fn add_new(once: &mut Vec<u16>, number: u16) -> Result<(), AllocError>
-    ensures { OnOk result (once.new.items ≡ insert_key nat_eq once.old.items number) }
+/// The numbers of a list, each once, in the order in which they come first, and where each of the list stands among them.
+#[derive(Drop)]
+pub(crate) struct Once {
+    pub numbers: Vec<u16>,
+    pub places: Vec<u16>,
+}
+
+/// The place of a number in a list, at whose end it is put where it is not there yet.
+fn place_in(once: &mut Vec<u16>, number: u16) -> Result<usize, AllocError>
+    ensures items { OnOk result (once.new.items ≡ insert_key nat_eq once.old.items number) }
+    ensures bound { IfOk result (λ place. place < length once.new.items) }
+    ensures value { IfOk result (λ place. slice_index once.new.items place ≡ number) }
 {
     if once.contains(&number) {
-        return Ok(());
+        return Ok(index_of(once.as_slice(), number));
     }
+    let place = once.len();
     once.push(number)?;
-    Ok(())
+    Ok(place)
 }
 
-/// The numbers of a list, each once, in the order in which they come first: each is compared with those before it.
-fn distinct_by_pairs(alloc: Global, numbers: &[u16]) -> Result<Vec<u16>, AllocError>
-    ensures { IfOk result (λ once. AreEachOnce numbers.now once.items) }
+/// What `distinct` answers, by comparing each number with those before it.
+fn distinct_by_pairs(alloc: Global, numbers: Vec<u16>) -> Result<Once, AllocError>
+    requires few { length numbers.items ≤ 65536 }
+    ensures numbers { IfOk result (λ once. AreEachOnce numbers.items once.numbers.items) }
+    ensures places { IfOk result (λ once. ArePlaces once.numbers.items numbers.items once.places.items) }
 {
     let mut once = Vec::with_capacity(alloc, numbers.len())?;
-    for number in numbers {
-        add_new(&mut once, *number)?;
+    let mut places = numbers;
+    for index in 0..places.len() {
+        places[index] = place_in(&mut once, places[index])? as u16;
     }
-    Ok(once)
+    Ok(Once {
+        numbers: once,
+        places,
+    })
 }
 
-/// The numbers of a list, each once, in the order in which they come first.
-pub(crate) fn distinct(alloc: Global, numbers: &[u16]) -> Result<Vec<u16>, AllocError>
-    ensures { IfOk result (λ once. AreEachOnce numbers.now once.items) }
+/// What `distinct` answers, by one look-up of each number.
+fn distinct_by_set(alloc: Global, numbers: Vec<u16>) -> Result<Once, AllocError>
+    requires few { length numbers.items ≤ 65536 }
+    ensures numbers { IfOk result (λ once. AreEachOnce numbers.items once.numbers.items) }
+    ensures places { IfOk result (λ once. ArePlaces once.numbers.items numbers.items once.places.items) }
+{
+    let mut once = IndexSet::new(alloc);
+    let mut places = numbers;
+    for index in 0..places.len() {
+        let (place, _) = once.insert_full(places[index])?;
+        places[index] = place as u16;
+    }
+    Ok(Once {
+        numbers: Vec::from_slice(alloc, once.as_slice())?,
+        places,
+    })
+}
+
+/// The numbers of a list, each once. Where each stands is written over the list itself, in the same pass, so that it takes no
+/// memory of its own.
+pub(crate) fn distinct(alloc: Global, numbers: Vec<u16>) -> Result<Once, AllocError>
+    requires few { length numbers.items ≤ 65536 }
+    ensures numbers { IfOk result (λ once. AreEachOnce numbers.items once.numbers.items) }
+    ensures places { IfOk result (λ once. ArePlaces once.numbers.items numbers.items once.places.items) }
 {
     if numbers.len() <= FEW {
         return distinct_by_pairs(alloc, numbers);
     }
-    let mut once = IndexSet::new(alloc);
-    for number in numbers {
-        once.insert(*number)?;
-    }
-    Vec::from_slice(alloc, once.as_slice())
+    distinct_by_set(alloc, numbers)
 }
 
 /// The index of a number that is in the palette. One that was just put at its end is found there at once.
@@ -182,69 +212,14 @@ pub(crate) fn first_missing(palette: &[u16]) -> u16
     16
 }
 
-/// Where each number stands in a palette that has it, by a search for each.
-fn places_by_search(alloc: Global, palette: &[u16], numbers: &[u16]) -> Result<Vec<u16>, AllocError>
-    requires there { All (Contains palette.now) numbers.now }
-    requires few { length palette.now ≤ 65536 }
-    ensures { IfOk result (λ places. ArePlaces palette.now numbers.now places.items) }
+/// The place of each index, in the list of the indices.
+pub(crate) fn mapped(indices: Vec<u16>, places: &[u16]) -> Vec<u16>
+    requires { All (λ index. index < length places.now) indices.items }
+    ensures { result.items ≡ map (slice_index places.now) indices.items }
 {
-    let mut places = Vec::with_capacity(alloc, numbers.len())?;
-    for number in numbers {
-        places.push(index_of(palette, *number) as u16)?;
+    let mut found = indices;
+    for at in 0..found.len() {
+        found[at] = places[usize::from(found[at])];
     }
-    Ok(places)
-}
-
-/// A place for each number that there can be.
-fn no_places(alloc: Global) -> Result<Vec<u16>, AllocError>
-    ensures { IfOk result (λ places. length places.items ≡ 65536) }
-{
-    vec![in alloc; 0u16; NUMBERS]
-}
-
-/// The place of each number of a palette, by the number.
-fn places_by_number(alloc: Global, palette: &[u16]) -> Result<Vec<u16>, AllocError>
-    requires distinct { AllPairs (λ x y. x ≢ y) palette.now }
-    requires few { length palette.now ≤ 65536 }
-    ensures { IfOk result (λ places. ArePlacesByNumber palette.now places.items) }
-{
-    let mut places = no_places(alloc)?;
-    for (place, number) in palette.iter().enumerate() {
-        places[usize::from(*number)] = place as u16;
-    }
-    Ok(places)
-}
-
-/// Where each number stands in a palette that has it and has none twice.
-pub(crate) fn places_in(
-    alloc: Global,
-    palette: &[u16],
-    numbers: &[u16],
-) -> Result<Vec<u16>, AllocError>
-    requires there { All (Contains palette.now) numbers.now }
-    requires distinct { AllPairs (λ x y. x ≢ y) palette.now }
-    requires few { length palette.now ≤ 65536 }
-    ensures { IfOk result (λ places. ArePlaces palette.now numbers.now places.items) }
-{
-    if palette.len() <= FEW {
-        return places_by_search(alloc, palette, numbers);
-    }
-    // one look-up for each number, whatever the palette's length is
-    let by_number = places_by_number(alloc, palette)?;
-    let mut places = Vec::with_capacity(alloc, numbers.len())?;
-    for number in numbers {
-        places.push(by_number[usize::from(*number)])?;
-    }
-    Ok(places)
-}
-
-/// The place of each index.
-pub(crate) fn mapped(alloc: Global, indices: &[u16], places: &[u16]) -> Result<Vec<u16>, AllocError>
-    requires { All (λ index. index < length places.now) indices.now }
-    ensures { IfOk result (λ found. found.items ≡ map (slice_index places.now) indices.now) }
-{
-    indices
-        .iter()
-        .map(|index| places[usize::from(*index)])
-        .collect(alloc)
+    found
 }

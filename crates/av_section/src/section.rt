@@ -7,8 +7,8 @@ ghost use Rattle.av_section.specs.Packed.{HasAllBelow, IsPackedSection};
 ghost use Rattle.std.proofs.Props.{props};
 
 use crate::indices::{
-    are_below, data_longs, distinct, first_missing, index_of, judge_longs, mapped, places_in,
-    repacked, unpacked,
+    Once, are_below, data_longs, distinct, first_missing, index_of, judge_longs, mapped, repacked,
+    unpacked,
 };
 use crate::known::palette_numbers;
 use crate::numbering::number_states;
@@ -62,6 +62,7 @@ impl Section {
     ghost use Rattle.av_state.specs.States.{state_of};
     ghost use Rattle.av_section.specs.BlockStates.{palette_tag, data_tag, indices_if, indices_in, packed_indices, all_zero};
     ghost use Rattle.av_section.specs.Distinct.{AreEachOnce};
+    ghost use Rattle.av_section.specs.WrittenPalette.{numbers_of};
     ghost use Rattle.av_section.specs.Judged.{AreNoIndices};
     ghost use Rattle.av_section.specs.Known.{IsPlaced};
     ghost use Rattle.av_section.specs.Indexed.{IsNumberedSection, IsNoSection, HasNumbers};
@@ -115,19 +116,19 @@ impl Section {
         let Some(longs) = data_longs(longs) else {
             return Err(Fault::BadPacked);
         };
-        let section = Section::placed(alloc, numbers.as_slice(), longs)?;
+        let section = Section::placed(alloc, numbers, longs)?;
         Ok(Some(section))
     }
 
     /// The section of the numbers of a palette's entries and its longs.
-    fn placed(alloc: Global, numbers: &[u16], longs: &[i64]) -> Result<Self, Fault>
-        requires some { 0 < length numbers.now }
-        requires few { length numbers.now ≤ 4096 }
-        ensures ok { IfOk result (IsPlaced numbers.now (indices_in (length numbers.now) longs.now)) }
-        ensures err { IfErr result (AreNoIndices (indices_in (length numbers.now) longs.now)) }
+    fn placed(alloc: Global, numbers: Vec<u16>, longs: &[i64]) -> Result<Self, Fault>
+        requires some { 0 < length numbers.items }
+        requires few { length numbers.items ≤ 4096 }
+        ensures ok { IfOk result (IsPlaced numbers.items (indices_in (length numbers.items) longs.now)) }
+        ensures err { IfErr result (AreNoIndices (indices_in (length numbers.items) longs.now)) }
     {
         if longs.is_empty() {
-            return Section::placed_everywhere(alloc, numbers);
+            return Section::placed_everywhere(alloc, numbers.as_slice());
         }
         judge_longs(longs, numbers.len())?;
         let section = Section::indexed(alloc, numbers, longs)?;
@@ -175,68 +176,47 @@ impl Section {
     {
         judge_longs(longs, entries.len())?;
         let numbers = number_states(alloc, entries, table)?;
-        let section = Section::indexed(alloc, numbers.as_slice(), longs)?;
+        let section = Section::indexed(alloc, numbers, longs)?;
         Ok(section)
     }
 
     /// The section of numbers and the longs that hold the index of each place into them. The longs stay as they are, and
     /// nothing is unpacked, unless a number is there twice.
-    fn indexed(alloc: Global, numbers: &[u16], longs: &[i64]) -> Result<Self, AllocError>
-        requires some { 0 < length numbers.now }
-        requires few { length numbers.now ≤ 4096 }
-        requires indices { packed_indices (length numbers.now) longs.now ≡ Some (unpacked (bits_for (length numbers.now)) longs.now) }
-        ensures ok { IfOk result (HasNumbers numbers.now (unpacked (bits_for (length numbers.now)) longs.now)) }
+    fn indexed(alloc: Global, numbers: Vec<u16>, longs: &[i64]) -> Result<Self, AllocError>
+        requires some { 0 < length numbers.items }
+        requires few { length numbers.items ≤ 4096 }
+        requires indices { packed_indices (length numbers.items) longs.now ≡ Some (unpacked (bits_for (length numbers.items)) longs.now) }
+        ensures ok { IfOk result (HasNumbers numbers.items (unpacked (bits_for (length numbers.items)) longs.now)) }
     {
-        let palette = distinct(alloc, numbers)?;
-        if palette.len() != numbers.len() {
-            return Section::repeated(alloc, palette, numbers, longs);
+        let once = distinct(alloc, numbers)?;
+        if once.numbers.len() != once.places.len() {
+            return Section::repeated(alloc, once, longs);
         }
         Ok(Section {
-            palette,
+            bits: bits_for(once.numbers.len()),
+            palette: once.numbers,
             longs: Vec::from_slice(alloc, longs)?,
-            bits: bits_for(numbers.len()),
             pending: PlaceSet::boxed(alloc)?,
             ready: 0,
         })
     }
 
-    /// The same, with another palette that has each number.
-    fn repeated(
-        alloc: Global,
-        palette: Vec<u16>,
-        numbers: &[u16],
-        longs: &[i64],
-    ) -> Result<Self, AllocError>
-        requires palette { AreEachOnce numbers.now palette.items }
-        requires few { length numbers.now ≤ 4096 }
-        requires indices { packed_indices (length numbers.now) longs.now ≡ Some (unpacked (bits_for (length numbers.now)) longs.now) }
-        ensures ok { IfOk result (HasNumbers numbers.now (unpacked (bits_for (length numbers.now)) longs.now)) }
+    /// The same where a number is there twice: each index is that of its number among the distinct ones.
+    fn repeated(alloc: Global, once: Once, longs: &[i64]) -> Result<Self, AllocError>
+        requires palette { AreEachOnce (numbers_of once.numbers.items once.places.items) once.numbers.items }
+        requires places { All (λ place. place < length once.numbers.items) once.places.items }
+        requires few { length once.places.items ≤ 4096 }
+        requires indices { packed_indices (length once.places.items) longs.now ≡ Some (unpacked (bits_for (length once.places.items)) longs.now) }
+        ensures ok { IfOk result (HasNumbers (numbers_of once.numbers.items once.places.items) (unpacked (bits_for (length once.places.items)) longs.now)) }
     {
-        let indices = unpacked(alloc, longs, bits_for(numbers.len()))?;
-        Section::reindexed(alloc, palette, numbers, indices.as_slice())
-    }
-
-    /// The section of numbers and the index of each place into them, with another palette that has each number.
-    fn reindexed(
-        alloc: Global,
-        palette: Vec<u16>,
-        numbers: &[u16],
-        indices: &[u16],
-    ) -> Result<Self, AllocError>
-        requires palette { AreEachOnce numbers.now palette.items }
-        requires few { length numbers.now ≤ 4096 }
-        requires count { length indices.now ≡ 4096 }
-        requires below { All (λ index. index < length numbers.now) indices.now }
-        ensures ok { IfOk result (HasNumbers numbers.now indices.now) }
-    {
-        let bits = bits_for(palette.len());
-        let places = places_in(alloc, palette.as_slice(), numbers)?;
-        let indices = mapped(alloc, indices, places.as_slice())?;
+        let indices = unpacked(alloc, longs, bits_for(once.places.len()))?;
+        let indices = mapped(indices, once.places.as_slice());
+        let bits = bits_for(once.numbers.len());
         let Ok(longs) = pack(alloc, indices.as_slice(), bits) else {
             return Err(AllocError);
         };
         Ok(Section {
-            palette,
+            palette: once.numbers,
             longs,
             bits,
             pending: PlaceSet::boxed(alloc)?,

@@ -1,9 +1,27 @@
 -- One more number, which is new or not.
-use Rattle.std.proofs.Common.{get_or, refl}
+use Rattle.std.proofs.Common.{◌≡◌, ◌<◌, ◌∙◌, length, get_or, arith, refl, rules}
+use Rattle.std.proofs.lemmas.List.{get_or_default}
 use Rattle.av_section.proofs.Once.{once_more}
+use Rattle.av_section.proofs.Placing.{placed_more, all_placed}
 use Rattle.av_section.proofs.indices.distinct_by_pairs.Goals as goal
 
-pub loop-number-preserved : goal.loop-number-preserved
-loop-number-preserved c =
-    let i = c.loop-number.number-index in
-    once_more c.args.numbers.now c.loop-number.once.items c.add_new.new.once.items i (get_or c.args.numbers.now i 0) c.loop-number-test.true refl (c.type_inv.numbers i).fits c.in_ok-add_new.ensures c.loop-number.invariant
+pub loop-index-preserved : goal.loop-index-preserved
+loop-index-preserved c =
+    let numbers = c.args.numbers.items in
+    let places = c.loop-index.places.items in
+    let i = c.loop-index.index in
+    let inv = c.loop-index.invariant in
+    let n = c.index.result.now in
+    let low : i < length numbers = omega (arith, c.loop-index-test.true) in
+    let within : i < length places = omega (arith, low, inv.placed.long) in
+    let at : n ≡ get_or places i 0 = c.index.ensures ∙ get_or_default places i n 0 within in
+    let own : n ≡ get_or numbers i 0 = at ∙ inv.placed.left i (omega arith) in
+    let small : c.index.result.now < 65536 = search rules in
+    let next = c.in_ok-places.ensures in
+    record {
+      once = once_more numbers c.loop-index.once.items c.place_in.new.once.items i n low own small next.items inv.once;
+      placed = placed_more numbers c.loop-index.once.items places c.place_in.new.once.items _ i n c.in_ok-places.field-0 low at next.items next.bound next.value refl inv.placed;
+    }
+
+pub returns-clause-places : goal.returns-clause-places
+returns-clause-places c = all_placed c.args.numbers.items c.loop-index.once.items c.loop-index.places.items c.loop-index.index (omega (arith, c.loop-index-test.false)) c.loop-index.invariant.placed

@@ -21,6 +21,6 @@ returns-clause-ok c =
           let f = from_longs (length c.args.entries.now) c.args.longs.now indices q in
           let index = f.below i 0 (omega (arith, f.long)) in
           let within : get_or indices i 0 < length c.in_ok-numbers.numbers.items = omega (arith, index, as_many) in
-          rw (s.numbers_are i low, c.as_slice.ensures.value, as_many) (n.each_is (get_or indices i 0) within));
+          rw (s.numbers_are i low, as_many) (n.each_is (get_or indices i 0) within));
       pending = s.pending;
     }

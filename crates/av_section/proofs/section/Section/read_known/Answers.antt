@@ -18,7 +18,7 @@ returns-in_err-section-clause-err c =
     let numbers = c.in-Some.numbers.items in
     let p = err_from_is_err_and c.from_residual-in_err-section.result c.from_residual-in_err-section.ensures.1 in
     let known = subst (λ o. IfSome o (λ ns. AreKnown st (palette_of palette) ns.items)) c.in-Some.is c.in_ok-numbers.ensures.known in
-    let bad = rw c.as_slice.ensures.value at c.in_err-section.ensures.err in
+    let bad = c.in_err-section.ensures.err in
     rw (p.1, p.2) (known_refused palette longs st c.in-Some-data_longs.longs.now numbers c.in_err-section.field-0.0 known (sym c.in-Some-data_longs.ensures) bad)
 
 pub returns-clause-ok : goal.returns-clause-ok
@@ -28,5 +28,5 @@ returns-clause-ok c =
     let st = states c.args.table.now in
     let numbers = c.in-Some.numbers.items in
     let known = subst (λ o. IfSome o (λ ns. AreKnown st (palette_of palette) ns.items)) c.in-Some.is c.in_ok-numbers.ensures.known in
-    let placed = rw c.as_slice.ensures.value at c.in_ok-section.ensures.ok in
+    let placed = c.in_ok-section.ensures.ok in
     known_read palette longs st c.in-Some-data_longs.longs.now numbers c.in_ok-section.section known (sym c.in-Some-data_longs.ensures) placed c.args.table.now.numbered.bounded

@@ -1,9 +1,0 @@
--- One more number, which is new or not.
-use Rattle.std.proofs.Common.{get_or, refl}
-use Rattle.av_section.proofs.Once.{once_more}
-use Rattle.av_section.proofs.indices.distinct.Goals as goal
-
-pub loop-number-preserved : goal.loop-number-preserved
-loop-number-preserved c =
-    let i = c.loop-number.number-index in
-    once_more c.args.numbers.now c.loop-number.once.keys c.insert.new.self.keys i (get_or c.args.numbers.now i 0) c.loop-number-test.true refl (c.type_inv.numbers i).fits c.in_ok-insert.ensures.keys c.loop-number.invariant

@@ -1,0 +1,11 @@
+-- The numbers that came, each once, and their places.
+use Rattle.std.proofs.Common.{take}
+use Rattle.av_section.specs.Distinct.{AreEachOnce}
+use Rattle.av_section.proofs.Placing.{Replaced, StandsAt}
+use Rattle.av_section.proofs.indices.distinct_by_set.Given as goal
+
+abbrev pub invariant-loop-index : goal.invariant-loop-index
+invariant-loop-index l = record {
+  once : AreEachOnce (take l.index l.fn.numbers.items) l.once.keys;
+  placed : Replaced (StandsAt l.once.keys) l.fn.numbers.items l.places.items l.index;
+}
