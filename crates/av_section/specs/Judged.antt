@@ -2,16 +2,10 @@
 -- Working definitions. No public clause cites them.
 use Rattle.std.specs.Prelude.{◌≡◌, Option, None}
 use Rattle.av_types.specs.declared.fault.Fault.{Fault}
-use Rattle.av_types.specs.declared.fault.Fault.TheVariants.{OutOfMemory, BadPalette, BadPacked}
+use Rattle.av_types.specs.declared.fault.Fault.TheVariants.{OutOfMemory, BadPalette}
 
 -- memory, or a bad palette where there is no value
 abbrev pub IsNoPalette : {A : Type 0} → Option A → Fault → Type 0
 IsNoPalette value OutOfMemory = Unit {0}
 IsNoPalette value BadPalette = value ≡ None
 IsNoPalette value _ = ⊥
-
--- memory, or bad indices where there are none
-abbrev pub AreNoIndices : {A : Type 0} → Option A → Fault → Type 0
-AreNoIndices value OutOfMemory = Unit {0}
-AreNoIndices value BadPacked = value ≡ None
-AreNoIndices value _ = ⊥

@@ -1,9 +1,14 @@
--- Palettes whose states a table knows.
+-- Sections whose longs fit their palettes, and palettes whose states are numbered, or are known to a table.
 -- Working definitions. No public clause cites them.
-use Rattle.std.specs.Prelude.{◌≡◌, ℕ, ◌<◌, List, Option, Some, false, length, slice_index}
+use Rattle.std.specs.Prelude.{◌≡◌, ℕ, ℤ, ◌<◌, List, Option, Some, None, IsSome, false, length, slice_index}
+use Rattle.av_types.specs.declared.fault.Fault.{Fault}
+use Rattle.av_types.specs.declared.fault.Fault.TheVariants.{OutOfMemory, BadPalette, BadPacked, BadWaterLevel, TooManyStates}
+use Rattle.av_nbt.specs.Shape.{each}
+use Rattle.av_nbt.specs.Nbt.{Nbt}
 use Rattle.av_state.specs.BlockState.{BlockState, meant}
 use Rattle.av_state.specs.StateList.{number_in}
-use Rattle.av_section.specs.Numbered.{AreNumbered}
+use Rattle.av_section.specs.BlockStates.{data_of, indices_in, indices_of}
+use Rattle.av_section.specs.Numbered.{AreNumbered, AreTooMany}
 use Rattle.av_section.specs.declared.section.Section.{Section}
 use Rattle.av_section.specs.Section.{number_at, is_pending}
 
@@ -15,11 +20,41 @@ pub record IsKnown (states : List BlockState) (state : Option BlockState) (numbe
   pub form_is : meant told ≡ Some form
   pub number_is : number_in states form ≡ Some number
 
--- there are states, and the numbers are those of the forms that they take
-pub record AreKnown (states : List BlockState) (entries : Option (List BlockState)) (numbers : List ℕ) : Type 0 where
+-- there are states, the numbers are those of the forms that they take, and no other states were numbered
+pub record AreOfPalette (old new : List BlockState) (entries : Option (List BlockState)) (numbers : List ℕ) : Type 0 where
   pub told : List BlockState
   pub told_are : entries ≡ Some told
-  pub numbered : AreNumbered told states states numbers
+  pub numbered : AreNumbered told old new numbers
+
+-- they were numbered before
+abbrev pub AreKnown : List BlockState → Option (List BlockState) → List ℕ → Type 0
+AreKnown states entries numbers = AreOfPalette states states entries numbers
+
+-- the longs of a data tag, which hold indices into a palette of that length
+pub record ArePacked (tag : Option Nbt) (count : ℕ) (longs : List ℤ) : Type 0 where
+  pub longs_are : data_of tag ≡ Some longs
+  pub fit : IsSome (indices_in count longs)
+
+-- there are states, and something holds of them
+pub record AreToldAnd (entries : Option (List BlockState)) (why : List BlockState → Type 0) : Type 0 where
+  pub told : List BlockState
+  pub told_are : entries ≡ Some told
+  pub because : why told
+
+-- memory, an entry that is no state, or else a data tag that holds no indices into the palette
+abbrev pub AreUnfit : Option (List BlockState) → Option Nbt → Fault → Type 0
+AreUnfit entries tag OutOfMemory = Unit {0}
+AreUnfit entries tag BadPalette = entries ≡ None
+AreUnfit entries tag BadPacked = AreToldAnd entries (λ told. indices_of (length told) tag ≡ None)
+AreUnfit entries tag _ = ⊥
+
+-- memory, an entry that is no state, or else states that are not numbered
+abbrev pub AreNotOfPalette : Option (List BlockState) → List BlockState → Fault → Type 0
+AreNotOfPalette entries old OutOfMemory = Unit {0}
+AreNotOfPalette entries old BadPalette = entries ≡ None
+AreNotOfPalette entries old BadWaterLevel = AreToldAnd entries (λ told. each meant told ≡ None)
+AreNotOfPalette entries old TooManyStates = AreToldAnd entries (λ told. AreTooMany told old)
+AreNotOfPalette entries old _ = ⊥
 
 -- there are indices, each place has the number of its index, and none is pending
 pub record IsPlaced (numbers : List ℕ) (indices : Option (List ℕ)) (s : Section) : Type 0 where

@@ -1,14 +1,17 @@
 //! The indices of a section's places into its palette.
-ghost use Rattle.std.specs.Prelude.{◌≡◌, ◌<◌, ◌≤◌, ◌^◌, ◌+◌, ◌⊎◌, ◌≢◌, ℕ, nat_eq, ◌-◌, IsTrue, Some, true, false, map, option_map, length, slice_index, slice_index_or, All, AllPairs, Contains, IfOk, IfErr, OnOk};
+ghost use Rattle.std.specs.Prelude.{◌≡◌, ◌<◌, ◌≤◌, ◌^◌, ◌+◌, ◌⊎◌, ◌≢◌, ℕ, nat_eq, ◌-◌, IsTrue, Some, None, is_some, true, false, map, option_map, length, slice_index, slice_index_or, All, AllPairs, Contains, IfOk, IfErr, IfSome, IfNone, OnOk};
 ghost use Rattle.indexmap.specs.IndexSet.{insert_key};
 ghost use Rattle.std.specs.Option.{option_copied};
-ghost use Rattle.av_nbt.specs.View.{view};
+ghost use Rattle.av_nbt.specs.Shape.{each};
+ghost use Rattle.av_nbt.specs.View.{view, views};
 ghost use Rattle.av_pack.specs.Packing.{bits_for, longs_for, packed_at, unpacked};
-ghost use Rattle.av_section.specs.BlockStates.{data_of, packed_indices, are_below};
+ghost use Rattle.av_section.specs.BlockStates.{data_of, indices_in, indices_of, are_below};
 ghost use Rattle.av_section.specs.Distinct.{AreEachOnce, ArePlaces};
-ghost use Rattle.av_section.specs.Judged.{AreNoIndices};
+ghost use Rattle.av_section.specs.Known.{ArePacked, AreUnfit};
+ghost use Rattle.av_section.specs.Palette.{state_in};
 ghost use Rattle.av_section.specs.Packed.{HasAllBelow, IsRepacked};
 
+use crate::palette::entry_states;
 use av_nbt::Tag;
 use av_pack::{bits_for, entries_below, longs_for, pack, unpack};
 use av_types::Fault;
@@ -35,21 +38,55 @@ pub(crate) fn are_below(indices: &[u16], count: usize) -> bool
     indices.iter().all(|index| usize::from(*index) < count)
 }
 
-/// Judges whether longs hold indices into a palette of so many entries: `BadPacked` where the longs are not as many as it
-/// needs, or where an index is not below its length. They are looked through in the longs, and no list is made.
-pub(crate) fn judge_longs(longs: &[i64], count: usize) -> Result<(), Fault>
+/// Whether longs hold indices into a palette of so many entries: as many longs as it needs, and each index below its length.
+/// No longs do where it has one entry. They are looked through as they are, and no list is made.
+fn hold_indices(longs: &[i64], count: usize) -> bool
     requires { count ≤ 65536 }
-    ensures ok { OnOk result (packed_indices count longs.now ≡ Some (unpacked (bits_for count) longs.now)) }
-    ensures err { IfErr result (AreNoIndices (packed_indices count longs.now)) }
+    ensures { result ≡ is_some (indices_in count longs.now) }
 {
+    if longs.is_empty() {
+        return count == 1;
+    }
     let bits = bits_for(count);
     if longs.len() != longs_for(bits) {
-        return Err(Fault::BadPacked);
+        return false;
     }
     if !entries_below(longs, bits, count) {
-        return Err(Fault::BadPacked);
+        return false;
     }
-    Ok(())
+    true
+}
+
+/// The longs of a data tag, where they hold indices into a palette of so many entries.
+fn fitting_longs<'a>(longs: Option<&'a Tag>, count: usize) -> Option<&'a [i64]>
+    requires { count ≤ 65536 }
+    ensures some { IfSome result (λ found. ArePacked (option_map view (option_copied longs.entry)) count found.now) }
+    ensures none { IfNone result (indices_of count (option_map view (option_copied longs.entry)) ≡ None) }
+{
+    let longs = data_longs(longs)?;
+    if !hold_indices(longs, count) {
+        return None;
+    }
+    Some(longs)
+}
+
+/// The longs of a data tag, which are judged before any entry of the palette is looked up. Refuses an entry that is no state
+/// with `BadPalette`, and else longs that do not fit the palette with `BadPacked`.
+pub(crate) fn judged_longs<'a>(
+    alloc: Global,
+    entries: &[Tag],
+    longs: Option<&'a Tag>,
+) -> Result<&'a [i64], Fault>
+    requires { length entries.now ≤ 4096 }
+    ensures ok { IfOk result (λ found. ArePacked (option_map view (option_copied longs.entry)) (length entries.now) found.now) }
+    ensures err { IfErr result (AreUnfit (each state_in (views entries.now)) (option_map view (option_copied longs.entry))) }
+{
+    let Some(longs) = fitting_longs(longs, entries.len()) else {
+        // the palette's fault comes first
+        let _ = entry_states(alloc, entries)?;
+        return Err(Fault::BadPacked);
+    };
+    Ok(longs)
 }
 
 /// The indices that longs hold. The longs are as many as these need, so nothing but memory can be wanted.

@@ -1,6 +1,6 @@
 //! Palettes whose states a table knows: nearly all, after the first sections of a world. Each entry is looked up by the texts
 //! of its tags, and no state is made.
-ghost use Rattle.std.specs.Prelude.{◌≡◌, ◌<◌, ◌≤◌, Some, true, length, option_map, IfOk, IfSome};
+ghost use Rattle.std.specs.Prelude.{◌≡◌, Some, true, length, option_map, IfOk, IfSome};
 ghost use Rattle.std.specs.Option.{option_copied};
 ghost use Rattle.av_nbt.specs.Shape.{each};
 ghost use Rattle.av_nbt.specs.View.{view, views, named_view, named_views};
@@ -8,9 +8,9 @@ ghost use Rattle.av_state.specs.BlockState.{in_order};
 ghost use Rattle.av_state.specs.Table.{states};
 ghost use Rattle.av_state.specs.Texts.{property_told, properties_told};
 ghost use Rattle.av_section.specs.Known.{IsKnown, AreKnown};
-ghost use Rattle.av_section.specs.Palette.{property_in, properties_in, written_state, state_in, palette_of};
+ghost use Rattle.av_section.specs.Palette.{property_in, properties_in, written_state, state_in};
 
-use crate::palette::{MOST_ENTRIES, NAME, PROPERTIES, are_of_entry};
+use crate::palette::{NAME, PROPERTIES, are_of_entry};
 use av_nbt::{Named, Tag, find};
 use av_state::{PropertyText, StateTable};
 use std::alloc::{AllocError, Global};
@@ -94,8 +94,8 @@ fn entry_number<'a>(
     tags_number(tags, texts, table)
 }
 
-/// The numbers of palette entries, where the table knows them all.
-fn entries_numbers(
+/// The numbers of palette entries in the forms that they take, where the table knows them all.
+pub(crate) fn known_numbers(
     alloc: Global,
     entries: &[Tag],
     table: &StateTable,
@@ -111,30 +111,5 @@ fn entries_numbers(
         };
         numbers.push(number)?;
     }
-    Ok(Some(numbers))
-}
-
-/// The numbers of a palette's 1 to 4,096 states in the forms that they take, where the table knows them all.
-pub(crate) fn palette_numbers(
-    alloc: Global,
-    palette: Option<&Tag>,
-    table: &StateTable,
-) -> Result<Option<Vec<u16>>, AllocError>
-    ensures known { IfOk result (λ found. IfSome found (λ numbers. AreKnown (states table.now) (palette_of (option_map view (option_copied palette.entry))) numbers.items)) }
-    ensures some { IfOk result (λ found. IfSome found (λ numbers. 0 < length numbers.items)) }
-    ensures few { IfOk result (λ found. IfSome found (λ numbers. length numbers.items ≤ 4096)) }
-{
-    let Some(palette) = palette else {
-        return Ok(None);
-    };
-    let Some(entries) = palette.as_items() else {
-        return Ok(None);
-    };
-    if entries.is_empty() || entries.len() > MOST_ENTRIES {
-        return Ok(None);
-    }
-    let Some(numbers) = entries_numbers(alloc, entries, table)? else {
-        return Ok(None);
-    };
     Ok(Some(numbers))
 }

@@ -5,9 +5,16 @@ ghost use Rattle.av_types.specs.declared.fault.Fault.TheVariants.{OutOfMemory};
 ghost use Rattle.av_state.specs.BlockState.{meant};
 ghost use Rattle.av_state.specs.States.{state_of};
 ghost use Rattle.av_state.specs.Table.{states};
+ghost use Rattle.av_nbt.specs.Shape.{each};
+ghost use Rattle.av_nbt.specs.View.{views};
+ghost use Rattle.av_section.specs.Known.{AreOfPalette, AreNotOfPalette};
 ghost use Rattle.av_section.specs.Numbered.{AreNumbered, AreNotNumbered};
+ghost use Rattle.av_section.specs.Palette.{state_in};
 ghost use Rattle.av_section.specs.Reading.{OnlyGrows};
 
+use crate::known::known_numbers;
+use crate::palette::entry_states;
+use av_nbt::Tag;
 use av_state::{State, StateTable};
 use av_types::Fault;
 use indexmap::IndexSet;
@@ -27,7 +34,7 @@ fn have_forms(entries: &[State]) -> bool
 
 /// The numbers of a palette's states in the forms that they take. States that are new to the table are added to it.
 /// `BadWaterLevel` comes before any is numbered, `TooManyStates` after as many as there may be.
-pub(crate) fn number_states(
+fn number_states(
     alloc: Global,
     entries: &[State],
     table: &mut StateTable,
@@ -44,5 +51,25 @@ pub(crate) fn number_states(
     for entry in entries {
         numbers.push(table.intern(entry)?)?;
     }
+    Ok(numbers)
+}
+
+/// The numbers of a palette's entries in the forms that they take. Where the table knows them all they are looked up by the
+/// texts of their tags; else their states are made, and those that are new to the table are added to it.
+pub(crate) fn number_entries(
+    alloc: Global,
+    entries: &[Tag],
+    table: &mut StateTable,
+) -> Result<Vec<u16>, Fault>
+    ensures ok { IfOk result (λ numbers. AreOfPalette (states table.old) (states table.new) (each state_in (views entries.now)) numbers.items) }
+    ensures many { IfOk result (λ numbers. length numbers.items ≡ length entries.now) }
+    ensures err { IfErr result (AreNotOfPalette (each state_in (views entries.now)) (states table.old)) }
+    ensures table { OnlyGrows (states table.old) (states table.new) }
+{
+    if let Some(numbers) = known_numbers(alloc, entries, table)? {
+        return Ok(numbers);
+    }
+    let told = entry_states(alloc, entries)?;
+    let numbers = number_states(alloc, told.as_slice(), table)?;
     Ok(numbers)
 }

@@ -20,7 +20,7 @@ pub(crate) const NAME: &[u8] = b"Name";
 /// The name of a palette entry's properties.
 pub(crate) const PROPERTIES: &[u8] = b"Properties";
 /// The most entries that a palette in a file has.
-pub(crate) const MOST_ENTRIES: usize = 4096;
+const MOST_ENTRIES: usize = 4096;
 
 /// The property of a tag, which is a text.
 fn property(alloc: Global, named: &Named) -> Result<Property, Fault>
@@ -116,8 +116,8 @@ fn state(alloc: Global, entry: &Tag) -> Result<State, Fault>
     Ok(state)
 }
 
-/// The states of palette entries.
-fn states(alloc: Global, entries: &[Tag]) -> Result<Vec<State>, Fault>
+/// The states of palette entries, as they are written there. Refuses one that is none with `BadPalette`.
+pub(crate) fn entry_states(alloc: Global, entries: &[Tag]) -> Result<Vec<State>, Fault>
     ensures ok { IfOk result (λ found. each state_in (views entries.now) ≡ Some (map state_of found.items)) }
     ensures err { IfErr result (IsNoPalette (each state_in (views entries.now))) }
 {
@@ -128,12 +128,11 @@ fn states(alloc: Global, entries: &[Tag]) -> Result<Vec<State>, Fault>
     Ok(found)
 }
 
-/// The 1 to 4,096 states of a palette tag, as they are written there. Refuses a palette of another shape with
-/// `BadPalette`.
-pub(crate) fn palette_states(alloc: Global, palette: Option<&Tag>) -> Result<Vec<State>, Fault>
-    ensures ok { IfOk result (λ found. palette_of (option_map view (option_copied palette.entry)) ≡ Some (map state_of found.items)) }
-    ensures some { IfOk result (λ found. 0 < length found.items) }
-    ensures few { IfOk result (λ found. length found.items ≤ 4096) }
+/// The 1 to 4,096 entries of a palette tag. Refuses a palette of another shape with `BadPalette`.
+pub(crate) fn palette_entries(palette: Option<&Tag>) -> Result<&[Tag], Fault>
+    ensures ok { IfOk result (λ entries. palette_of (option_map view (option_copied palette.entry)) ≡ each state_in (views entries.now)) }
+    ensures some { IfOk result (λ entries. 0 < length entries.now) }
+    ensures few { IfOk result (λ entries. length entries.now ≤ 4096) }
     ensures err { IfErr result (IsNoPalette (palette_of (option_map view (option_copied palette.entry)))) }
 {
     let Some(palette) = palette else {
@@ -145,6 +144,5 @@ pub(crate) fn palette_states(alloc: Global, palette: Option<&Tag>) -> Result<Vec
     if entries.is_empty() || entries.len() > MOST_ENTRIES {
         return Err(Fault::BadPalette);
     }
-    let found = states(alloc, entries)?;
-    Ok(found)
+    Ok(entries)
 }

@@ -7,18 +7,17 @@ ghost use Rattle.av_section.specs.Packed.{HasAllBelow, IsPackedSection};
 ghost use Rattle.std.proofs.Props.{props};
 
 use crate::indices::{
-    Once, are_below, data_longs, distinct, first_missing, index_of, judge_longs, mapped, repacked,
-    unpacked,
+    Once, are_below, distinct, first_missing, index_of, judged_longs, mapped, repacked, unpacked,
 };
-use crate::known::palette_numbers;
-use crate::numbering::number_states;
+use crate::known::known_numbers;
+use crate::numbering::number_entries;
 use crate::order::written_order;
-use crate::palette::palette_states;
+use crate::palette::palette_entries;
 use crate::places::PlaceSet;
 use crate::writing::{indices_tag, palette_tag};
 use av_nbt::Tag;
 use av_pack::{bits_for, cleaned, get_at, longs_for, pack, set_at, used_in_order};
-use av_state::{State, StateTable};
+use av_state::StateTable;
 use av_types::{Fault, Place};
 use std::alloc::{AllocError, Global};
 
@@ -55,17 +54,15 @@ fn push_number(palette: &mut Vec<u16>, number: u16) -> Result<(), AllocError>
 }
 
 impl Section {
-    ghost use Rattle.std.specs.Prelude.{All, IsOk, IfSome, Some, true, false, map, option_map, ◌==◌, OnOk};
+    ghost use Rattle.std.specs.Prelude.{All, IsOk, IsSome, IfSome, Some, true, false, option_map, OnOk};
     ghost use Rattle.std.specs.Option.{option_copied};
     ghost use Rattle.av_nbt.specs.View.{view};
     ghost use Rattle.av_state.specs.Table.{states};
-    ghost use Rattle.av_state.specs.States.{state_of};
-    ghost use Rattle.av_section.specs.BlockStates.{palette_tag, data_tag, indices_if, indices_in, packed_indices, all_zero};
+    ghost use Rattle.av_section.specs.BlockStates.{palette_tag, data_tag, indices_in, packed_indices};
     ghost use Rattle.av_section.specs.Distinct.{AreEachOnce};
     ghost use Rattle.av_section.specs.WrittenPalette.{numbers_of};
-    ghost use Rattle.av_section.specs.Judged.{AreNoIndices};
     ghost use Rattle.av_section.specs.Known.{IsPlaced};
-    ghost use Rattle.av_section.specs.Indexed.{IsNumberedSection, IsNoSection, HasNumbers};
+    ghost use Rattle.av_section.specs.Indexed.{HasNumbers};
     ghost use Rattle.av_section.specs.Section.{number_at, is_pending, CanSet, KeepsPlaces, SetsNumber, SetsPending, IsFilled, AreParts, HasNumbersBelow, section_states};
     ghost use Rattle.av_section.specs.Reading.{IsRead, IsStatesRefusal, OnlyGrows};
 
@@ -84,23 +81,15 @@ impl Section {
         ensures err { IfErr result (IsStatesRefusal (option_map view (option_copied palette.entry)) (option_map view (option_copied longs.entry)) (states table.old)) }
         ensures table { OnlyGrows (states table.old) (states table.new) }
     {
-        if let Some(section) = Section::read_known(alloc, palette, longs, table)? {
-            return Ok(section);
-        }
-        let entries = palette_states(alloc, palette)?;
-        let Some(longs) = data_longs(longs) else {
-            return Err(Fault::BadPacked);
-        };
-        let section = if longs.is_empty() {
-            Section::uniform(alloc, entries.as_slice(), table)?
-        } else {
-            Section::packed(alloc, entries.as_slice(), longs, table)?
-        };
+        let entries = palette_entries(palette)?;
+        let longs = judged_longs(alloc, entries, longs)?;
+        let numbers = number_entries(alloc, entries, table)?;
+        let section = Section::placed(alloc, numbers, longs)?;
         Ok(section)
     }
 
     /// What `read` answers of the same, where the table knows all states of the palette: their numbers are looked up by the
-    /// texts of the tags. None where it does not, or where the palette is refused.
+    /// texts of the tags. None where it does not, and where longs that fit stand by a palette with an entry that is refused.
     pub fn read_known(
         alloc: Global,
         palette: Option<&Tag>,
@@ -110,72 +99,28 @@ impl Section {
         ensures ok { IfOk result (λ found. IfSome found (IsRead (option_map view (option_copied palette.entry)) (option_map view (option_copied longs.entry)) (states table.now) (states table.now))) }
         ensures err { IfErr result (IsStatesRefusal (option_map view (option_copied palette.entry)) (option_map view (option_copied longs.entry)) (states table.now)) }
     {
-        let Some(numbers) = palette_numbers(alloc, palette, table)? else {
+        let entries = palette_entries(palette)?;
+        let longs = judged_longs(alloc, entries, longs)?;
+        let Some(numbers) = known_numbers(alloc, entries, table)? else {
             return Ok(None);
-        };
-        let Some(longs) = data_longs(longs) else {
-            return Err(Fault::BadPacked);
         };
         let section = Section::placed(alloc, numbers, longs)?;
         Ok(Some(section))
     }
 
-    /// The section of the numbers of a palette's entries and its longs.
+    /// The section of the numbers of a palette's entries and the longs that hold the index of each place into them. Refuses with
+    /// OutOfMemory alone.
     fn placed(alloc: Global, numbers: Vec<u16>, longs: &[i64]) -> Result<Self, Fault>
         requires some { 0 < length numbers.items }
         requires few { length numbers.items ≤ 4096 }
+        requires fit { IsSome (indices_in (length numbers.items) longs.now) }
         ensures ok { IfOk result (IsPlaced numbers.items (indices_in (length numbers.items) longs.now)) }
-        ensures err { IfErr result (AreNoIndices (indices_in (length numbers.items) longs.now)) }
+        ensures err { IfErr result (λ e. e ≡ OutOfMemory) }
     {
         if longs.is_empty() {
-            return Section::placed_everywhere(alloc, numbers.as_slice());
+            let section = Section::filled(alloc, numbers[0])?;
+            return Ok(section);
         }
-        judge_longs(longs, numbers.len())?;
-        let section = Section::indexed(alloc, numbers, longs)?;
-        Ok(section)
-    }
-
-    /// The section of the number of a palette's one entry, which is at every place.
-    fn placed_everywhere(alloc: Global, numbers: &[u16]) -> Result<Self, Fault>
-        ensures ok { IfOk result (IsPlaced numbers.now (indices_if (length numbers.now == 1) all_zero)) }
-        ensures err { IfErr result (AreNoIndices (indices_if (length numbers.now == 1) all_zero)) }
-    {
-        if numbers.len() != 1 {
-            return Err(Fault::BadPacked);
-        }
-        let section = Section::filled(alloc, numbers[0])?;
-        Ok(section)
-    }
-
-    /// The section of one entry, which is at every place.
-    fn uniform(alloc: Global, entries: &[State], table: &mut StateTable) -> Result<Self, Fault>
-        ensures ok { IfOk result (IsNumberedSection (map state_of entries.now) (indices_if (length entries.now == 1) all_zero) (states table.old) (states table.new)) }
-        ensures err { IfErr result (IsNoSection (map state_of entries.now) (indices_if (length entries.now == 1) all_zero) (states table.old)) }
-        ensures table { OnlyGrows (states table.old) (states table.new) }
-    {
-        if entries.len() != 1 {
-            return Err(Fault::BadPacked);
-        }
-        let numbers = number_states(alloc, entries, table)?;
-        let section = Section::filled(alloc, numbers[0])?;
-        Ok(section)
-    }
-
-    /// The section of entries and the longs that hold the index of each place.
-    fn packed(
-        alloc: Global,
-        entries: &[State],
-        longs: &[i64],
-        table: &mut StateTable,
-    ) -> Result<Self, Fault>
-        requires some { 0 < length entries.now }
-        requires few { length entries.now ≤ 4096 }
-        ensures ok { IfOk result (IsNumberedSection (map state_of entries.now) (packed_indices (length entries.now) longs.now) (states table.old) (states table.new)) }
-        ensures err { IfErr result (IsNoSection (map state_of entries.now) (packed_indices (length entries.now) longs.now) (states table.old)) }
-        ensures table { OnlyGrows (states table.old) (states table.new) }
-    {
-        judge_longs(longs, entries.len())?;
-        let numbers = number_states(alloc, entries, table)?;
         let section = Section::indexed(alloc, numbers, longs)?;
         Ok(section)
     }

@@ -6,7 +6,7 @@ use Rattle.av_nbt.specs.View.{view}
 use Rattle.av_state.specs.States.{state_of}
 use Rattle.av_section.specs.Palette.{state_in}
 use Rattle.av_section.proofs.Refusals.{IsNoPalette-whole}
-use Rattle.av_section.proofs.palette.states.Goals as goal
+use Rattle.av_section.proofs.palette.entry_states.Goals as goal
 use Rattle.av_nbt.proofs.Each.{each_more, each_none}
 
 pub returns-in_err-state-clause-err : goal.returns-in_err-state-clause-err

@@ -5,7 +5,7 @@ use Rattle.av_nbt.specs.View.{views}
 use Rattle.av_state.specs.Table.{states}
 use Rattle.av_section.specs.Palette.{state_in}
 use Rattle.av_section.specs.Known.{AreKnown}
-use Rattle.av_section.proofs.known.entries_numbers.Given as goal
+use Rattle.av_section.proofs.known.known_numbers.Given as goal
 
 abbrev pub invariant-loop-entry : goal.invariant-loop-entry
 invariant-loop-entry l = record {
