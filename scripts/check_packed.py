@@ -28,9 +28,10 @@ HAS_LZ4 = importlib.util.find_spec("lz4") is not None
 
 
 def worlds(*words, paths=(), **options):
-    """The status of a call, and the lines on its two streams."""
-    done = subprocess.run([sys.executable, WORLDS, *words], capture_output=True, text=True,
-                          env={**os.environ, "PYTHONPATH": os.pathsep.join([*paths, os.environ.get("PYTHONPATH", "")])}, **options)
+    """The status of a call, and the lines on its two streams. `paths` have modules that come before others."""
+    modules = os.pathsep.join([*paths, os.environ.get("PYTHONPATH", "")])
+    done = subprocess.run([sys.executable, WORLDS, *words], capture_output=True, text=True, timeout=60,
+                          env={**os.environ, "PYTHONPATH": modules}, **options)
     return done.returncode, done.stdout.splitlines(), done.stderr.splitlines()
 
 
@@ -141,6 +142,7 @@ def changed(work):
         names = region_names({**world(), (0, 0): chunks})
         names += ["README", "c.99.99.mcc", "r.00.1.mca"] if where == source else []
         yield "files", sorted(names), sorted(os.listdir(where))
+        yield "a file that had no bytes", 0, os.path.getsize(os.path.join(where, "r.5.5.mca"))
 
 
 # ---------------------------------------------------------------- damage
@@ -200,7 +202,7 @@ def damaged_lz4():
     ] if HAS_LZ4 else []
 
 
-def stored_chunks(work):
+def damaged_chunks(work):
     """Damaged chunks that are left out, and come back as they were stored, beside a chunk that is changed."""
     source, plain, back = folders(work, "world", "plain", "back")
     records = damaged_records() + damaged_lz4()
@@ -320,6 +322,11 @@ def words(work):
     os.mkdir(os.path.join(plain, "r.0.0.mca"))
     yield "a folder in its place", (1, ["r.0.0.mca: Is a directory; nothing is written for it"]), worlds("plain", source, plain)[::2]
     yield "leaves nothing behind", ["r.0.0.mca", "r.1.0.mca"], sorted(os.listdir(plain))
+    write_region(source, 1, 0, {5: (PLAIN, NOISE), 6: (PLAIN, NOISE)})
+    os.mkdir(os.path.join(plain, "c.38.0.mcc"))
+    yield "nor does one beside a region", (1, ["r.%d.0.mca: Is a directory; nothing is written for it" % x for x in (0, 1)]), \
+        worlds("packed", source, plain)[::2]
+    yield "and nothing else", ["c.38.0.mcc", "r.0.0.mca", "r.1.0.mca"], sorted(os.listdir(plain))
 
 
 def difference(want, got):
@@ -336,7 +343,7 @@ def main():
     if len(sys.argv) != 1:
         sys.exit(__doc__)
     asked = wrong = 0
-    for examples in (unchanged, changed, stored_chunks, locations, odd_files, without_lz4, words):
+    for examples in (unchanged, changed, damaged_chunks, locations, odd_files, without_lz4, words):
         with tempfile.TemporaryDirectory() as work:
             for what, want, got in examples(work):
                 asked += 1

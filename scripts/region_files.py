@@ -4,6 +4,7 @@ What can't be read is told by the exceptions of chunk_data.py. Files are written
 """
 import collections
 import contextlib
+import errno
 import io
 import os
 import re
@@ -12,7 +13,7 @@ import stat
 import struct
 import typing
 
-from chunk_data import RECORD, SECTOR, Refused, Unread, plain_bytes
+from chunk_data import SECTOR, Refused, Unread, plain_bytes
 
 HEADER = 2 * SECTOR
 EXTERNAL = 128
@@ -28,7 +29,7 @@ def opened(path):
     file = open(path, "rb", opener=lambda path, flags: os.open(path, flags | os.O_NONBLOCK))
     if not stat.S_ISREG(os.fstat(file.fileno()).st_mode):
         file.close()
-        raise OSError(0, "Not a file", path)
+        raise OSError(errno.EINVAL, "Not a file", path)
     return file
 
 
@@ -57,10 +58,10 @@ def externals(folder):
 
 
 def places(folder):
-    """The regions of a folder, whose numbers have 32 bits, in order."""
+    """The regions of a folder. Their numbers have 32 bits."""
     names = filter(None, map(REGION_NAME.fullmatch, os.listdir(folder)))
-    found = [Place(int(name[2]), int(name[1])) for name in names]
-    return sorted(place for place in found if all(-1 << 31 <= number < 1 << 31 for number in place))
+    found = {Place(int(name[2]), int(name[1])) for name in names}
+    return {place for place in found if all(-1 << 31 <= number < 1 << 31 for number in place)}
 
 
 class Stored(typing.NamedTuple):
@@ -158,9 +159,12 @@ class Fresh:
         self.ready.append((part, name))
 
     def place(self):
-        """Renames them in the order in which they were ready."""
-        for part, name in self.ready:
-            os.replace(part, os.path.join(self.folder, name))
+        """Renames them in the order in which they were ready, and none where a folder is in the place of one."""
+        paths = [os.path.join(self.folder, name) for _, name in self.ready]
+        if any(os.path.isdir(path) and not os.path.islink(path) for path in paths):
+            raise IsADirectoryError(errno.EISDIR, os.strerror(errno.EISDIR))
+        for (part, _), path in zip(self.ready, paths):
+            os.replace(part, path)
         folder = os.open(self.folder, os.O_RDONLY)
         os.fsync(folder)
         os.close(folder)

@@ -31,8 +31,10 @@ import sys
 
 sys.dont_write_bytecode = True
 from chunk_data import MOST_BYTES, NAMES, PIECE, PLAIN, RECORD, ZLIB, Refused, TooLarge, Unread, compressed
-from region_files import EXTERNAL, NO_CHUNKS, Fresh, Place, Region, Stored, Writer, externals, opened, places
+from region_files import EXTERNAL, NO_CHUNKS, Fresh, Region, Stored, Writer, externals, opened, places
 
+# zlib leaves the interpreter to others while it works, so that threads are enough. Some files at once hide how long syncing one takes,
+# and some chunks in each job what handing it over takes.
 FILES_AT_ONCE = 4
 CHUNKS_AT_ONCE = 4
 
@@ -242,7 +244,7 @@ def processors():
 
 def reports(words, crew, files):
     """Does what the words say by two pools of threads, for chunks and for files. What is to be told comes in the files' order."""
-    found = set(places(words.source)).union(places(words.like) if words.like is not None else ())
+    found = places(words.source) | (places(words.like) if words.like is not None else set())
     work = Work(words, crew)
     progress = Progress(len(found), words.progress)
     futures = [files.submit(work.region, place) for place in sorted(found)]
