@@ -7,7 +7,7 @@ use Rattle.av_nbt.specs.contracts.tag.Tag as Tag
 use Rattle.av_state.specs.contracts.table.StateTable as StateTable
 use Rattle.av_chunk.specs.contracts.rest.ChunkRest as ChunkRest
 use Rattle.av_world.specs.contracts.worlds.World as World
-use Rattle.av_image.specs.contracts.ahead.BatchAhead as BatchAhead
+use Rattle.av_image.specs.contracts.ahead.BatchReading as BatchReading
 use Rattle.av_image.specs.contracts.rest.RegionRest as RegionRest
 
 pub world_sync : IsSync World.the_row
@@ -38,5 +38,5 @@ rest_send = search (sendable, crosses, tag_send, named_send) depth 60 fits 20000
 pub region_sync : IsSync RegionRest.the_row
 region_sync = search (sendable, crosses, rest_sync) depth 60 fits 20000
 
-pub batch_send : IsSend BatchAhead.the_row
-batch_send = search (sendable, crosses, named_send, rest_send) depth 60 fits 20000
+pub batch_send : IsSend BatchReading.the_row
+batch_send = search (sendable, crosses, rest_send) depth 60 fits 20000

@@ -23,9 +23,7 @@ use Rattle.av_chunk.specs.Views.{number_in, state_in, cells_of, rest_of}
 use Rattle.av_chunk.specs.declared.chunk.Chunk.{Chunk}
 use Rattle.av_chunk.specs.declared.chunk.Reading.{Reading}
 use Rattle.av_chunk.specs.declared.chunk.Reading.TheVariants.{Full, Kept}
-use Rattle.av_image.specs.Ahead.{IsMadeOf, IsMadeAt}
-use Rattle.av_image.specs.declared.ahead.Ahead.{Ahead}
-use Rattle.av_image.specs.declared.ahead.Ahead.TheVariants.{Read, Decoded}
+use Rattle.av_image.specs.Ahead.{IsMadeAt}
 
 -- ---- states that a table has
 
@@ -86,7 +84,7 @@ module _ (c : ChunkPos) (h : Height) (d : Document) (old new : List BlockState) 
     section_is = is.section_is;
   }
 
-  pub reading_grown : (r : Reading) → IsReading c h d old old r → IsReading c h d new new r
+  reading_grown : (r : Reading) → IsReading c h d old old r → IsReading c h d new new r
   reading_grown (Full chunk rest) l =
       let same = gains_none old new (all_states h (root_tags d)) more l.states in
       record {
@@ -107,12 +105,12 @@ module _ (c : ChunkPos) (h : Height) (d : Document) (old new : List BlockState) 
     states = refl;
   }
 
--- ---- what was made of a payload
+-- ---- what a payload was read as
 
-made_grown : (c : ChunkPos) (h : Height) (payload : List ℕ) (old new : List BlockState) (a : Ahead) → OnlyGrows old new → length new ≤ most_states → IsMadeOf c h payload old a → IsMadeOf c h payload new a
-made_grown c h payload old new (Read r) more few is = record { document = is.document; spelled = is.spelled; reading = reading_grown c h is.document old new more few r is.reading }
-made_grown c h payload old new (Decoded root) more few is = is
-
-pub ahead_grown : (h : Height) (old new : List BlockState) (file : List ℕ) (c : ChunkPos) (i : ℕ) (o : Option Ahead) → OnlyGrows old new → length new ≤ most_states → IfSome o (IsMadeAt h old file c i) → IfSome o (IsMadeAt h new file c i)
+pub ahead_grown : (h : Height) (old new : List BlockState) (file : List ℕ) (c : ChunkPos) (i : ℕ) (o : Option Reading) → OnlyGrows old new → length new ≤ most_states → IfSome o (IsMadeAt h old file c i) → IfSome o (IsMadeAt h new file c i)
 ahead_grown h old new file c i None more few is = tt
-ahead_grown h old new file c i (Some a) more few is = record { payload = is.payload; holds = is.holds; made = made_grown c h is.payload old new a more few is.made }
+ahead_grown h old new file c i (Some r) more few is = record {
+  payload = is.payload;
+  holds = is.holds;
+  made = record { document = is.made.document; spelled = is.made.spelled; reading = reading_grown c h is.made.document old new more few r is.made.reading };
+}

@@ -14,6 +14,9 @@ use std::sync::atomic::AtomicU64;
 use std::sync::atomic::Ordering::SeqCst;
 use std::thread::Threads;
 
+/// How many loaded chunks are worth the start of a thread.
+const CHUNKS_A_THREAD: usize = 4;
+
 /// The payload of a loaded chunk, and its index in its region.
 #[derive(Drop)]
 struct IndexedPayload {
@@ -167,8 +170,8 @@ fn count_loaded(region: &RegionRest) -> usize {
         .count()
 }
 
-/// What is written at each index of a region, by as many threads as there are processors. Each takes the next index that
-/// none has taken, since chunks differ in their work.
+/// What is written at each index of a region, by as many threads as there are processors, fewer where few chunks are loaded. Each
+/// takes the next index that none has taken, since chunks differ in their work.
 pub(crate) fn payloads_by<'a>(
     rt: &(impl Threads + Sync),
     alloc: Global,
@@ -177,7 +180,7 @@ pub(crate) fn payloads_by<'a>(
     ensures { IfOk result (λ ps. map (option_map payload_items) ps.items ≡ job_payloads job.now) }
 {
     let next = AtomicU64::new(0);
-    let count = current_num_threads(rt).min(count_loaded(job.region));
+    let count = current_num_threads(rt).min(count_loaded(job.region) / CHUNKS_A_THREAD);
     let taken = (0..count)
         .into_par_iter()
         .with_min_len(1)

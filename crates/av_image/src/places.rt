@@ -6,10 +6,9 @@ ghost use Rattle.av_state.specs.Table.{states};
 ghost use Rattle.av_section.specs.Reading.{OnlyGrows};
 ghost use Rattle.av_chunk.specs.Payload.{IsPayloadReading, IsPayloadFault};
 ghost use Rattle.av_files.specs.FirstFault.{IsPlaceFault};
-ghost use Rattle.av_image.specs.Ahead.{IsMadeOf, IsMadeAt};
+ghost use Rattle.av_image.specs.Ahead.{IsMadeAt};
 ghost use Rattle.av_image.specs.Placed.{IsPlaceRead, IsPayloadRead};
 
-use crate::ahead::Ahead;
 use av_chunk::{Chunk, ChunkRest, Reading, read_payload};
 use av_region::Region;
 use av_state::StateTable;
@@ -27,24 +26,23 @@ pub enum Place {
     Full { chunk: Chunk, rest: ChunkRest },
 }
 
-/// What a payload is read as, by what was made of it before.
+/// What a payload is read as, unless it was read before.
 fn reading(
     alloc: Global,
     payload: &[u8],
-    ahead: Option<Ahead>,
+    ahead: Option<Reading>,
     at: ChunkPos,
     height: Height,
     table: &mut StateTable,
 ) -> Result<Reading, Fault>
     requires small { length payload.now ≤ 1044475 }
-    requires ahead { IfSome ahead (IsMadeOf at height payload.now (states table.old)) }
+    requires ahead { IfSome ahead (IsPayloadReading at height payload.now (states table.old) (states table.old)) }
     ensures ok { IfOk result (IsPayloadReading at height payload.now (states table.old) (states table.new)) }
     ensures err { IfErr result (λ e. e ≢ OutOfMemory → IsPayloadFault at height payload.now (states table.old) e) }
     ensures table { OnlyGrows (states table.old) (states table.new) }
 {
     match ahead {
-        Some(Ahead::Read(reading)) => Ok(reading),
-        Some(Ahead::Decoded(root)) => Chunk::read(alloc, root, at, height, table),
+        Some(reading) => Ok(reading),
         None => read_payload(alloc, payload, at, height, table),
     }
 }
@@ -53,13 +51,13 @@ fn reading(
 fn held(
     alloc: Global,
     payload: &[u8],
-    ahead: Option<Ahead>,
+    ahead: Option<Reading>,
     at: ChunkPos,
     height: Height,
     table: &mut StateTable,
 ) -> Result<Place, Fault>
     requires small { length payload.now ≤ 1044475 }
-    requires ahead { IfSome ahead (IsMadeOf at height payload.now (states table.old)) }
+    requires ahead { IfSome ahead (IsPayloadReading at height payload.now (states table.old) (states table.old)) }
     ensures ok { IfOk result (IsPayloadRead height (states table.old) (states table.new) payload.now at) }
     ensures err { IfErr result (λ e. e ≢ OutOfMemory → IsPayloadFault at height payload.now (states table.old) e) }
     ensures table { OnlyGrows (states table.old) (states table.new) }
@@ -70,11 +68,11 @@ fn held(
     }
 }
 
-/// What a region holds at an index, read by what was made of its payload before.
+/// What a region holds at an index, unless its payload was read before.
 pub(crate) fn read_place_by(
     alloc: Global,
     region: &Region<'_>,
-    ahead: Option<Ahead>,
+    ahead: Option<Reading>,
     pos: RegionPos,
     index: usize,
     height: Height,

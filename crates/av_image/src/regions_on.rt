@@ -1,5 +1,5 @@
 //! All places of region files, whose payloads several threads read ahead.
-ghost use Rattle.std.specs.Prelude.{◌≡◌, ◌≢◌, ◌+◌, IfOk, IfErr, OnOk, length, map};
+ghost use Rattle.std.specs.Prelude.{◌≡◌, ◌≢◌, ◌+◌, IfOk, IfErr, OnOk, map};
 ghost use Rattle.std.specs.List.{All};
 ghost use Rattle.av_types.specs.declared.fault.Fault.TheVariants.{OutOfMemory};
 ghost use Rattle.av_types.specs.Places.{IsInLimits};
@@ -11,10 +11,11 @@ ghost use Rattle.av_image.specs.Ahead.{AreAhead};
 ghost use Rattle.av_image.specs.Placed.{ArePlacesRead, IsRegionRead, AreRegionsRead, file_of};
 ghost use Rattle.av_image.specs.Ways.{GoesOn, Stops};
 
-use crate::ahead::{Ahead, read_ahead};
-use crate::batch::{BATCH, Batch};
+use crate::ahead::{read_ahead, take_at};
+use crate::batch::{Batch, PLACES, extent_from};
 use crate::places::{Place, read_place_by};
 use crate::regions::{ReadRegion, read_stamps};
+use av_chunk::Reading;
 use av_region::Region;
 use av_sink::RegionFile;
 use av_state::StateTable;
@@ -22,25 +23,24 @@ use av_types::{Fault, Height, RegionPos};
 use std::alloc::Global;
 use std::thread::Threads;
 
-/// Reads the places of a batch, behind those before it, by what was made of their payloads.
+/// Reads the places of a batch, behind those before it, but for those that were read ahead.
 fn read_batch(
     alloc: Global,
     batch: &Batch<'_>,
-    mut ahead: Vec<Option<Ahead>>,
+    mut ahead: Vec<Option<Reading>>,
     table: &mut StateTable,
     places: &mut Vec<Place>,
 ) -> Result<(), Fault>
-    requires long { length ahead.items ≡ 64 }
     requires ahead { AreAhead batch.now (states table.old) ahead.items }
-    ensures ok { OnOk result (GoesOn batch.now.height (file_of batch.now.pos batch.now.region.bytes.now) (states table.old) batch.now.first places.old.items (states table.new) (batch.now.first + 64) places.new.items) }
+    ensures ok { OnOk result (GoesOn batch.now.height (file_of batch.now.pos batch.now.region.bytes.now) (states table.old) batch.now.first places.old.items (states table.new) (batch.now.first + batch.now.extent.places) places.new.items) }
     ensures err { IfErr result (λ e. e ≢ OutOfMemory → Stops batch.now.height (file_of batch.now.pos batch.now.region.bytes.now) (states table.old) batch.now.first places.old.items e) }
     ensures table { OnlyGrows (states table.old) (states table.new) }
 {
-    for offset in 0..BATCH {
+    for offset in 0..batch.extent.places {
         let place = read_place_by(
             alloc,
             &batch.region,
-            ahead[offset].take(),
+            take_at(&mut ahead, offset),
             batch.pos,
             batch.first + offset,
             batch.height,
@@ -52,7 +52,7 @@ fn read_batch(
 }
 
 /// All places of a region, in the order of their indices. Only a batch is read ahead, by the states that those before it left:
-/// the documents of all would take much memory, and most of the work on a region that is refused early would be for nothing.
+/// all would take much memory, and most of the work on a region that is refused early would be for nothing.
 fn read_places_on(
     rt: &(impl Threads + Sync),
     alloc: Global,
@@ -67,15 +67,18 @@ fn read_places_on(
     ensures table { OnlyGrows (states table.old) (states table.new) }
 {
     let mut places = Vec::new(alloc);
-    for number in 0..1024 / BATCH {
+    let mut first = 0;
+    while first < PLACES {
         let batch = Batch {
             region: *region,
             pos,
             height,
-            first: BATCH * number,
+            first,
+            extent: extent_from(region, first),
         };
         let ahead = read_ahead(rt, alloc, &batch, table)?;
         read_batch(alloc, &batch, ahead, table, &mut places)?;
+        first += batch.extent.places;
     }
     Ok(places)
 }

@@ -8,7 +8,7 @@ abbrev pub invariant-loop-made : goal.invariant-loop-made
 invariant-loop-made l =
     record {
       each : All (IsTaken l.batch (states l.table)) l.taken.items;
-      long : length l.places.items ≡ 64;
+      long : length l.places.items ≡ l.batch.extent.places;
       ahead : AreAhead l.batch (states l.table) l.places.items;
     }
 

@@ -8,7 +8,7 @@ abbrev pub invariant-loop-offset : goal.invariant-loop-offset
 invariant-loop-offset l =
     record {
       each : All (IsMadeIn l.batch (states l.table)) l.made.items;
-      long : length l.places.items ≡ 64;
+      long : length l.places.items ≡ l.batch.extent.places;
       ahead : AreAhead l.batch (states l.table) l.places.items;
     }
 

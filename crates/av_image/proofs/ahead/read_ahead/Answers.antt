@@ -26,7 +26,7 @@ collect-requires-send-Self-Item g c κs within = search (sendable, crosses, batc
 pub collect-requires-send-C : goal.collect-requires-send-C
 collect-requires-send-C g c κs within = search (sendable, crosses, batch_send) depth 60 fits 20000
 
-pub gathered-requires-2 : goal.gathered-requires-2
-gathered-requires-2 g c =
+pub gathered-requires : goal.gathered-requires
+gathered-requires g c =
     let h = c.in_ok-taken.ensures {u = tt} in
     subst (All (IsTaken c.args.batch.now (states c.args.table.now))) (sym h.2) (all_given _ (IsTaken c.args.batch.now (states c.args.table.now)) (λ x y a. rw c.map.ensures.f at a) h.1.0 h.0 h.1.2)

@@ -1,14 +1,13 @@
-use Rattle.std.proofs.Common.{◌≢◌, ◌<◌, ◌+◌, length, sym, subst, rules, arith}
-use Rattle.std.specs.Prelude.{IfSome}
+use Rattle.std.proofs.Common.{◌≢◌, ◌<◌, ◌+◌, get_or, sym, subst, arith}
 use Rattle.av_types.specs.Places.{chunk_at}
 use Rattle.av_types.specs.declared.fault.Fault.TheVariants.{OutOfMemory}
 use Rattle.av_state.specs.Table.{states}
 use Rattle.av_chunk.proofs.Found.{err_from}
 use Rattle.av_chunk.proofs.Slots.{OnlyGrows-trans}
-use Rattle.av_image.specs.Ahead.{IsMadeBy}
+use Rattle.av_image.specs.Ahead.{AreAhead}
 use Rattle.av_image.specs.Placed.{file_of}
 use Rattle.av_image.specs.Ways.{Stops}
-use Rattle.av_image.proofs.BatchPlaces.{ahead_at, ahead_set}
+use Rattle.av_image.proofs.BatchPlaces.{none_in, ahead_set}
 use Rattle.av_image.proofs.Grown.{ahead_grown}
 use Rattle.av_image.proofs.Ways.{grows_nothing, goes_same, goes_more, goes_stop}
 use Rattle.av_image.proofs.regions_on.read_batch.Goals as goal
@@ -17,7 +16,6 @@ pub loop-offset-init : goal.loop-offset-init
 loop-offset-init c = record {
   way = goes_same c.args.batch.now.height (file_of c.args.batch.now.pos c.args.batch.now.region.bytes.now) (states c.args.table.now) (states c.args.table.now) c.args.batch.now.first c.args.batch.now.first (c.args.batch.now.first + 0) c.args.places.now.items c.args.places.now.items (omega arith) (λ start s. s);
   grown = grows_nothing (states c.args.table.now);
-  long = c.requires.long;
   ahead = c.requires.ahead;
 }
 
@@ -25,10 +23,9 @@ pub read_place_by-requires-clause-ahead : goal.read_place_by-requires-clause-ahe
 read_place_by-requires-clause-ahead c =
     let b = c.args.batch.now in
     let i = b.first + c.loop-offset.offset in
-    let less : c.loop-offset.offset < length c.loop-offset.ahead.items = omega (arith, c.loop-offset.invariant.long, c.loop-offset-test.true) in
-    rw c.take.ensures.value
-    (ahead_grown b.height (states c.args.table.now) (states c.loop-offset.table) b.region.bytes.now (chunk_at b.pos i) i c.index_mut.result.now c.loop-offset.invariant.grown c.loop-offset.table.numbered.bounded
-    (ahead_at b (states c.args.table.now) c.loop-offset.ahead.items c.loop-offset.offset c.index_mut.result.now c.loop-offset.invariant.ahead less c.index_mut.ensures.value))
+    rw c.take_at.ensures.taken
+    (ahead_grown b.height (states c.args.table.now) (states c.loop-offset.table) b.region.bytes.now (chunk_at b.pos i) i (get_or c.loop-offset.ahead.items c.loop-offset.offset none_in) c.loop-offset.invariant.grown c.loop-offset.table.numbered.bounded
+    (c.loop-offset.invariant.ahead c.loop-offset.offset))
 
 pub returns-in_err-place-clause-err : goal.returns-in_err-place-clause-err
 returns-in_err-place-clause-err c =
@@ -54,12 +51,11 @@ loop-offset-preserved c =
       way = goes_more c.args.batch.now.height f (states c.args.table.now) (states c.loop-offset.table) (states c.read_place_by.new.table) b.first (b.first + c.loop-offset.offset) (b.first + (c.loop-offset.offset + 1)) c.args.places.now.items c.loop-offset.places.items c.push.new.self.items c.in_ok-place.place
           less (omega arith) c.in_ok-push.ensures.items c.loop-offset.invariant.way c.in_ok-place.ensures.ok c.in_ok-place.ensures.table;
       grown = OnlyGrows-trans (states c.args.table.now) (states c.loop-offset.table) (states c.read_place_by.new.table) c.loop-offset.invariant.grown c.in_ok-place.ensures.table;
-      long = search rules;
-      ahead = ahead_set b (states c.args.table.now) c.loop-offset.ahead.items c.loop-offset.offset c.take.new.self c.loop-offset.invariant.ahead (subst (λ o. IfSome o (IsMadeBy b (states c.args.table.now) c.loop-offset.offset)) (sym c.take.ensures.after) tt);
+      ahead = subst (λ xs. AreAhead b (states c.args.table.now) xs) (sym c.take_at.ensures.left) (ahead_set b (states c.args.table.now) c.loop-offset.ahead.items c.loop-offset.offset none_in c.loop-offset.invariant.ahead tt);
     }
 
 pub returns-clause-ok : goal.returns-clause-ok
 returns-clause-ok c =
     let b = c.args.batch.now in
-    goes_same c.args.batch.now.height (file_of c.args.batch.now.pos b.region.bytes.now) (states c.args.table.now) (states c.loop-offset.table) b.first (b.first + c.loop-offset.offset) (b.first + 64) c.args.places.now.items c.loop-offset.places.items
+    goes_same c.args.batch.now.height (file_of c.args.batch.now.pos b.region.bytes.now) (states c.args.table.now) (states c.loop-offset.table) b.first (b.first + c.loop-offset.offset) (b.first + b.extent.places) c.args.places.now.items c.loop-offset.places.items
     (omega (arith, c.loop-offset.auto.offset-end, c.loop-offset-test.false)) c.loop-offset.invariant.way

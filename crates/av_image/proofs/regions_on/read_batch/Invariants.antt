@@ -1,4 +1,4 @@
-use Rattle.std.proofs.Common.{◌≡◌, ◌+◌, length}
+use Rattle.std.proofs.Common.{◌+◌}
 use Rattle.av_state.specs.Table.{states}
 use Rattle.av_section.specs.Reading.{OnlyGrows}
 use Rattle.av_image.specs.Ahead.{AreAhead}
@@ -11,6 +11,5 @@ invariant-loop-offset l =
     record {
       way : GoesOn l.batch.height (file_of l.batch.pos l.batch.region.bytes.now) (states l.fn.table) l.batch.first l.fn.places.items (states l.table) (l.batch.first + l.offset) l.places.items;
       grown : OnlyGrows (states l.fn.table) (states l.table);
-      long : length l.ahead.items ≡ 64;
       ahead : AreAhead l.batch (states l.fn.table) l.ahead.items;
     }

@@ -1,4 +1,4 @@
-use Rattle.std.proofs.Common.{◌≡◌, ◌≢◌, ◌+◌, ◌*◌, subst, arith}
+use Rattle.std.proofs.Common.{◌≡◌, ◌≢◌, subst, arith}
 use Rattle.av_types.specs.declared.fault.Fault.TheVariants.{OutOfMemory}
 use Rattle.av_state.specs.Table.{states}
 use Rattle.av_chunk.proofs.Found.{err_from}
@@ -14,18 +14,17 @@ returns-in_err-read_batch-clause-err g c =
     let e = c.in_err-read_batch.field-0.0 in
     let f = file_of c.args.pos c.args.region.now.bytes.now in
     err_from c.from_residual-in_err-read_batch.result e (λ x. x ≢ OutOfMemory → IsFirstOfPlaces c.args.height (states c.args.table.now) f indices x) c.from_residual-in_err-read_batch.ensures.1
-    (λ other. c.in_err-read_batch.ensures.err other (states c.args.table.now) c.loop-number.invariant)
+    (λ other. c.in_err-read_batch.ensures.err other (states c.args.table.now) c.loop-first.invariant.so_far)
 
-pub loop-number-preserved : goal.loop-number-preserved
-loop-number-preserved g c =
-    let f = file_of c.args.pos c.args.region.now.bytes.now in
-    let next : 64 * c.loop-number.number + 64 ≡ 64 * (c.loop-number.number + 1) = omega arith in
-    subst (λ n. PlacesSoFar c.args.height f (states c.args.table.now) (states c.read_batch.new.table) n c.read_batch.new.places.items) next
-    (c.in_ok-read_batch.ensures.ok (states c.args.table.now) c.loop-number.invariant)
+pub loop-first-preserved : goal.loop-first-preserved
+loop-first-preserved g c = record {
+  within = c.extent_from.ensures.within;
+  so_far = c.in_ok-read_batch.ensures.ok (states c.args.table.now) c.loop-first.invariant.so_far;
+}
 
 pub returns-clause-ok : goal.returns-clause-ok
 returns-clause-ok g c =
     let f = file_of c.args.pos c.args.region.now.bytes.now in
-    let all : 64 * c.loop-number.number ≡ 1024 = omega (arith, c.loop-number.auto.number-end, c.loop-number-test.false) in
-    places_all c.args.height f (states c.args.table.now) (states c.loop-number.table) c.loop-number.places.items
-    (subst (λ n. PlacesSoFar c.args.height f (states c.args.table.now) (states c.loop-number.table) n c.loop-number.places.items) all c.loop-number.invariant)
+    let all : c.loop-first.first ≡ 1024 = omega (arith, c.loop-first.invariant.within, c.loop-first-test.false) in
+    places_all c.args.height f (states c.args.table.now) (states c.loop-first.table) c.loop-first.places.items
+    (subst (λ n. PlacesSoFar c.args.height f (states c.args.table.now) (states c.loop-first.table) n c.loop-first.places.items) all c.loop-first.invariant.so_far)
