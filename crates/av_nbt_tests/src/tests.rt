@@ -151,6 +151,38 @@ fn beginnings_are_refused(rt: HostRuntime) {
     }
 }
 
+/// The bytes of a document are counted before they are written, so they fill the memory that was asked for.
+#[test]
+fn what_is_written_fills_its_memory(rt: HostRuntime) -> Result<(), Fail> {
+    let written = rewritten(rt.alloc(), &ALL_KINDS)?;
+    expect_equal(&rt, written.capacity(), 124);
+    Ok(())
+}
+
+/// For how many tags there is memory in a List of five Bytes, behind which stand 9 bytes and so many more.
+fn memory_of_five(alloc: Global, more: u8) -> Result<usize, Fail> {
+    let mut bytes = Vec::from_slice(alloc, &[10, 0, 0, 9, 0, 0, 1, 0, 0, 0, 5, 1, 2, 3, 4, 5])?;
+    bytes.extend_from_slice(&[7, 0, 1, b'a', 0, 0, 0, more])?;
+    for _ in 0..more {
+        bytes.push(0)?;
+    }
+    bytes.push(0)?;
+    let root = decode(alloc, &bytes)?;
+    match tag(&root.tags, b"")? {
+        Tag::List(_, items) => Ok(items.capacity()),
+        _ => Ok(0),
+    }
+}
+
+/// The share of a List in the root is a quarter of the bytes behind its length. A quarter of 20 holds five Bytes, and memory is
+/// asked for once. One of 19 doesn't, and the Bytes ask for that of four and of eight tags.
+#[test]
+fn a_list_asks_once_for_what_its_share_holds(rt: HostRuntime) -> Result<(), Fail> {
+    expect_equal(&rt, memory_of_five(rt.alloc(), 6)?, 5);
+    expect_equal(&rt, memory_of_five(rt.alloc(), 5)?, 8);
+    Ok(())
+}
+
 /// A text's length has no sign.
 #[test]
 fn a_text_of_65535_bytes(rt: HostRuntime) -> Result<(), Fail> {
