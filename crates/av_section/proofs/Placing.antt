@@ -1,5 +1,5 @@
 -- A list whose elements are replaced one by one, as numbers by their places.
-use Rattle.std.proofs.Common.{◌≡◌, ℕ, ◌<◌, ◌≤◌, ◌+◌, nat_eq, List, [], ◌∷◌, ◌++◌, length, get_or, set, map, All, Bool, true, false, cond, refl, sym, ap, ◌∙◌, subst, inl, inr, arith, length-append, get_or-set_same, get_or-set_other}
+use Rattle.std.proofs.Common.{◌≡◌, ℕ, ◌<◌, ◌≤◌, ◌+◌, nat_eq, List, [], ◌∷◌, ◌++◌, length, get_or, set, map, All, Bool, true, false, cond, sym, ◌∙◌, subst, inl, inr, arith, length-append, get_or-set_same, get_or-set_other}
 use Rattle.std.specs.List.{list_any}
 use Rattle.std.proofs.lemmas.Bool.{cases_lt}
 use Rattle.std.proofs.lemmas.List.{get_or_append_left, get_or_default, get_or-map, length-map, length-set, ext_get_or}
@@ -12,9 +12,6 @@ pub record Replaced (R : ℕ → ℕ → Type 0) (old new : List ℕ) (i : ℕ) 
   pub long : length new ≡ length old
   pub done : (j : ℕ) → j < i → R (get_or old j 0) (get_or new j 0)
   pub left : (j : ℕ) → i ≤ j → get_or new j 0 ≡ get_or old j 0
-
-pub replaced_none : (R : ℕ → ℕ → Type 0) (xs : List ℕ) → Replaced R xs xs 0
-replaced_none R xs = record { long = refl; done = λ j low. absurd (omega (arith, low)); left = λ j low. refl }
 
 pub replaced_more : (R : ℕ → ℕ → Type 0) (old new next : List ℕ) (i x : ℕ) → i < length old → Replaced R old new i → next ≡ set new i x → R (get_or old i 0) x → Replaced R old next (i + 1)
 replaced_more R old new next i x low r e h =

@@ -1,5 +1,5 @@
 -- The entries are states, and the longs do not fit them.
-use Rattle.std.proofs.Common.{◌≡◌, ◌∙◌, sym, subst, length, map, arith, None, option_map}
+use Rattle.std.proofs.Common.{◌≡◌, sym, subst, length, map, arith, None, option_map}
 use Rattle.std.specs.Option.{option_copied}
 use Rattle.std.proofs.lemmas.List.{length-map}
 use Rattle.av_nbt.specs.View.{view}

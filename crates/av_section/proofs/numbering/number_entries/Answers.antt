@@ -1,5 +1,5 @@
 -- There are as many numbers as entries.
-use Rattle.std.proofs.Common.{◌∙◌, ap, length, arith}
+use Rattle.std.proofs.Common.{ap, length, arith}
 use Rattle.av_nbt.specs.View.{view}
 use Rattle.av_nbt.proofs.Each.{each_many}
 use Rattle.av_state.specs.States.{state_of}

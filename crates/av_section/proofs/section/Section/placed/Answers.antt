@@ -1,5 +1,5 @@
 -- Each place has the number of its index.
-use Rattle.std.proofs.Common.{◌≡◌, ◌∙◌, sym, length, arith}
+use Rattle.std.proofs.Common.{◌∙◌, sym, length, arith}
 use Rattle.std.proofs.lemmas.List.{get_or_default}
 use Rattle.av_pack.specs.Packing.{bits_for, unpacked}
 use Rattle.av_section.specs.BlockStates.{all_zero}
