@@ -44,21 +44,21 @@ when_ok (Err x) P e h = absurd (true≢false e)
 
 -- ---- one more turn, one more edit
 
-pub turned_next : (k : ℕ → Kind) (now : ℕ) (es : List Entry) (i : ℕ) (e : Entry) (w v : Land ℕ) → i < length es → e ≡ get_or es i e → v ≡ turned k now e.pos w → turned_all k now (drop i es) w ≡ turned_all k now (drop (i + 1) es) v
-turned_next k now [] i e w v h is to = absurd (omega arith)
-turned_next k now (x ∷ es) zero e w v h is to = ap (turned_all k now es) (ap (λ (y : Entry). turned k now y.pos w) (sym is) ∙ sym to)
-turned_next k now (x ∷ es) (suc i) e w v h is to = let step : suc i + 1 ≡ suc (i + 1) = omega arith in rw step (turned_next k now es i e w v (omega arith) is to)
+pub turned_next : (k : ℕ → Kind) (now : ℕ) (es : List Entry) (i : ℕ) (d : Entry) (w v : Land ℕ) → i < length es → v ≡ turned k now (get_or es i d).pos w → turned_all k now (drop i es) w ≡ turned_all k now (drop (i + 1) es) v
+turned_next k now [] i d w v h to = absurd (omega arith)
+turned_next k now (x ∷ es) zero d w v h to = ap (turned_all k now es) (sym to)
+turned_next k now (x ∷ es) (suc i) d w v h to = let step : suc i + 1 ≡ suc (i + 1) = omega arith in rw step (turned_next k now es i d w v (omega arith) to)
 
 pub passes_at : (p : Entry → Bool) (es : List Entry) (i : ℕ) (e : Entry) → i < length es → e ≡ get_or es i e → list_all p es ≡ true → p e ≡ true
 passes_at p [] i e h is all = absurd (omega arith)
 passes_at p (x ∷ es) zero e h is all = ap p is ∙ (and_parts (p x) (list_all p es) all).0
 passes_at p (x ∷ es) (suc i) e h is all = passes_at p es i e (omega arith) is (and_parts (p x) (list_all p es) all).1
 
-pub edited_next : (k : ℕ → Kind) (now : ℕ) (es : List Edit) (i : ℕ) (e : Edit) (w v : Land ℕ) → i < length es → e ≡ get_or es i e → v ≡ cond (nat_eq e.tick now) (set_in k now e.pos e.number w) w
+pub edited_next : (k : ℕ → Kind) (now : ℕ) (es : List Edit) (i : ℕ) (d : Edit) (w v : Land ℕ) → i < length es → v ≡ cond (nat_eq (get_or es i d).tick now) (set_in k now (get_or es i d).pos (get_or es i d).number w) w
     → edited k now (number_sets (drop i es)) w ≡ edited k now (number_sets (drop (i + 1) es)) v
-edited_next k now [] i e w v h is to = absurd (omega arith)
-edited_next k now (x ∷ es) zero e w v h is to = ap (edited k now (number_sets es)) (ap (λ (y : Edit). cond (nat_eq y.tick now) (set_in k now y.pos y.number w) w) (sym is) ∙ sym to)
-edited_next k now (x ∷ es) (suc i) e w v h is to = let step : suc i + 1 ≡ suc (i + 1) = omega arith in rw step (edited_next k now es i e w v (omega arith) is to)
+edited_next k now [] i d w v h to = absurd (omega arith)
+edited_next k now (x ∷ es) zero d w v h to = ap (edited k now (number_sets es)) (sym to)
+edited_next k now (x ∷ es) (suc i) d w v h to = let step : suc i + 1 ≡ suc (i + 1) = omega arith in rw step (edited_next k now es i d w v (omega arith) to)
 
 pub passes_get : (p : Entry → Bool) (es : List Entry) (i : ℕ) (d : Entry) → i < length es → list_all p es ≡ true → p (get_or es i d) ≡ true
 passes_get p [] i d h all = absurd (omega arith)

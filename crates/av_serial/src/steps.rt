@@ -68,6 +68,7 @@ pub(crate) fn turn_block(
     requires ready { IsReady (kind_count kinds.now) world.old }
     requires loaded { IsTrue ((blocks world.old).loaded pos) }
     ensures done { OnOk result (land_of world.new ≡ turned (kinds_of kinds.now) now pos (land_of world.old)) }
+    ensures undone { OnErr result (land_of world.new ≡ land_of world.old) }
     ensures ready { IsReady (kind_count kinds.now) world.new }
     ensures place { IsSamePlace world.old world.new }
 {

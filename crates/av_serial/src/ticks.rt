@@ -9,6 +9,7 @@ ghost use Rattle.av_world.specs.Views.{is_broken, blocks};
 ghost use Rattle.av_world.specs.Lands.{land_of};
 ghost use Rattle.av_edits.specs.Numbered.{number_sets};
 ghost use Rattle.av_serial.specs.Ready.{IsReady, IsSamePlace, CanApply};
+ghost use Rattle.av_serial.specs.Begun.{AreTurnsBegun, AreEditsBegun};
 
 use crate::steps::{set_block, turn_block};
 use av_edits::Edit;
@@ -20,7 +21,8 @@ use std::alloc::AllocError;
 /// Turns the blocks of some entries in tick `now`, one after the other. The entries themselves are in no list any more.
 ///
 /// # Errors
-/// Where memory is refused, and then only some first blocks are turned.
+/// Where memory is refused, and then only some first blocks are turned, in order, and not all.
+#[tactic(auto, using(crate::proofs::Begun::turns_begun))]
 pub fn turn_all(
     world: &mut World,
     kinds: &Kinds,
@@ -30,6 +32,7 @@ pub fn turn_all(
     requires ready { IsReady (kind_count kinds.now) world.old }
     requires loaded { list_all (λ e. (blocks world.old).loaded e.pos) entries.now ≡ true }
     ensures done { OnOk result (land_of world.new ≡ turned_all (kinds_of kinds.now) now entries.now (land_of world.old)) }
+    ensures begun { OnErr result (AreTurnsBegun (kinds_of kinds.now) now entries.now (land_of world.old) (land_of world.new)) }
     ensures ready { IsReady (kind_count kinds.now) world.new }
     ensures place { IsSamePlace world.old world.new }
 {
@@ -44,6 +47,7 @@ fn apply_now(world: &mut World, kinds: &Kinds, now: u32, edit: &Edit) -> Result<
     requires ready { IsReady (kind_count kinds.now) world.old }
     requires edit { CanApply (kind_count kinds.now) world.old edit.now }
     ensures done { OnOk result (land_of world.new ≡ (if nat_eq edit.now.tick now then set_in (kinds_of kinds.now) now edit.now.pos edit.now.number (land_of world.old) else land_of world.old)) }
+    ensures undone { OnErr result (land_of world.new ≡ land_of world.old) }
     ensures ready { IsReady (kind_count kinds.now) world.new }
     ensures place { IsSamePlace world.old world.new }
 {
@@ -56,12 +60,14 @@ fn apply_now(world: &mut World, kinds: &Kinds, now: u32, edit: &Edit) -> Result<
 /// Applies the edits of tick `now` to a world that is not broken, in order. Those of other ticks change nothing.
 ///
 /// # Errors
-/// `OutOfMemory`, and then only some first edits are applied.
+/// `OutOfMemory`, and then only some first edits are applied, in order, and not all.
+#[tactic(auto, using(crate::proofs::Begun::edits_begun))]
 pub fn apply_all(world: &mut World, kinds: &Kinds, now: u32, edits: &[Edit]) -> Result<(), Fault>
     requires ready { IsReady (kind_count kinds.now) world.old }
     requires sound { is_broken world.old ≡ false }
     requires edits { All (CanApply (kind_count kinds.now) world.old) edits.now }
     ensures done { OnOk result (land_of world.new ≡ edited (kinds_of kinds.now) now (number_sets edits.now) (land_of world.old)) }
+    ensures begun { OnErr result (AreEditsBegun (kinds_of kinds.now) now edits.now (land_of world.old) (land_of world.new)) }
     ensures ready { IsReady (kind_count kinds.now) world.new }
     ensures place { IsSamePlace world.old world.new }
     ensures fault { IfErr result (λ e. e ≡ OutOfMemory) }
