@@ -66,7 +66,7 @@ for x in 5 6 7 8 9 10; do
 done > "$work/lake_edits"
 # 36 entries of two lakes are due in tick 6, more than are turned without a plan.
 run "$top/samples" lakes "$work/lake_edits" 20 1 > /dev/null
-for workers in 2 4 8; do
+for workers in 2 3 5 8; do
   run "$top/samples" "lakes_by_$workers" "$work/lake_edits" 20 "$workers" > /dev/null
   same lakes "lakes_by_$workers"
 done

@@ -6,6 +6,7 @@
 The flat world has stone at y 63 and air elsewhere. The values are worked out by hand from docs/RULE.md, docs/LIGHT.md and
 docs/FORMATS.md. Files are written by make_samples.py and read by the reader of check_rewrite.py, which share nothing.
 """
+import collections
 import itertools
 import os
 import subprocess
@@ -35,6 +36,9 @@ TABLE = "version = 1" + ROWS
 WATER = "minecraft:water[level=0]"
 SLAB = "minecraft:oak_slab[type=bottom,waterlogged=true]"
 SIDES = [(8, 64, 7), (8, 64, 9), (7, 64, 8), (9, 64, 8)]
+
+# The level that a source gives to its sides, and where they are.
+ROUND = [(1, 0, -1), (1, 0, 1), (1, -1, 0), (1, 1, 0)]
 
 # ---------------------------------------------------------------- files
 
@@ -79,6 +83,30 @@ def chunk(x, z, blocks, ticks, more):
 def flat(blocks=(), chunks=((0, 0),), ticks=(), **more):
     """The region (0, 0) of some flat chunks."""
     return make_samples.region_bytes({at: chunk(*at, dict(blocks), ticks, more) for at in chunks})
+
+
+# What a run of many chunks is given, and its water, its other blocks and its kept payload after 6 ticks.
+ManyChunks = collections.namedtuple("ManyChunks", "data edits table wet others kept")
+
+
+def many_chunks():
+    """128 flat chunks, in the order of a region 64 and 64 more, and one that is not full. Each has a block of one of twelve states,
+    so that those of the second 64 are known but for the one of chunk (4, 3), and 8,000 bytes of a tag that is no block. In 64 of them
+    a source is set, whose reach stays in its chunk. The world has two sections."""
+    states = ["minecraft:%s_wool" % color for color in "red blue lime pink gray cyan".split()]
+    states += ["minecraft:oak_log[axis=%s]" % axis for axis in "xyz"]
+    states += ["minecraft:oak_stairs[facing=%s,half=top]" % side for side in ("north", "south", "west")]
+    places = [(x, z) for z in range(4) for x in range(32)]
+    others = {(16 * x + 3, 64, 16 * z + 3): states[(x + z) % 12] for x, z in places}
+    others[16 * 4 + 3, 64, 16 * 3 + 3] = "minecraft:bell"
+    pad = {"pad": Tag(BYTES, bytes(8_000))}
+    chunks = {(x, z): chunk(x, z, others, (), pad) for x, z in places}
+    chunks[0, 4] = make_samples.unfinished_tags(0, 4)
+    sources = [(16 * x + 8, 64, 16 * z + 8) for x, z in places if x % 2 == 0]
+    wet = {(x + dx, y, z + dz): level for x, y, z in sources for level, dx, dz in ((0, 0, 0), *ROUND)}
+    table = "version = 3\nmin_section = 3\nsections = 2\n" + ROWS
+    edits = "".join(edit(1, *at, WATER) for at in sources)
+    return ManyChunks(make_samples.region_bytes(chunks), edits, table, wet, others, make_samples.named("", chunks[0, 4]))
 
 
 # ---------------------------------------------------------------- runs
@@ -126,6 +154,20 @@ class Run:
                         found[pos] = int(dict(tags[b"Properties"][1])[b"level"][1])
         return found
 
+    def others(self):
+        """The blocks that are neither air, stone nor water, and the texts of their states."""
+        found = {}
+        for at in self.chunks:
+            for y, section in self.sections(at).items():
+                for place, state in enumerate(check_rewrite.cells(section)):
+                    tags = dict(state)
+                    name = tags[b"Name"][1].decode()
+                    if name not in ("minecraft:air", "minecraft:stone", "minecraft:water"):
+                        pairs = [(key + b"=" + value).decode() for key, (_, value) in tags.get(b"Properties", (0, ()))[1]]
+                        pos = (16 * at[0] + place % 16, 16 * y + place // 256, 16 * at[1] + place // 16 % 16)
+                        found[pos] = name + ("[%s]" % ",".join(pairs) if pairs else "")
+        return found
+
     def entries(self):
         """x, y, z, t of the entries, and whether each is of still water."""
         found = []
@@ -158,9 +200,8 @@ def spreading(run):
     woken = [(8, 64, 7, 5, False), (8, 64, 8, 5, True), (8, 64, 9, 5, False), (7, 64, 8, 5, False), (9, 64, 8, 5, False)]
     yield "the entries of a turn", woken, six.entries()
     yield "eleven ticks", "chunks 1 turns 6", run(flat(), source, 11).line
-    board = {(x, 64, z): abs(x - 8) + abs(z - 8) for x in range(16) for z in range(16) if abs(x - 8) + abs(z - 8) < 8}
     whole = run(flat(), source, 36)
-    yield "113 blocks by their distance", board, whole.wet()
+    yield "113 blocks by their distance", board(8, 64, 8), whole.wet()
     yield "a run that is stopped", whole.data, run(run(flat(), source, 20).data, "", 16).data
     dried = source + edit(25, 8, 64, 8, "minecraft:air")
     later = run(run(flat(), source, 20).data, edit(5, 8, 64, 8, "minecraft:air"), 16)
@@ -190,6 +231,55 @@ def flowing(run):
     row = run(flat(chunks=[(x, 0) for x in range(4)]), "".join(edit(1, 16 * x + 8, 64, 8, WATER) for x in range(4)), 6)
     beside = {(16 * n + x, y, z): 1 for n in range(4) for x, y, z in SIDES} | {(16 * n + 8, 64, 8): 0 for n in range(4)}
     yield "four chunks in a row", ("chunks 4 turns 4", beside), (row.line, row.wet())
+
+
+def board(x, y, z):
+    """Where a source in the middle of a chunk has spread to after 36 ticks: a block further every 5 ticks, over a floor."""
+    return {(x + dx, y, z + dz): abs(dx) + abs(dz) for dx in range(-7, 8) for dz in range(-7, 8) if abs(dx) + abs(dz) < 8}
+
+
+def parts(run):
+    """Ticks of more than 32 entries, in two parts or more of which none has two thirds."""
+    # 18 sources in each of two sections of a chunk, far enough from each other that none meets another's water
+    sources = [(x, y, z) for x in range(0, 16, 3) for z in (2, 7, 12) for y in (72, 40)]
+    lines = "".join(edit(1, *at, WATER) for at in sources)
+    six = run(flat(), lines, 6)
+    fallen = {at: 0 for at in sources} | {(x, y - 1, z): 8 for x, y, z in sources}
+    yield "36 sources in the air", ("chunks 1 turns 36", fallen), (six.line, six.wet())
+    woken = [entry for x, y, z in sources for entry in ((x, y - 1, z, 5, False), (x, y, z, 5, True))]
+    yield "their entries by their makers' places", woken, six.entries()
+    # then each of the 72 is turned: what fell falls on, and a source that has water below it spreads to its sides
+    eleven = run(flat(), lines, 11)
+    beside = {(x + dx, y, z + dz): 1 for x, y, z in sources for _, dx, dz in ROUND if x + dx in range(16)}
+    yield "and eleven ticks", ("chunks 1 turns 108", fallen | beside | {(x, y - 2, z): 8 for x, y, z in sources}), (eleven.line, eleven.wet())
+
+    # 8 sources on the ground in each of five chunks, whose reaches stay in them
+    sources = [(16 * chunk + x, 64, z) for x in (5, 8) for z in (3, 6, 9, 12) for chunk in range(5)]
+    row = run(flat(chunks=[(x, 0) for x in range(5)]), "".join(edit(1, *at, WATER) for at in sources), 6)
+    spread = {(x + dx, y, z + dz): level for x, y, z in sources for level, dx, dz in ((0, 0, 0), *ROUND)}
+    yield "40 sources in five chunks", ("chunks 5 turns 40", spread), (row.line, row.wet())
+    order = ((0, -1), (0, 0), (0, 1), (-1, 0), (1, 0))
+    woken = [(x + dx, y, z + dz, 5, dx == dz == 0) for x, y, z in sorted(sources, key=lambda at: at[0] // 16) for dx, dz in order]
+    yield "their entries chunk by chunk", woken, row.entries()
+
+    # A board's entries in the ticks 6, 11, .. 36: the source; it and its four sides; and from then on the blocks at the distances
+    # n - 1 and n, which are 4 * (n - 1) and 4 * n.
+    turns = 1 + 5 + 12 + 20 + 28 + 36 + 44
+    yield "a board's turns", "chunks 1 turns %d" % turns, run(flat(), edit(1, 8, 64, 8, WATER), 36).line
+    far = run(flat(chunks=((0, 0), (3, 0))), edit(1, 8, 64, 8, WATER) + edit(1, 56, 64, 8, WATER), 36)
+    yield "two boards far from each other", ("chunks 2 turns %d" % (2 * turns), board(8, 64, 8) | board(56, 64, 8)), (far.line, far.wet())
+    floor = {(x, 31, z): "minecraft:stone" for x in range(16) for z in range(16)}
+    both = run(flat(floor), edit(1, 8, 64, 8, WATER) + edit(1, 8, 32, 8, WATER), 36)
+    yield "two boards of one chunk", ("chunks 1 turns %d" % (2 * turns), board(8, 64, 8) | board(8, 32, 8)), (both.line, both.wet())
+
+
+def many(run):
+    """More chunks than are read together, of more states than each run begins with."""
+    world = many_chunks()
+    after = run(world.data, world.edits, 6, table=world.table)
+    yield "128 chunks", ("chunks 128 turns 64", world.wet), (after.line, after.wet())
+    yield "their other blocks", world.others, after.others()
+    yield "and the one that is kept", world.kept, after.payloads[128]
 
 
 def entries(run):
@@ -347,7 +437,7 @@ def main():
                 print("by other workers: expected %s, found %s" % (shown(first.answer()), shown(other.answer())))
         return first
 
-    for examples in (spreading, flowing, entries, soaked, light, heights, refusals, without_chunks, judging, crowding):
+    for examples in (spreading, flowing, parts, many, entries, soaked, light, heights, refusals, without_chunks, judging, crowding):
         for what, want, got in examples(run):
             asked += 1
             if want != got:
