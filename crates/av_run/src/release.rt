@@ -3,6 +3,7 @@
 use av_chunk::Chunk;
 use av_image::{RegionRest, Rest, Slot};
 use av_world::World;
+use rayon::current_num_threads;
 use rayon::prelude::*;
 use std::thread::Threads;
 
@@ -19,22 +20,30 @@ fn is_large(region: &RegionRest) -> bool {
     loaded >= 2 * CHUNKS_A_THREAD
 }
 
-/// Gives the memory of a world and its rest back by as many threads as there are processors: a chunk's tags and sections are
-/// hundreds of small blocks each, and one thread would be busy with them for longer than all are with the light.
+/// How many of so many things a thread gives back at least: then there are at most as many pieces as processors.
+fn piece_len(rt: &impl Threads, count: usize) -> usize {
+    count.div_ceil(current_num_threads(rt)).max(CHUNKS_A_THREAD)
+}
+
+/// Gives the memory of a world and its rest back by at most as many threads as there are processors, the calling one among
+/// them, at a time: a chunk's tags and sections are hundreds of small blocks each, and one thread would be busy with them for
+/// longer than all are with the light.
 pub(crate) fn release(rt: &(impl Threads + Sync), world: World, rest: Rest) {
-    world
-        .into_chunks()
+    let chunks = world.into_chunks();
+    let least = piece_len(rt, chunks.len());
+    chunks
         .into_par_iter()
-        .with_min_len(CHUNKS_A_THREAD)
+        .with_min_len(least)
         .for_each(rt, |chunk: Chunk| drop(chunk));
     for region in rest.regions {
         if !is_large(&region) {
             continue;
         }
+        let least = piece_len(rt, region.slots.len());
         region
             .slots
             .into_par_iter()
-            .with_min_len(CHUNKS_A_THREAD)
+            .with_min_len(least)
             .for_each(rt, |slot: Slot| drop(slot));
     }
 }
