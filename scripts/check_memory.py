@@ -3,6 +3,9 @@
 answers want of memory, or exactly what it answers when nothing is refused. Want of memory for the path of a file that is to be
 written counts as a write that failed. Where memory is refused in a tick, the world then answers 26 to each call.
 
+Of a run of many chunks, whose threads read chunks ahead and give memory back, each start of a thread is refused in turn, and every
+STEP-th growth.
+
     scripts/check_memory.py PROGRAM BENCH   as crates/av_main/out/av_main and crates/av_bench/out/av_bench
 
 A growth is a call of malloc or realloc, or the start of a thread. They are refused by refuse.c, which the C compiler makes a
@@ -16,7 +19,10 @@ import tempfile
 from concurrent.futures import ThreadPoolExecutor
 
 sys.dont_write_bytecode = True
-from check_worlds import TABLE, WATER, edit, flat
+from check_worlds import TABLE, WATER, edit, flat, many_chunks
+
+# A run of many chunks has some ten thousand growths: this many are passed over from one that is refused to the next.
+STEP = 499
 
 REFUSALS = [("", "fault 01: OutOfMemory", 1), ("", "fault 25: Device r.0.0.mca", 1)]
 
@@ -26,11 +32,11 @@ BROKEN = ("fault 1; apply 26, tick 26, crew 26, carve 26, light 26, save 26", ""
 ENDED = [("", "Error: fault 01: OutOfMemory", 1), ("", "Error: out of memory", 1)]
 
 
-def answer_of(library, call, words, folder):
+def answer_of(library, call, words, folder, refuse="REFUSE"):
     """What these words answer where this growth is refused, and whether there was one to refuse."""
     told, tell = os.pipe()
     done = subprocess.run(words, cwd=folder, capture_output=True, text=True, pass_fds=(tell,),
-                          env={"LD_PRELOAD": library, "REFUSE": str(call), "REFUSED_TO": str(tell)})
+                          env={"LD_PRELOAD": library, refuse: str(call), "REFUSED_TO": str(tell)})
     os.close(tell)
     refused = os.read(told, 1) != b""
     os.close(told)
@@ -38,13 +44,13 @@ def answer_of(library, call, words, folder):
 
 
 class Run:
-    """A run of a flat world, whose growths can be refused."""
+    """A run of a flat world, whose growths can be refused, or the starts of its threads alone."""
 
-    def __init__(self, program, library, work, data, edits, workers):
-        self.program, self.library, self.work, self.workers = program, library, work, workers
+    def __init__(self, program, library, work, data, edits, workers, table=TABLE, refuse="REFUSE"):
+        self.program, self.library, self.work, self.workers, self.refuse = program, library, work, workers, refuse
         os.mkdir(work)
         os.mkdir(os.path.join(work, "in"))
-        for name, content in (("in/r.0.0.mca", data), ("table", TABLE.encode()), ("edits", edits.encode())):
+        for name, content in (("in/r.0.0.mca", data), ("table", table.encode()), ("edits", edits.encode())):
             with open(os.path.join(work, name), "wb") as file:
                 file.write(content)
 
@@ -54,7 +60,7 @@ class Run:
         os.mkdir(out)
         words = [self.program, "run", "--in", "in", "--out", out, "--table", "table", "--edits", "edits", "--ticks", "6",
                  "--workers", str(self.workers)]
-        answer, refused = answer_of(self.library, call, words, self.work)
+        answer, refused = answer_of(self.library, call, words, self.work, self.refuse)
         files = {name: open(os.path.join(out, name), "rb").read() for name in os.listdir(out)}
         shutil.rmtree(out)
         return (answer, files), refused
@@ -70,27 +76,29 @@ class Ticks:
         return answer_of(self.library, call, [self.bench, "refuse", str(self.workers)], self.work)
 
 
-def answers(case):
-    """Each answer until nothing was left to refuse."""
+def answers(case, step=1):
+    """Each answer until nothing was left to refuse, where every step-th is refused in turn."""
     with ThreadPoolExecutor(os.cpu_count()) as pool:
         first = 1
         while True:
-            for answer, refused in pool.map(case.ask, range(first, first + 64)):
+            last = first + 64 * step
+            for answer, refused in pool.map(case.ask, range(first, last, step)):
                 if not refused:
                     return
                 yield answer
-            first += 64
+            first = last
 
 
-def check_run(name, line, case):
+def check_run(name, line, case, step=1):
     """How many growths of a run were refused, and how many of the answers are wrong. With none refused it answers the line."""
     whole, _ = case.ask(0)
     asked = wrong = 0
-    for answer in answers(case):
+    for answer in answers(case, step):
         asked += 1
         if answer != whole and (answer[0] not in REFUSALS or answer[1]):
             wrong += 1
-            print("growth %d of a run with %s: %s and the files %s" % (asked, name, answer[0], list(answer[1])))
+            growth = 1 + step * (asked - 1)
+            print("growth %d of a run with %s: %s and the files %s" % (growth, name, answer[0], list(answer[1])))
     if whole[0] != (line, "", 0) or list(whole[1]) != ["r.0.0.mca"] or asked == 0:
         wrong += 1
         print("a run with %s: %s and the files %s, and %d growths refused" % (name, whole[0], list(whole[1]), asked))
@@ -113,17 +121,25 @@ def check_ticks(name, case):
     return asked, wrong
 
 
-def main():
-    program, bench = map(os.path.abspath, sys.argv[1:])
+def refusing(work):
+    """The library that refuses growths, made in a folder. None where there is no C compiler."""
     compiler = shutil.which("cc")
     if compiler is None:
-        print("0 asked of refused growths: there is no C compiler")
-        return
+        return None
+    library = os.path.join(work, "refuse.so")
+    source = os.path.join(os.path.dirname(os.path.abspath(__file__)), "refuse.c")
+    subprocess.run([compiler, "-shared", "-fPIC", "-O1", source, "-o", library, "-ldl"], check=True)
+    return library
+
+
+def main():
+    program, bench = map(os.path.abspath, sys.argv[1:])
     counts = []
     with tempfile.TemporaryDirectory() as work:
-        library = os.path.join(work, "refuse.so")
-        source = os.path.join(os.path.dirname(os.path.abspath(__file__)), "refuse.c")
-        subprocess.run([compiler, "-shared", "-fPIC", "-O1", source, "-o", library, "-ldl"], check=True)
+        library = refusing(work)
+        if library is None:
+            print("0 asked of refused growths: there is no C compiler")
+            return
         source = edit(1, 8, 64, 8, WATER)
         one_chunk = edit(1, 8, 72, 8, WATER) + edit(1, 8, 40, 8, WATER)
         # more entries than are turned without a plan
@@ -135,6 +151,11 @@ def main():
                 ("two parts of many entries", "chunks 1 turns 36", flat(), lakes, 2)):
             folder = os.path.join(work, name.replace(" ", "_"))
             counts.append(check_run(name, line, Run(program, library, folder, data, edits, workers)))
+        world = many_chunks()
+        for name, refuse, step in (("many chunks", "REFUSE", STEP), ("many chunks and threads", "REFUSE_START", 1)):
+            folder = os.path.join(work, name.replace(" ", "_"))
+            case = Run(program, library, folder, world.data, world.edits, 2, world.table, refuse)
+            counts.append(check_run(name, "chunks 128 turns 64", case, step))
         for name, workers in (("one thread", 0), ("one worker", 1), ("two workers", 2)):
             counts.append(check_ticks(name, Ticks(bench, library, work, workers)))
     asked, wrong = map(sum, zip(*counts))
