@@ -1,4 +1,4 @@
--- A tick's parts brought together, before what they made is appended. Working definitions: no public clause cites them.
+-- A tick's parts brought together, before what they made is appended. Of public clauses that of `turn_parts` alone cites them.
 use Rattle.std.specs.Prelude.{◌≡◌, ℕ, List, IsTrue}
 use Rattle.std.specs.List.{AllByRecursion}
 use Rattle.av_types.specs.declared.tick.Entry.{Entry}

@@ -1,4 +1,4 @@
--- Parts of a tick with their sections, as they are carved. Working definitions: no public clause cites them.
+-- Parts of a tick with their sections, as they are carved. Of public clauses those of `carve_all`, `mend_all` and `turn_parts` alone cite them.
 use Rattle.std.specs.Prelude.{◌≡◌, ℕ, List, [], Bool, false, IsTrue, ◌↔◌, All}
 use Rattle.std.specs.List.{AllPairs}
 use Rattle.av_types.specs.declared.place.SectionPos.{SectionPos}

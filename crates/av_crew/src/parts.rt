@@ -35,6 +35,10 @@ fn carve_one(world: &mut World, cluster: Cluster, number: u32) -> Result<Job, Al
 }
 
 /// Carves a parcel for each part, as the job of its number.
+///
+/// # Errors
+/// `OutOfMemory`, and then only some first parts are carved: `jobs` has their sections, and the world, which does not turn
+/// broken by it, has all others.
 pub fn carve_all(
     world: &mut World,
     clusters: Vec<Cluster>,
@@ -89,7 +93,8 @@ fn either(first: bool, second: bool) -> bool
     first || second
 }
 
-/// Mends all parcels, and says whether memory was refused to one of the workers.
+/// Mends all parcels, and says whether memory was refused to one of the workers. Then some parts are mended of which only
+/// some first entries were turned.
 pub fn mend_all(world: &mut World, dones: Vec<Done>, made: &mut Vec<Vec<Made>>) -> bool
     requires parts { All (λ d. IsPartIn world.old d.parcel) dones.items }
     requires room { vec_len made.old + vec_len dones ≤ vec_capacity made.old }

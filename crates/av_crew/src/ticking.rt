@@ -23,6 +23,11 @@ use std::thread::Threads;
 
 /// Turns the parts of a tick in parcels of their own, and mends them. The answer is what was made, in the order in
 /// which it is to be appended.
+///
+/// # Errors
+/// `OutOfMemory`, also where a worker can't be started. Then sections of the parts can be gone from the world, or parts be
+/// turned of which nothing is appended, and the world does not turn broken by it: whoever calls this gives it up, as `tick`
+/// does. Its lists, and the blocks of all other sections, are as before.
 pub fn turn_parts<R: Threads + Wait + Sync, G: Gate + Sync>(
     rt: &R,
     world: &mut World,
