@@ -1,5 +1,6 @@
 //! A digest of results, in their order.
 use av_sink::RegionFile;
+use av_types::RegionPos;
 
 /// A number that depends on all that was added.
 #[derive(Clone, Copy, Default)]
@@ -26,9 +27,16 @@ impl Digest {
         self.add(bytes.len() as u64);
     }
 
-    /// Adds files.
+    /// Adds where a region lies.
+    pub(crate) fn add_region(&mut self, pos: RegionPos) {
+        self.add(u64::from(pos.x.cast_unsigned()));
+        self.add(u64::from(pos.z.cast_unsigned()));
+    }
+
+    /// Adds files and their regions.
     pub(crate) fn add_files(&mut self, files: &[RegionFile]) {
         for file in files {
+            self.add_region(file.pos);
             self.add_bytes(file.bytes.as_slice());
         }
     }
