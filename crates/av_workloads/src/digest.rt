@@ -33,8 +33,9 @@ impl Digest {
         self.add(u64::from(pos.z.cast_unsigned()));
     }
 
-    /// Adds files and their regions.
+    /// Adds how many files there are, and each with its region.
     pub(crate) fn add_files(&mut self, files: &[RegionFile]) {
+        self.add(files.len() as u64);
         for file in files {
             self.add_region(file.pos);
             self.add_bytes(file.bytes.as_slice());
