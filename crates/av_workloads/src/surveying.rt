@@ -68,6 +68,7 @@ fn add_blocks(
 fn add_findings(digest: &mut Digest, findings: &[Finding]) {
     digest.add(findings.len() as u64);
     for finding in findings {
+        digest.add_region(finding.region);
         digest.add(u64::from(finding.fault.number()));
         if let Some(chunk) = finding.chunk {
             digest.add(u64::from(chunk.x.cast_unsigned()));
