@@ -1,6 +1,6 @@
 //! A digest of results, in their order.
 use av_sink::RegionFile;
-use av_types::RegionPos;
+use av_types::{ChunkPos, Fault, RegionPos};
 
 /// A number that depends on all that was added.
 #[derive(Clone, Copy, Default)]
@@ -31,6 +31,26 @@ impl Digest {
     pub(crate) fn add_region(&mut self, pos: RegionPos) {
         self.add(u64::from(pos.x.cast_unsigned()));
         self.add(u64::from(pos.z.cast_unsigned()));
+    }
+
+    /// Adds where a chunk lies.
+    pub(crate) fn add_chunk(&mut self, pos: ChunkPos) {
+        self.add(u64::from(pos.x.cast_unsigned()));
+        self.add(u64::from(pos.z.cast_unsigned()));
+    }
+
+    /// Adds a fault's number, and what it carries.
+    pub(crate) fn add_fault(&mut self, fault: &Fault) {
+        self.add(u64::from(fault.number()));
+        match fault {
+            Fault::Compression(kind) => self.add(u64::from(*kind)),
+            Fault::BadEdit(line) | Fault::EditTick(line) | Fault::EditOutside(line) => {
+                self.add(*line);
+            }
+            Fault::ChunkTooLarge(pos) => self.add_chunk(*pos),
+            Fault::Device(name) => self.add_bytes(name.as_bytes()),
+            _ => {}
+        }
     }
 
     /// Adds how many files there are, and each with its region.

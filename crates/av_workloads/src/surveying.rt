@@ -31,7 +31,7 @@ fn add_block(
         Ok(None) => digest.add(0),
         Ok(Some(state)) => add_state(digest, &state),
         Err(Fault::OutOfMemory) => return Err(Fault::OutOfMemory),
-        Err(fault) => digest.add(u64::from(fault.number())),
+        Err(fault) => digest.add_fault(&fault),
     }
     Ok(())
 }
@@ -69,10 +69,9 @@ fn add_findings(digest: &mut Digest, findings: &[Finding]) {
     digest.add(findings.len() as u64);
     for finding in findings {
         digest.add_region(finding.region);
-        digest.add(u64::from(finding.fault.number()));
+        digest.add_fault(&finding.fault);
         if let Some(chunk) = finding.chunk {
-            digest.add(u64::from(chunk.x.cast_unsigned()));
-            digest.add(u64::from(chunk.z.cast_unsigned()));
+            digest.add_chunk(chunk);
         }
     }
 }
