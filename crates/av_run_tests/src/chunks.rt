@@ -1,13 +1,16 @@
 //! Several chunks, their light, and other heights than the game's.
+use crate::gates::Counting;
 use crate::given::{
-    Given, at, expect, expect_by, file_after, flat, flows, only_file, run_region, springs,
-    table_with, wet,
+    Given, at, expect, expect_by, file_after, flat, flows, one_region, only_file, run_gated,
+    springs, table_with, wet,
 };
+use av_crew::{Gate, NoGate};
 use av_image_tests::flat::Block::{Glowstone, Water};
 use av_image_tests::flat::{Block, Flat, flat_region, up_to_light};
 use av_region::Region;
 use av_types::{ChunkPos, Height, Pos};
 use std::alloc::Global;
+use std::process::Abort;
 use std::sync::Wait;
 use std::test::Fail;
 use std::thread::Threads;
@@ -48,35 +51,53 @@ fn water_in_two_chunks(rt: HostRuntime) -> Result<(), Fail> {
     expect(&rt, rt.alloc(), flat(&[], &[]), TWO, (6, 2, 2), after)
 }
 
-/// The chunks, the turns and the file after six ticks of three sources, with so many workers.
-fn by_workers(
+/// The chunks, the turns and the file after six ticks of two chunks with these edits, with so many workers and a gate.
+fn by_workers<G: Gate + Sync>(
     rt: &(impl Threads + Wait + Sync),
     alloc: Global,
+    edits: &str,
     workers: u32,
+    gate: &G,
 ) -> Result<(u64, u128, Vec<u8>), Fail> {
     let table = table_with(alloc, "version = 1")?;
     let given = Given {
         table: table.as_slice(),
-        edits: THREE,
+        edits,
         ticks: 6,
         workers,
     };
-    let outcome = run_region(rt, alloc, flat_region(alloc, flat(&[], &[]), 2)?, given)?;
+    let files = one_region(alloc, flat_region(alloc, flat(&[], &[]), 2)?)?;
+    let outcome = run_gated(rt, alloc, files, given, gate)?;
     Ok((outcome.chunks, outcome.turns, only_file(outcome)?))
 }
 
-/// A third source by the edge of two chunks, with each number of workers.
-#[test]
-fn workers_make_no_difference(rt: HostRuntime) -> Result<(), Fail> {
-    let alone = by_workers(&rt, rt.alloc(), 1)?;
-    assert_eq!(rt; (alone.0, alone.1), (2, 3));
-    for workers in [2, 8] {
-        assert!(rt;
-            by_workers(&rt, rt.alloc(), workers)? == alone,
-            "{workers} workers"
-        );
+/// These edits lead to so many turns and to the same file by one, two and eight workers: on the world itself, and as so many jobs
+/// for a gate that watches.
+fn expect_same(
+    rt: &(impl Abort + Threads + Wait + Sync),
+    alloc: Global,
+    edits: &str,
+    turns: u128,
+    jobs: u64,
+) -> Result<(), Fail> {
+    let alone = by_workers(rt, alloc, edits, 1, &NoGate)?;
+    assert_eq!(rt; (alone.0, alone.1), (2, turns));
+    for workers in [1, 2, 8] {
+        let same = by_workers(rt, alloc, edits, workers, &NoGate)? == alone;
+        assert!(rt; same, "{workers} workers");
+        let gate = Counting::of(true);
+        let same = by_workers(rt, alloc, edits, workers, &gate)? == alone;
+        assert!(rt; same, "{workers} workers and a gate");
+        assert_eq!(rt; gate.count(), jobs, "{workers} workers");
     }
     Ok(())
+}
+
+/// Two sources, which are parts of their own, and with a third one by the edge of their chunks, which makes them one part.
+#[test]
+fn workers_make_no_difference(rt: HostRuntime) -> Result<(), Fail> {
+    expect_same(&rt, rt.alloc(), TWO, 2, 2)?;
+    expect_same(&rt, rt.alloc(), THREE, 3, 1)
 }
 
 /// The byte of a chunk's light with the blocks of these places, in the section of y 64.

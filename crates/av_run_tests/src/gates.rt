@@ -1,9 +1,8 @@
 //! A run hands its gate and its number of workers on to its ticks.
-use crate::given::{flat, only_file, table_with};
+use crate::given::{Given, flat, one_region, only_file, run_gated, table_with};
 use av_crew::{Done, Gate, Job, NoGate};
 use av_image_tests::flat::flat_region;
-use av_run::{Outcome, RegionFile, run};
-use av_types::RegionPos;
+use av_run::Outcome;
 use std::alloc::Global;
 use std::sync::Wait;
 use std::sync::atomic::AtomicU64;
@@ -64,6 +63,43 @@ impl Gate for Meeting {
     }
 }
 
+/// Counts the jobs that it is told of, whether it has to be told or not.
+#[derive(Drop)]
+pub struct Counting {
+    watching: bool,
+    told: AtomicU64,
+}
+
+impl Counting {
+    pub fn of(watching: bool) -> Counting {
+        Counting {
+            watching,
+            told: AtomicU64::new(0),
+        }
+    }
+
+    /// How many jobs it was told of.
+    pub fn count(&self) -> u64 {
+        self.told.load(SeqCst)
+    }
+}
+
+impl Gate for Counting {
+    ghost saw_job = { λ _ _. Unit {0} };
+
+    ghost saw_done = { λ _ _. Unit {0} };
+
+    fn watches(&self) -> bool {
+        self.watching
+    }
+
+    fn before(&self, _job: &Job) {
+        self.told.fetch_add(1, SeqCst);
+    }
+
+    fn after(&self, _done: &Done) {}
+}
+
 /// Six ticks of two flat chunks.
 fn ran<G: Gate + Sync>(
     rt: &(impl Threads + Wait + Sync),
@@ -72,12 +108,14 @@ fn ran<G: Gate + Sync>(
     gate: &G,
 ) -> Result<Outcome, Fail> {
     let table = table_with(alloc, "version = 1")?;
-    let pos = RegionPos { x: 0, z: 0 };
-    let bytes = flat_region(alloc, flat(&[], &[]), 2)?;
-    let mut files = Vec::new(alloc);
-    files.push(RegionFile { pos, bytes })?;
-    let edits = EDITS.as_bytes();
-    Ok(run(rt, alloc, files, table.as_slice(), edits, 6, workers, gate)?)
+    let given = Given {
+        table: table.as_slice(),
+        edits: EDITS,
+        ticks: 6,
+        workers,
+    };
+    let files = one_region(alloc, flat_region(alloc, flat(&[], &[]), 2)?)?;
+    Ok(run_gated(rt, alloc, files, given, gate)?)
 }
 
 /// Each of the two jobs of tick 6 is held until the other has come, which takes two workers. The file is that of one

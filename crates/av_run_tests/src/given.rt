@@ -1,6 +1,6 @@
 //! Runs of flat worlds, and what they must answer.
 use av_chunk::block_at;
-use av_crew::NoGate;
+use av_crew::{Gate, NoGate};
 use av_image_tests::flat::Block::Water;
 use av_image_tests::flat::{Block, Flat, Waiting, flat_region};
 use av_run::{Outcome, RegionFile, run};
@@ -43,12 +43,13 @@ pub struct Given<'a> {
     pub workers: u32,
 }
 
-/// A run. All runs of these tests go through this call.
-pub fn run_files(
+/// A run with a gate. All runs of these tests go through this call.
+pub fn run_gated<G: Gate + Sync>(
     rt: &(impl Threads + Wait + Sync),
     alloc: Global,
     files: Vec<RegionFile>,
     given: Given<'_>,
+    gate: &G,
 ) -> Result<Outcome, Fault> {
     let Given {
         table,
@@ -64,8 +65,26 @@ pub fn run_files(
         edits.as_bytes(),
         ticks,
         workers,
-        &NoGate,
+        gate,
     )
+}
+
+/// A run without a gate.
+pub fn run_files(
+    rt: &(impl Threads + Wait + Sync),
+    alloc: Global,
+    files: Vec<RegionFile>,
+    given: Given<'_>,
+) -> Result<Outcome, Fault> {
+    run_gated(rt, alloc, files, given, &NoGate)
+}
+
+/// The file of the region (0, 0).
+pub fn one_region(alloc: Global, bytes: Vec<u8>) -> Result<Vec<RegionFile>, AllocError> {
+    let mut files = Vec::new(alloc);
+    let pos = RegionPos { x: 0, z: 0 };
+    files.push(RegionFile { pos, bytes })?;
+    Ok(files)
 }
 
 /// A run of the region (0, 0).
@@ -75,10 +94,7 @@ pub fn run_region(
     bytes: Vec<u8>,
     given: Given<'_>,
 ) -> Result<Outcome, Fault> {
-    let mut files = Vec::new(alloc);
-    let pos = RegionPos { x: 0, z: 0 };
-    files.push(RegionFile { pos, bytes })?;
-    run_files(rt, alloc, files, given)
+    run_files(rt, alloc, one_region(alloc, bytes)?, given)
 }
 
 /// The one file of an outcome.

@@ -10,6 +10,8 @@ mod given;
 #[cfg(test)]
 mod inputs;
 #[cfg(test)]
+mod parts;
+#[cfg(test)]
 mod refusals;
 #[cfg(test)]
 mod stops;
