@@ -19,7 +19,7 @@ import tempfile
 from concurrent.futures import ThreadPoolExecutor
 
 sys.dont_write_bytecode = True
-from check_worlds import TABLE, WATER, edit, flat, many_chunks
+from flat_runs import TABLE, WATER, edit, flat, many_chunks
 
 # A run of many chunks has some ten thousand growths: this many are passed over from one that is refused to the next.
 STEP = 499

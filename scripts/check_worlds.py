@@ -4,190 +4,16 @@
     scripts/check_worlds.py PROGRAM         as crates/av_main/out/av_main
 
 The flat world has stone at y 63 and air elsewhere. The values are worked out by hand from docs/RULE.md, docs/LIGHT.md and
-docs/FORMATS.md. Files are written by make_samples.py and read by the reader of check_rewrite.py, which share nothing.
+docs/FORMATS.md.
 """
-import collections
 import itertools
 import os
-import subprocess
 import sys
-import tempfile
 
 sys.dont_write_bytecode = True
-import check_rewrite
 import make_samples
+from flat_runs import ROUND, ROWS, SIDES, SLAB, SLABS, WATER, Run, chunk, edit, flat, many_chunks, state_tags, tick_tags
 from make_samples import BYTE, BYTES, INT, LIST, LONGS, Tag, compound, compounds
-
-ROWS = """
-[[block]]
-name = "minecraft:stone"
-open = false
-floor = true
-opacity = 15
-emission = 0
-[[block]]
-name = "minecraft:glowstone"
-open = false
-floor = true
-opacity = 15
-emission = 15
-"""
-TABLE = "version = 1" + ROWS
-WATER = "minecraft:water[level=0]"
-SLAB = "minecraft:oak_slab[type=bottom,waterlogged=true]"
-SIDES = [(8, 64, 7), (8, 64, 9), (7, 64, 8), (9, 64, 8)]
-
-# The level that a source gives to its sides, and where they are.
-ROUND = [(1, 0, -1), (1, 0, 1), (1, -1, 0), (1, 1, 0)]
-
-# ---------------------------------------------------------------- files
-
-
-def state_tags(text):
-    name, _, rest = text.partition("[")
-    tags = {"Name": Tag(make_samples.TEXT, name)}
-    if rest:
-        pairs = [pair.split("=") for pair in rest[:-1].split(",")]
-        tags["Properties"] = Tag(make_samples.COMPOUND, {key: Tag(make_samples.TEXT, value) for key, value in pairs})
-    return tags
-
-
-def section_tags(y, cells):
-    """A section of some cells, given by their places, with air elsewhere."""
-    palette = list(dict.fromkeys(["minecraft:air", *cells.values()]))
-    bits = max(4, (len(palette) - 1).bit_length())
-    indices = [palette.index(cells.get(place, "minecraft:air")) for place in range(4096)]
-    tags = {"palette": Tag(LIST, (make_samples.COMPOUND, [state_tags(text) for text in palette]))}
-    if len(palette) > 1:
-        tags["data"] = Tag(LONGS, make_samples.pack(indices, bits))
-    return {"Y": Tag(BYTE, y), "block_states": Tag(make_samples.COMPOUND, tags)}
-
-
-def tick_tags(x, y, z, due):
-    tags = {"i": Tag(make_samples.TEXT, "minecraft:water")}
-    return {**tags, **{name: Tag(INT, value) for name, value in zip("xyztp", (x, y, z, due, 0))}}
-
-
-def chunk(x, z, blocks, ticks, more):
-    """A full chunk of the flat world with some other blocks."""
-    cells = {(16 * x + i % 16, 63, 16 * z + i // 16): "minecraft:stone" for i in range(256)}
-    cells |= {at: text for at, text in blocks.items() if (at[0] >> 4, at[2] >> 4) == (x, z)}
-    sections = {}
-    for (bx, by, bz), text in cells.items():
-        sections.setdefault(by >> 4, {})[256 * (by & 15) + 16 * (bz & 15) + (bx & 15)] = text
-    return compound(xPos=Tag(INT, x), zPos=Tag(INT, z), Status=Tag(make_samples.TEXT, "full"),
-                    sections=compounds([section_tags(y, sections[y]) for y in sorted(sections)]),
-                    fluid_ticks=compounds([tick_tags(*tick) for tick in ticks]), **more)
-
-
-def flat(blocks=(), chunks=((0, 0),), ticks=(), **more):
-    """The region (0, 0) of some flat chunks."""
-    return make_samples.region_bytes({at: chunk(*at, dict(blocks), ticks, more) for at in chunks})
-
-
-# What a run of many chunks is given, and its water, its other blocks and its kept payload after 6 ticks.
-ManyChunks = collections.namedtuple("ManyChunks", "data edits table wet others kept")
-
-
-def many_chunks():
-    """128 flat chunks, in the order of a region 64 and 64 more, and one that is not full. Each has a block of one of twelve states,
-    so that those of the second 64 are known but for the one of chunk (4, 3), and 8,000 bytes of a tag that is no block. In 64 of them
-    a source is set, whose reach stays in its chunk. The world has two sections."""
-    states = ["minecraft:%s_wool" % color for color in "red blue lime pink gray cyan".split()]
-    states += ["minecraft:oak_log[axis=%s]" % axis for axis in "xyz"]
-    states += ["minecraft:oak_stairs[facing=%s,half=top]" % side for side in ("north", "south", "west")]
-    places = [(x, z) for z in range(4) for x in range(32)]
-    others = {(16 * x + 3, 64, 16 * z + 3): states[(x + z) % 12] for x, z in places}
-    others[16 * 4 + 3, 64, 16 * 3 + 3] = "minecraft:bell"
-    pad = {"pad": Tag(BYTES, bytes(8_000))}
-    chunks = {(x, z): chunk(x, z, others, (), pad) for x, z in places}
-    chunks[0, 4] = make_samples.unfinished_tags(0, 4)
-    sources = [(16 * x + 8, 64, 16 * z + 8) for x, z in places if x % 2 == 0]
-    wet = {(x + dx, y, z + dz): level for x, y, z in sources for level, dx, dz in ((0, 0, 0), *ROUND)}
-    table = "version = 3\nmin_section = 3\nsections = 2\n" + ROWS
-    edits = "".join(edit(1, *at, WATER) for at in sources)
-    return ManyChunks(make_samples.region_bytes(chunks), edits, table, wet, others, make_samples.named("", chunks[0, 4]))
-
-
-# ---------------------------------------------------------------- runs
-
-
-class Run:
-    """What the program printed and wrote for the region (0, 0). Other files of the folder are given by their names."""
-
-    def __init__(self, program, data, edits="", ticks=0, *, workers, table=TABLE, others=()):
-        with tempfile.TemporaryDirectory() as work:
-            for name in ("in", "out"):
-                os.mkdir(os.path.join(work, name))
-            named = [("in/" + name, content) for name, content in dict(others).items()]
-            for name, content in [("in/r.0.0.mca", data), ("table", table.encode()), ("edits", edits.encode()), *named]:
-                with open(os.path.join(work, name), "wb") as file:
-                    file.write(content)
-            words = [program, "run", "--in", "in", "--out", "out", "--table", "table", "--edits", "edits",
-                     "--ticks", str(ticks), "--workers", str(workers)]
-            done = subprocess.run(words, cwd=work, capture_output=True, text=True)
-            self.line, self.fault = done.stdout.strip(), done.stderr.strip()
-            self.path = os.path.join(work, "out", "r.0.0.mca")
-            self.data = open(self.path, "rb").read() if os.path.exists(self.path) else None
-            self.chunks = {}
-            if self.data is not None:
-                self.payloads, self.stamps = check_rewrite.region(self.path)
-                for index, payload in enumerate(self.payloads):
-                    if payload is not None:
-                        self.chunks[index % 32, index // 32] = dict(check_rewrite.document(payload)[1])
-
-    def answer(self):
-        return self.line, self.fault, self.data
-
-    def sections(self, at):
-        return {dict(section)[b"Y"][1]: section for section in self.chunks[at][b"sections"][1][1]}
-
-    def wet(self):
-        """The blocks of water, and the text of their level."""
-        found = {}
-        for at in self.chunks:
-            for y, section in self.sections(at).items():
-                for place, state in enumerate(check_rewrite.cells(section)):
-                    tags = dict(state)
-                    if tags[b"Name"][1] == b"minecraft:water":
-                        pos = (16 * at[0] + place % 16, 16 * y + place // 256, 16 * at[1] + place // 16 % 16)
-                        found[pos] = int(dict(tags[b"Properties"][1])[b"level"][1])
-        return found
-
-    def others(self):
-        """The blocks that are neither air, stone nor water, and the texts of their states."""
-        found = {}
-        for at in self.chunks:
-            for y, section in self.sections(at).items():
-                for place, state in enumerate(check_rewrite.cells(section)):
-                    tags = dict(state)
-                    name = tags[b"Name"][1].decode()
-                    if name not in ("minecraft:air", "minecraft:stone", "minecraft:water"):
-                        pairs = [(key + b"=" + value).decode() for key, (_, value) in tags.get(b"Properties", (0, ()))[1]]
-                        pos = (16 * at[0] + place % 16, 16 * y + place // 256, 16 * at[1] + place // 16 % 16)
-                        found[pos] = name + ("[%s]" % ",".join(pairs) if pairs else "")
-        return found
-
-    def entries(self):
-        """x, y, z, t of the entries, and whether each is of still water."""
-        found = []
-        for at in sorted(self.chunks, key=lambda at: (at[1], at[0])):
-            for entry in self.chunks[at][b"fluid_ticks"][1][1]:
-                tags = dict(entry)
-                found.append((*(tags[name][1] for name in (b"x", b"y", b"z", b"t")), tags[b"i"][1] == b"minecraft:water"))
-        return found
-
-    def light(self, at, y):
-        return dict(self.sections(at)[y])[b"BlockLight"][1]
-
-    def light_at(self, x, y, z):
-        place = 256 * (y & 15) + 16 * (z & 15) + (x & 15)
-        return self.light((x >> 4, z >> 4), y >> 4)[place // 2] >> 4 * (place % 2) & 15
-
-
-def edit(tick, x, y, z, text):
-    return "%d %d %d %d %s\n" % (tick, x, y, z, text)
-
 
 # ---------------------------------------------------------------- examples
 
@@ -290,6 +116,8 @@ def entries(run):
     yield "an overdue entry in no tick", [(8, 64, 8, -3, True)], run(flat(sources, ticks=[(8, 64, 8, -3)])).entries()
     later = run(flat(ticks=[(4, 64, 4, 9), (5, 64, 4, 7), (6, 64, 4, 12)]), "", 5)
     yield "due less the ticks run", [(4, 64, 4, 4, False), (5, 64, 4, 2, False), (6, 64, 4, 7, False)], later.entries()
+    same = run(flat(sources), edit(1, 8, 64, 8, WATER), 6)
+    yield "a block that is set to the state that it has wakes", "chunks 1 turns 1", same.line
     far = run(flat(ticks=[(8, 64, 8, 99)]), edit(1, 8, 64, 8, WATER), 20)
     yield "an entry far off hides wakings", ("chunks 1 turns 0", {(8, 64, 8): 0}), (far.line, far.wet())
     # the second source has nowhere to go, and is woken by the turn of the first, before its own turn comes
@@ -316,6 +144,18 @@ def soaked(run):
     yield "a soaked block is a hole", ("chunks 1 turns 2", {(8, 64, 8): 0, (9, 64, 8): 1, (11, 62, 8): 8}), (drop.line, drop.wet())
 
 
+def kept(run):
+    """A chunk that is not full, with a source and an entry at the edge of a loaded one."""
+    beside = chunk(1, 0, {(16, 64, 8): WATER}, [(16, 64, 8, 1)], {})
+    beside.value["Status"] = Tag(make_samples.TEXT, "features")
+    world = make_samples.region_bytes({(0, 0): chunk(0, 0, {}, (), {}), (1, 0): beside})
+    after = run(world, edit(1, 14, 64, 8, WATER), 11)
+    spread = {at: level for at, level in board(14, 64, 8).items() if at[0] < 16 and level < 3}
+    yield "water flows along a kept chunk", ("chunks 1 turns 6", spread | {(16, 64, 8): 0}), (after.line, after.wet())
+    yield "which stays as it is", make_samples.named("", beside), after.payloads[1]
+    yield "and takes no edit", "fault 22: EditOutside 1", run(world, edit(1, 16, 64, 8, "minecraft:stone"), 1).fault
+
+
 def light(run):
     both = ((0, 0), (1, 0))
     lit = run(flat({(15, 64, 8): "minecraft:glowstone"}, both))
@@ -325,6 +165,8 @@ def light(run):
     yield "light goes with its emitter", {0}, {byte for at in both for y in range(-4, 20) for byte in dark.light(at, y)}
     stone = run(flat({(8, 70, 8): "minecraft:glowstone", (9, 70, 8): "minecraft:stone"}))
     yield "light round a stone", [15, 14, 0, 11], [stone.light_at(x, 70, 8) for x in (8, 7, 9, 10)]
+    slab = run(flat({(8, 70, 8): "minecraft:glowstone", (9, 70, 8): SLAB}), table="version = 2" + ROWS + SLABS)
+    yield "light of a soaked block by its row", [15, 14, 7, 11], [slab.light_at(x, 70, 8) for x in (8, 7, 9, 10)]
 
 
 def heights(run):
@@ -392,6 +234,12 @@ def crowding(run):
     yield "65,535 states", "chunks 1 turns 0", run(crowded(65_525)).line
     yield "one state more", "fault 18: TooManyStates", run(crowded(65_526)).fault
     yield "a bad tick comes before too many states", "fault 16: BadTick", run(crowded(65_526, bad)).fault
+    new, other = (edit(1, 8, 64, 8, name) for name in ("minecraft:stone", "minecraft:dirt"))
+    yield "a new state of an edit", "fault 18: TooManyStates", run(crowded(65_525), new, 1).fault
+    yield "one that is known", "chunks 1 turns 0", run(crowded(65_525), edit(1, 8, 64, 8, "minecraft:air"), 1).line
+    yield "a place outside comes before it", "fault 22: EditOutside 1", run(crowded(65_525), edit(1, 8, 320, 8, "minecraft:stone"), 1).fault
+    yield "room for one state", "chunks 1 turns 0", run(crowded(65_524), new, 1).line
+    yield "but not for two", "fault 18: TooManyStates", run(crowded(65_524), new + other, 1).fault
 
 
 def crowded(count, ticks=()):
@@ -437,7 +285,7 @@ def main():
                 print("by other workers: expected %s, found %s" % (shown(first.answer()), shown(other.answer())))
         return first
 
-    for examples in (spreading, flowing, parts, many, entries, soaked, light, heights, refusals, without_chunks, judging, crowding):
+    for examples in (spreading, flowing, parts, many, entries, soaked, kept, light, heights, refusals, without_chunks, judging, crowding):
         for what, want, got in examples(run):
             asked += 1
             if want != got:
