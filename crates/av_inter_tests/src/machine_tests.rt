@@ -155,7 +155,7 @@ fn one_worker_gives_the_tick(rt: HostRuntime) -> Result<(), Fail> {
 }
 
 /// Events, and why each is refused. The part 2 is not there.
-const ANSWERS: [(Event, Option<Refused>); 17] = [
+const ANSWERS: [(Event, Option<Refused>); 19] = [
     (Event::Turn(0, 0), Some(Refused::NotHolder)),
     (Event::Back(0, 0), Some(Refused::NotHolder)),
     (Event::Take(0, 2), Some(Refused::NotWaiting)),
@@ -166,6 +166,8 @@ const ANSWERS: [(Event, Option<Refused>); 17] = [
     (Event::Back(0, 0), Some(Refused::NotDone)),
     (Event::Turn(0, 2), Some(Refused::NotHolder)),
     (Event::Turn(0, 0), None),
+    (Event::Turn(1, 0), Some(Refused::NotHolder)),
+    (Event::Back(1, 0), Some(Refused::NotHolder)),
     (Event::Turn(0, 0), Some(Refused::NoEntry)),
     (Event::Back(0, 0), None),
     (Event::Take(0, 0), Some(Refused::NotWaiting)),
@@ -184,6 +186,34 @@ fn unlawful_events_are_refused(rt: HostRuntime) -> Result<(), Fail> {
     let world = poured(alloc, &chunks, &APART)?;
     let mut core = started(alloc, world, &kinds, 6)?;
     expect_answers(&rt, &mut core, ANSWERS.as_slice());
+    let after = end_of(core)?;
+    let tick = serial(alloc, &kinds, &chunks, &APART)?;
+    expect_same(&rt, alloc, &after, &tick)?;
+    Ok(())
+}
+
+/// Events of one worker that holds two parts at once, and why each is refused.
+const BOTH: [(Event, Option<Refused>); 9] = [
+    (Event::Take(0, 0), None),
+    (Event::Take(0, 1), None),
+    (Event::Turn(0, 1), None),
+    (Event::Back(0, 0), Some(Refused::NotDone)),
+    (Event::Turn(0, 0), None),
+    (Event::Back(0, 0), None),
+    (Event::Turn(0, 0), Some(Refused::NotHolder)),
+    (Event::Turn(0, 1), Some(Refused::NoEntry)),
+    (Event::Back(0, 1), None),
+];
+
+/// A worker may take a part while it holds another one, and each is turned and given back by itself.
+#[test]
+fn one_worker_holds_two_parts(rt: HostRuntime) -> Result<(), Fail> {
+    let alloc = rt.alloc();
+    let kinds = stone_kinds(alloc)?;
+    let chunks = [ORIGIN, EAST];
+    let world = poured(alloc, &chunks, &APART)?;
+    let mut core = started(alloc, world, &kinds, 6)?;
+    expect_answers(&rt, &mut core, BOTH.as_slice());
     let after = end_of(core)?;
     let tick = serial(alloc, &kinds, &chunks, &APART)?;
     expect_same(&rt, alloc, &after, &tick)?;
