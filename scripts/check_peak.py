@@ -4,8 +4,9 @@ the program has at its peak: payloads that are read ahead of their places are fe
 
     scripts/check_peak.py PROGRAM           as crates/av_main/out/av_main
 
-The payload is one List of Lists of 65 Bytes. It has no status, so each place of it is kept as it is, and no chunk is loaded. Where
-the location of the first place is refused, nothing behind it is read.
+The payload is one List of Lists of 65 Bytes, and a status that is not full: so each place of it is kept as it is, and no chunk is
+loaded. Behind a first chunk of more states than each table begins with, some payloads are read together. Where the location of the
+first place is refused, nothing behind it is read.
 """
 import os
 import struct
@@ -13,25 +14,46 @@ import subprocess
 import sys
 import tempfile
 
+sys.dont_write_bytecode = True
+import make_samples
+from flat_runs import chunk
+
 MOST = 100 * 10**6
 SIZE = 253_849
 TABLE = "version = 1\n"
 
 
 def list_of_lists(count):
-    """The bytes of a root whose only tag is so many Lists of 65 Bytes."""
+    """The bytes of a root of a status and so many Lists of 65 Bytes."""
     bytes_of_65 = b"\x01" + struct.pack(">i", 65) + bytes(65)
-    return b"\x0a\0\0" + b"\x09\0\x01l\x09" + struct.pack(">i", count) + bytes_of_65 * count + b"\0"
+    status = b"\x08\0\x06Status\0\x05empty"
+    return b"\x0a\0\0" + status + b"\x09\0\x01l\x09" + struct.pack(">i", count) + bytes_of_65 * count + b"\0"
 
 
-def region(payload, first):
-    """A region that has a payload at the indices 1 to 63, and the location `first` at index 0."""
-    sectors = -(-(len(payload) + 5) // 4096)
+def many_states():
+    """The bytes of a loaded chunk that has twelve states beside air and stone."""
+    wool = {(x, 70, 0): "minecraft:wool_%d" % x for x in range(12)}
+    return make_samples.named("", chunk(0, 0, wool, (), {}))
+
+
+def record(payload):
+    """A payload in its sectors, and how many they are."""
+    data = struct.pack(">IB", len(payload) + 1, 3) + payload
+    sectors = -(-len(data) // 4096)
+    return data + bytes(4096 * sectors - len(data)), sectors
+
+
+def region(payload, first=None, chunk_0=b""):
+    """A region that has a payload at the indices 0 to 63, but for the first location or chunk where one is given."""
+    data, sectors = record(payload)
     locations = [2 << 8 | sectors] * 64 + [0] * 960
+    if chunk_0:
+        more, count = record(chunk_0)
+        locations[0] = 2 + sectors << 8 | count
+        data += more
     if first is not None:
         locations[0] = first
-    data = struct.pack(">IB", len(payload) + 1, 3) + payload
-    return struct.pack(">1024I", *locations) + bytes(4096) + data + bytes(-len(data) % 4096)
+    return struct.pack(">1024I", *locations) + bytes(4096) + data
 
 
 def ask(program, work, data):
@@ -50,14 +72,15 @@ def ask(program, work, data):
 
 def main():
     program = os.path.abspath(sys.argv[1])
-    payload = list_of_lists((SIZE - 13) // 70)
+    payload = list_of_lists((SIZE - 29) // 70)
     # A location within the header is refused. It is that of the first place, or none is.
-    cases = (("all places", None, ("chunks 0 turns 0", "", 0)),
-             ("a first place that is refused", 1 << 8 | 1, ("", "fault 05: BadLocation", 1)))
+    cases = (("all places", region(payload), ("chunks 0 turns 0", "", 0)),
+             ("behind a chunk of many states", region(payload, chunk_0=many_states()), ("chunks 1 turns 0", "", 0)),
+             ("a first place that is refused", region(payload, 1 << 8 | 1), ("", "fault 05: BadLocation", 1)))
     wrong = 0
     with tempfile.TemporaryDirectory() as work:
-        for name, first, answer in cases:
-            told, peak = ask(program, work, region(payload, first))
+        for name, data, answer in cases:
+            told, peak = ask(program, work, data)
             if told != answer or peak > MOST:
                 wrong += 1
                 print("%s: %s, %d MB at the peak" % (name, told, peak // 10**6))
