@@ -1,5 +1,5 @@
 -- Positions that are apart.
-use Rattle.std.proofs.Common.{◌≡◌, ℕ, zero, suc, ◌<◌, length, take, get_or, arith, Bool, true, false, List, [], ◌∷◌, ◌++◌, map, refl, sym, ap, ◌∙◌, true≢false}
+use Rattle.std.proofs.Common.{◌≡◌, Bool, true, false, List, [], ◌∷◌, ◌++◌, refl, sym, ◌∙◌, true≢false}
 use Rattle.std.proofs.lemmas.Cmp.{int_eq_equiv}
 use Rattle.av_types.specs.declared.place.Pos.{Pos}
 use Rattle.av_types.specs.declared.tick.Entry.{Entry}
@@ -23,28 +23,3 @@ are_apart-push (x ∷ es) e apart new = by (same_pos e.pos x.pos) refl (is_pendi
   by true i c j rest = absurd (true≢false (rw i at new))
   by false i true j rest = absurd (true≢false (sym (rw j at apart)))
   by false i false j rest = rw (is_pending-push x.pos es e j (same_pos_symm x.pos e.pos ∙ i)) (rest (rw j at apart) (rw i at new))
-
-pub map-push : {A B : Type 0} (f : A → B) (xs : List A) (x : A) → map f (xs ++ x ∷ []) ≡ map f xs ++ f x ∷ []
-map-push f [] x = refl
-map-push f (y ∷ xs) x = ap (λ l. f y ∷ l) (map-push f xs x)
-
-apart_from : (q : Pos) (es : List Entry) (i : ℕ) (d : Entry) → is_pending q es ≡ false → i < length es → same_pos (get_or es i d).pos q ≡ false
-apart_from q [] i d none less = absurd (omega (arith, less))
-apart_from q (e ∷ es) zero d none less = at (same_pos q e.pos) refl where
-  at : (b : Bool) → same_pos q e.pos ≡ b → same_pos e.pos q ≡ false
-  at true h = absurd (true≢false (rw h at none))
-  at false h = same_pos_symm e.pos q ∙ h
-apart_from q (e ∷ es) (suc i) d none less = at (same_pos q e.pos) refl (λ n. apart_from q es i d n (omega (arith, less))) where
-  at : (b : Bool) → same_pos q e.pos ≡ b → (is_pending q es ≡ false → same_pos (get_or es i d).pos q ≡ false) → same_pos (get_or es i d).pos q ≡ false
-  at true h rest = absurd (true≢false (rw h at none))
-  at false h rest = rest (rw h at none)
-
--- what comes before an entry has another position
-pub apart_before : (es : List Entry) (i : ℕ) (d : Entry) → are_apart es ≡ true → i < length es → is_pending (get_or es i d).pos (take i es) ≡ false
-apart_before [] i d apart less = absurd (omega (arith, less))
-apart_before (x ∷ es) zero d apart less = refl
-apart_before (x ∷ es) (suc i) d apart less = at (is_pending x.pos es) refl (λ n. apart_from x.pos es i d n (omega (arith, less))) (λ a. apart_before es i d a (omega (arith, less))) where
-  at : (b : Bool) → is_pending x.pos es ≡ b → (is_pending x.pos es ≡ false → same_pos (get_or es i d).pos x.pos ≡ false) → (are_apart es ≡ true → is_pending (get_or es i d).pos (take i es) ≡ false)
-      → is_pending (get_or es i d).pos (x ∷ take i es) ≡ false
-  at true e other rest = absurd (true≢false (sym (rw e at apart)))
-  at false e other rest = rw (other e) (rest (rw e at apart))

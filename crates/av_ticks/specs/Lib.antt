@@ -1,5 +1,6 @@
 pub mod Order
 pub mod Entries
-pub mod Keys
+pub mod Patches
+pub mod Held
 pub mod Stored
 pub mod Ticks

@@ -1,7 +1,6 @@
 -- Entries that are kept with an index where they are many.
-use Rattle.std.specs.Prelude.{ℕ, ◌-◌, min, List, if◌then◌else◌, vec_capacity, vec_len}
+use Rattle.std.specs.Prelude.{ℕ, ◌-◌, List, vec_capacity, vec_len}
 use Rattle.av_types.specs.declared.tick.Entry.{Entry}
-use Rattle.indexmap.specs.IndexMap.{spare}
 use Rattle.av_ticks.specs.declared.store.Store.{Store}
 
 -- the entries, in order
@@ -10,4 +9,4 @@ stored s = s.entries.items
 
 -- how many more take no memory
 abbrev pub spare_in : Store → ℕ
-spare_in s = if s.is_indexed then min (vec_capacity s.entries - vec_len s.entries) (spare s.times) else vec_capacity s.entries - vec_len s.entries
+spare_in s = vec_capacity s.entries - vec_len s.entries

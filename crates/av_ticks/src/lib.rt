@@ -4,6 +4,7 @@
 pub mod laws;
 pub mod list;
 pub mod merge;
+mod positions;
 mod store;
 
 pub use list::TickList;
