@@ -7,6 +7,6 @@ use Rattle.av_ticks.specs.declared.store.Store.{Store}
 abbrev pub stored : Store → List Entry
 stored s = s.entries.items
 
--- how many more take no memory
+-- for how many more there is room
 abbrev pub spare_in : Store → ℕ
 spare_in s = vec_capacity s.entries - vec_len s.entries

@@ -8,6 +8,6 @@ use Rattle.av_ticks.specs.declared.list.TickList.{TickList}
 abbrev pub entries : TickList → List Entry
 entries l = stored l.store
 
--- how many more entries take no memory
+-- for how many more entries there is room
 abbrev pub room : TickList → ℕ
 room l = spare_in l.store

@@ -153,7 +153,7 @@ impl TickList {
         Ok(true)
     }
 
-    /// Appends an entry of a position that is not pending, where there is room. It takes no memory.
+    /// Appends an entry of a position that is not pending, where there is room, whatever memory there is.
     pub fn add_new(&mut self, entry: Entry)
         requires new { is_pending entry.pos (entries self.old) ≡ false }
         requires room { 0 < room self.old }
@@ -164,7 +164,7 @@ impl TickList {
         self.soonest = sooner(self.soonest, entry.due);
     }
 
-    /// Makes room for so many more entries, so that as many calls of `add_new` or `add` take no memory. The entries stay.
+    /// Makes room for so many more entries, so that as many calls of `add_new` or `add` can't want memory. The entries stay.
     /// Refuses with OutOfMemory alone.
     pub fn reserve(&mut self, additional: usize) -> Result<(), Fault>
         ensures entries { entries self.new ≡ entries self.old }
@@ -178,7 +178,7 @@ impl TickList {
     }
 
     /// Makes room as `reserve` does, for a list that is asked for positions: where its entries become many it gets an
-    /// index of these, so that `has` stays fast. The entries stay. Refuses with OutOfMemory alone.
+    /// index of these, if there is memory for one, so that `has` stays fast. The entries stay. Refuses with OutOfMemory alone.
     pub fn reserve_indexed(&mut self, additional: usize) -> Result<(), Fault>
         ensures entries { entries self.new ≡ entries self.old }
         ensures ok { OnOk result (additional ≤ room self.new) }
