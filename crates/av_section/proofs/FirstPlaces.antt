@@ -4,7 +4,7 @@ use Rattle.std.specs.List.{list_any}
 use Rattle.std.proofs.lemmas.Bool.{cases_eq, cases_lt, cases_order, ne_eqb}
 use Rattle.std.proofs.lemmas.List.{get_or_append_left, get_or-replicate, length-replicate, length-set}
 use Rattle.std.proofs.Math.Seq.{get_or-append_seam}
-use Rattle.indexmap.specs.IndexSet.{insert_key, insert_all}
+use Rattle.av_section.specs.Distinct.{with_number, with_numbers}
 use Rattle.av_section.specs.WrittenPalette.{KnowsIndices, numbers_of}
 use Rattle.av_section.proofs.Written.{map_more}
 
@@ -60,9 +60,9 @@ knows_more palette seen written next new index last d k low small at e f =
 
 -- ---- the whole
 
-pub insert_all-push : (ks xs : List ℕ) (x : ℕ) → insert_all nat_eq ks (xs ++ x ∷ []) ≡ insert_key nat_eq (insert_all nat_eq ks xs) x
-insert_all-push ks [] x = refl
-insert_all-push ks (y ∷ xs) x = insert_all-push (insert_key nat_eq ks y) xs x
+pub with_numbers-push : (ks xs : List ℕ) (x : ℕ) → with_numbers ks (xs ++ x ∷ []) ≡ with_number (with_numbers ks xs) x
+with_numbers-push ks [] x = refl
+with_numbers-push ks (y ∷ xs) x = with_numbers-push (with_number ks y) xs x
 
 keeps_if : (b : Bool) (ks : List ℕ) (n k : ℕ) → k < length ks → (k < length (cond b ks (ks ++ n ∷ []))) × (get_or (cond b ks (ks ++ n ∷ [])) k 0 ≡ get_or ks k 0)
 keeps_if true ks n k low = (low, refl)
@@ -75,7 +75,7 @@ short_if false ks n = omega (arith, length-append ks (n ∷ []))
 -- the places that came
 pub record WrittenSome (palette indices seen written found : List ℕ) (i : ℕ) : Type 0 where
   pub knows : KnowsIndices palette seen written
-  pub numbers : written ≡ insert_all nat_eq [] (numbers_of palette (take i indices))
+  pub numbers : written ≡ with_numbers [] (numbers_of palette (take i indices))
   pub short : length written ≤ i
   pub count : length found ≡ i
   pub each : (j : ℕ) → j < i → (get_or found j 0 < length written) × (get_or written (get_or found j 0) 0 ≡ get_or palette (get_or indices j 0) 0)
@@ -84,14 +84,14 @@ pub written_none : (palette indices seen : List ℕ) → seen ≡ replicate (len
 written_none palette indices seen e = record { knows = knows_none palette seen e; numbers = refl; short = omega arith; count = refl; each = λ j low. absurd (omega arith) }
 
 pub written_more : (palette indices seen written found next new more : List ℕ) (i place : ℕ) → i < length indices → WrittenSome palette indices seen written found i → KnowsIndices palette next new
-    → new ≡ insert_key nat_eq written (get_or palette (get_or indices i 0) 0) → place < length new → get_or new place 0 ≡ get_or palette (get_or indices i 0) 0 → more ≡ found ++ place ∷ []
+    → new ≡ with_number written (get_or palette (get_or indices i 0) 0) → place < length new → get_or new place 0 ≡ get_or palette (get_or indices i 0) 0 → more ≡ found ++ place ∷ []
     → WrittenSome palette indices next new more (i + 1)
 written_more palette indices seen written found next new more i place low w k e within is f =
     let n = get_or palette (get_or indices i 0) 0 in
     let b = list_any (nat_eq n) written in
     record {
       knows = k;
-      numbers = e ∙ ap (λ ks. insert_key nat_eq ks n) w.numbers ∙ sym (insert_all-push [] (numbers_of palette (take i indices)) n) ∙ ap (insert_all nat_eq []) (sym (map_more (λ x. get_or palette x 0) indices i 0 low));
+      numbers = e ∙ ap (λ ks. with_number ks n) w.numbers ∙ sym (with_numbers-push [] (numbers_of palette (take i indices)) n) ∙ ap (with_numbers []) (sym (map_more (λ x. get_or palette x 0) indices i 0 low));
       short = omega (arith, ap length e, short_if b written n, w.short);
       count = ap length f ∙ length-append found (place ∷ []) ∙ ap (λ c. c + 1) w.count;
       each = λ j before. elim (cases_lt j i) [

@@ -15,6 +15,7 @@ pub mod InOrder
 pub mod StoredEntries
 pub mod WrittenOne
 pub mod FirstUse
+pub mod Rising
 pub mod Placing
 pub mod KnownStates
 pub mod KnownRead

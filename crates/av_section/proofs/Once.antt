@@ -4,9 +4,8 @@ use Rattle.std.specs.List.{list_any}
 use Rattle.std.proofs.lemmas.Bool.{eq-eqb, eqb-true}
 use Rattle.std.proofs.lemmas.List.{take_more}
 use Rattle.std.proofs.lemmas.List.Elements.{All-push, All-weaker, Contains-push, Contains-append_left}
-use Rattle.indexmap.proofs.CallerLemmas.{Contains-list_any}
-use Rattle.indexmap.specs.IndexSet.{insert_key}
-use Rattle.av_section.specs.Distinct.{AreEachOnce}
+use Rattle.std.proofs.lemmas.Map.Views.{Contains-from_any}
+use Rattle.av_section.specs.Distinct.{AreEachOnce, with_number}
 use Rattle.av_section.proofs.Distinct.{Distinct-push}
 
 or_true : (b : Bool) → b || true ≡ true
@@ -25,7 +24,7 @@ once_or_not : (numbers once : List ℕ) (n : ℕ) (b : Bool) → list_any (nat_e
 once_or_not numbers once n true e small a = record {
   distinct = a.distinct;
   small = a.small;
-  there = All-push (Contains once) numbers n a.there (Contains-list_any nat_eq eqb-true once n e);
+  there = All-push (Contains once) numbers n a.there (Contains-from_any {eq = nat_eq} eqb-true n once e);
   short = omega (arith, length-append numbers (n ∷ []), a.short);
   same = λ q. absurd (omega (arith, length-append numbers (n ∷ []), a.short, q));
 }
@@ -37,7 +36,7 @@ once_or_not numbers once n false e small a = record {
   same = λ q. ap (λ l. l ++ n ∷ []) (a.same (omega (arith, length-append numbers (n ∷ []), length-append once (n ∷ []), q)));
 }
 
-pub once_more : (numbers once next : List ℕ) (i n : ℕ) → i < length numbers → n ≡ get_or numbers i 0 → n < 65536 → next ≡ insert_key nat_eq once n → AreEachOnce (take i numbers) once → AreEachOnce (take (i + 1) numbers) next
+pub once_more : (numbers once next : List ℕ) (i n : ℕ) → i < length numbers → n ≡ get_or numbers i 0 → n < 65536 → next ≡ with_number once n → AreEachOnce (take i numbers) once → AreEachOnce (take (i + 1) numbers) next
 once_more numbers once next i n low at small e a =
     let longer : take (i + 1) numbers ≡ take i numbers ++ n ∷ [] = take_more numbers i 0 low ∙ ap (λ x. take i numbers ++ x ∷ []) (sym at) in
     rw (longer, e) (once_or_not (take i numbers) once n (list_any (nat_eq n) once) refl small a)

@@ -3,8 +3,7 @@ use Rattle.std.proofs.Common.{◌≡◌, ℕ, ◌<◌, ◌≤◌, ◌+◌, nat_e
 use Rattle.std.specs.List.{list_any}
 use Rattle.std.proofs.lemmas.Bool.{cases_lt}
 use Rattle.std.proofs.lemmas.List.{get_or_append_left, get_or_default, get_or-map, length-map, length-set, ext_get_or}
-use Rattle.indexmap.specs.IndexSet.{insert_key}
-use Rattle.av_section.specs.Distinct.{ArePlaces}
+use Rattle.av_section.specs.Distinct.{ArePlaces, with_number}
 use Rattle.av_section.specs.WrittenPalette.{numbers_of}
 
 -- those that came are replaced, and the others are as they were
@@ -40,7 +39,7 @@ stands_if true ks n a k h = h
 stands_if false ks n a k h = (omega (arith, length-append ks (n ∷ []), h.0), get_or_append_left ks (n ∷ []) 0 k h.0 ∙ h.1)
 
 -- one more number, at its place
-pub placed_more : (numbers once places next new : List ℕ) (i n place : ℕ) → i < length numbers → n ≡ get_or places i 0 → next ≡ insert_key nat_eq once n → place < length next → get_or next place 0 ≡ n
+pub placed_more : (numbers once places next new : List ℕ) (i n place : ℕ) → i < length numbers → n ≡ get_or places i 0 → next ≡ with_number once n → place < length next → get_or next place 0 ≡ n
     → new ≡ set places i place → Replaced (StandsAt once) numbers places i → Replaced (StandsAt next) numbers new (i + 1)
 placed_more numbers once places next new i n place low at e within is f r =
     let kept : (a k : ℕ) → StandsAt once a k → StandsAt next a k = λ a k h. subst (λ ks. StandsAt ks a k) (sym e) (stands_if (list_any (nat_eq n) once) once n a k h) in

@@ -1,8 +1,8 @@
 -- What is written of a palette of one entry.
-use Rattle.std.proofs.Common.{◌≡◌, ℕ, zero, suc, ◌<◌, nat_eq, None, List, [], ◌∷◌, map, length, get_or, All, refl, sym, ap, subst, ◌∙◌, arith}
+use Rattle.std.proofs.Common.{◌≡◌, ℕ, zero, suc, ◌<◌, None, List, [], ◌∷◌, map, length, get_or, All, refl, sym, ap, subst, ◌∙◌, arith}
 use Rattle.std.proofs.lemmas.Bool.{eq-eqb}
 use Rattle.std.proofs.lemmas.List.Elements.{All-head, All-tail}
-use Rattle.indexmap.specs.IndexSet.{insert_key, insert_all}
+use Rattle.av_section.specs.Distinct.{with_number, with_numbers}
 use Rattle.av_pack.specs.Packing.{unpacked}
 use Rattle.av_pack.proofs.Laws.{length-unpacked, get_or-unpacked}
 use Rattle.av_state.specs.BlockState.{BlockState, air}
@@ -15,14 +15,14 @@ use Rattle.av_section.specs.WrittenPalette.{IsWritten, numbers_of}
 use Rattle.av_section.proofs.WrittenStates.{writes_section}
 
 -- the number is there already
-once : (n i : ℕ) → i < 1 → insert_key nat_eq (n ∷ []) (get_or (n ∷ []) i 0) ≡ n ∷ []
+once : (n i : ℕ) → i < 1 → with_number (n ∷ []) (get_or (n ∷ []) i 0) ≡ n ∷ []
 once n zero low = rw (eq-eqb n n refl) refl
 once n (suc i) low = absurd (omega arith)
 
-all_once : (n : ℕ) (indices : List ℕ) → All (λ i. i < 1) indices → insert_all nat_eq (n ∷ []) (numbers_of (n ∷ []) indices) ≡ n ∷ []
+all_once : (n : ℕ) (indices : List ℕ) → All (λ i. i < 1) indices → with_numbers (n ∷ []) (numbers_of (n ∷ []) indices) ≡ n ∷ []
 all_once n [] low = refl
 all_once n (i ∷ indices) low =
-    ap (λ ks. insert_all nat_eq ks (numbers_of (n ∷ []) indices)) (once n i (All-head (λ i. i < 1) i indices low))
+    ap (λ ks. with_numbers ks (numbers_of (n ∷ []) indices)) (once n i (All-head (λ i. i < 1) i indices low))
     ∙ all_once n indices (All-tail (λ i. i < 1) i indices low)
 
 first : (n i : ℕ) → i < 1 → get_or (n ∷ []) i 0 ≡ n
@@ -37,7 +37,7 @@ written_one (n ∷ []) [] one some low = absurd (omega (arith, some))
 written_one (n ∷ []) (i ∷ indices) one some low = record {
   numbers =
       let here = All-head (λ i. i < 1) i indices low in
-      sym (ap (λ k. insert_all nat_eq (k ∷ []) (numbers_of (n ∷ []) indices)) (first n i here) ∙ all_once n indices (All-tail (λ i. i < 1) i indices low));
+      sym (ap (λ k. with_numbers (k ∷ []) (numbers_of (n ∷ []) indices)) (first n i here) ∙ all_once n indices (All-tail (λ i. i < 1) i indices low));
   short = omega arith;
   count = refl;
   each = λ j within. (low j 0 within, refl);

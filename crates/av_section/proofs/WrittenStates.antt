@@ -4,7 +4,7 @@ use Rattle.std.specs.List.{list_any, range_with_len}
 use Rattle.std.proofs.lemmas.Bool.{cases_eq, ne_eqb, eq-eqb, lt-ltb}
 use Rattle.std.proofs.lemmas.List.{map-append, length-map, same_lists, get_or-map, get_or_default}
 use Rattle.std.proofs.lemmas.List.Elements.{All-push, All-head, All-tail, All-nil}
-use Rattle.indexmap.specs.IndexSet.{insert_key, insert_all}
+use Rattle.av_section.specs.Distinct.{with_number, with_numbers}
 use Rattle.av_pack.specs.Packing.{packed_at, unpacked}
 use Rattle.av_state.specs.BlockState.{BlockState, air}
 use Rattle.av_state.specs.StateList.{with_state, with_states, number_in, same_state, IsStateList}
@@ -28,17 +28,17 @@ distinct_if : (b : Bool) (ks : List ℕ) (n : ℕ) → list_any (nat_eq n) ks �
 distinct_if true ks n e d = d
 distinct_if false ks n e d = Distinct-push ks n d (not_among ks n e)
 
-distinct_all : (ks xs : List ℕ) → AllPairs (λ x y. x ≢ y) ks → AllPairs (λ x y. x ≢ y) (insert_all nat_eq ks xs)
+distinct_all : (ks xs : List ℕ) → AllPairs (λ x y. x ≢ y) ks → AllPairs (λ x y. x ≢ y) (with_numbers ks xs)
 distinct_all ks [] d = d
-distinct_all ks (x ∷ xs) d = distinct_all (insert_key nat_eq ks x) xs (distinct_if (list_any (nat_eq x) ks) ks x refl d)
+distinct_all ks (x ∷ xs) d = distinct_all (with_number ks x) xs (distinct_if (list_any (nat_eq x) ks) ks x refl d)
 
 below_if : (P : ℕ → Type 0) (b : Bool) (ks : List ℕ) (n : ℕ) → P n → All P ks → All P (cond b ks (ks ++ n ∷ []))
 below_if P true ks n p all = all
 below_if P false ks n p all = All-push P ks n all p
 
-below_all : (P : ℕ → Type 0) (ks xs : List ℕ) → All P ks → All P xs → All P (insert_all nat_eq ks xs)
+below_all : (P : ℕ → Type 0) (ks xs : List ℕ) → All P ks → All P xs → All P (with_numbers ks xs)
 below_all P ks [] a b = a
-below_all P ks (x ∷ xs) a b = below_all P (insert_key nat_eq ks x) xs (below_if P (list_any (nat_eq x) ks) ks x (All-head P x xs b) a) (All-tail P x xs b)
+below_all P ks (x ∷ xs) a b = below_all P (with_number ks x) xs (below_if P (list_any (nat_eq x) ks) ks x (All-head P x xs b) a) (All-tail P x xs b)
 
 module _ (states : List BlockState) (l : IsStateList states) where
   -- the state of a number
@@ -63,12 +63,12 @@ module _ (states : List BlockState) (l : IsStateList states) where
   map_if true ks n = refl
   map_if false ks n = sym (map-append f ks (n ∷ []))
 
-  numbered : (ks xs : List ℕ) → All (λ k. k < length states) ks → All (λ k. k < length states) xs → with_states (map f ks) (map f xs) ≡ map f (insert_all nat_eq ks xs)
+  numbered : (ks xs : List ℕ) → All (λ k. k < length states) ks → All (λ k. k < length states) xs → with_states (map f ks) (map f xs) ≡ map f (with_numbers ks xs)
   numbered ks [] a b = refl
   numbered ks (x ∷ xs) a b =
       let low = All-head (λ k. k < length states) x xs b in
-      let step : with_state (map f ks) (f x) ≡ map f (insert_key nat_eq ks x) = ap (λ c. cond c (map f ks) (map f ks ++ f x ∷ [])) (any_same x ks low a) ∙ map_if (list_any (nat_eq x) ks) ks x in
-      ap (λ ss. with_states ss (map f xs)) step ∙ numbered (insert_key nat_eq ks x) xs (below_if (λ k. k < length states) (list_any (nat_eq x) ks) ks x low a) (All-tail (λ k. k < length states) x xs b)
+      let step : with_state (map f ks) (f x) ≡ map f (with_number ks x) = ap (λ c. cond c (map f ks) (map f ks ++ f x ∷ [])) (any_same x ks low a) ∙ map_if (list_any (nat_eq x) ks) ks x in
+      ap (λ ss. with_states ss (map f xs)) step ∙ numbered (with_number ks x) xs (below_if (λ k. k < length states) (list_any (nat_eq x) ks) ks x low a) (All-tail (λ k. k < length states) x xs b)
 
   found_at : (ks : List ℕ) (k n : ℕ) → k < length ks → get_or ks k 0 ≡ n → AllPairs (λ x y. x ≢ y) ks → All (λ k. k < length states) ks → number_in (map f ks) (f n) ≡ Some k
   found_at [] k n low e d all = absurd (omega arith)

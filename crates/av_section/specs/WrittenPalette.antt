@@ -2,7 +2,7 @@
 -- Working definitions. No public clause cites them.
 use Rattle.std.specs.Prelude.{◌≡◌, ◌≢◌, ℕ, ◌<◌, ◌≤◌, List, [], length, map, nat_eq, slice_index, false}
 use Rattle.std.specs.List.{list_any}
-use Rattle.indexmap.specs.IndexSet.{insert_all}
+use Rattle.av_section.specs.Distinct.{with_numbers}
 
 -- the numbers of the places, by a palette and their indices into it
 abbrev pub numbers_of : List ℕ → List ℕ → List ℕ
@@ -16,7 +16,7 @@ pub record KnowsIndices (palette seen written : List ℕ) : Type 0 where
 
 -- each number of the places once, in the order of its first place, and where each place finds its own
 pub record IsWritten (palette indices written found : List ℕ) : Type 0 where
-  pub numbers : written ≡ insert_all nat_eq [] (numbers_of palette indices)
+  pub numbers : written ≡ with_numbers [] (numbers_of palette indices)
   pub short : length written ≤ length indices
   pub count : length found ≡ length indices
   pub each : (j : ℕ) → j < length indices → (slice_index found j < length written) × (slice_index written (slice_index found j) ≡ slice_index palette (slice_index indices j))

@@ -1,12 +1,12 @@
 //! The indices of a section's places into its palette.
 ghost use Rattle.std.specs.Prelude.{◌≡◌, ◌<◌, ◌≤◌, ◌^◌, ◌+◌, ◌⊎◌, ◌≢◌, ℕ, nat_eq, ◌-◌, IsTrue, Some, None, is_some, true, false, map, option_map, length, slice_index, slice_index_or, All, AllPairs, Contains, IfOk, IfErr, IfSome, IfNone, OnOk};
-ghost use Rattle.indexmap.specs.IndexSet.{insert_key};
+ghost use Rattle.std.specs.List.Sorted.{IsStrictlyIncreasing};
 ghost use Rattle.std.specs.Option.{option_copied};
 ghost use Rattle.av_nbt.specs.Shape.{each};
 ghost use Rattle.av_nbt.specs.View.{view, views};
 ghost use Rattle.av_pack.specs.Packing.{bits_for, longs_for, packed_at, unpacked};
 ghost use Rattle.av_section.specs.BlockStates.{data_of, indices_in, indices_of, are_below};
-ghost use Rattle.av_section.specs.Distinct.{AreEachOnce, ArePlaces};
+ghost use Rattle.av_section.specs.Distinct.{AreEachOnce, AreOwnPlaces, ArePlaces, IsRisingOf, with_number};
 ghost use Rattle.av_section.specs.Known.{ArePacked, AreUnfit};
 ghost use Rattle.av_section.specs.Palette.{state_in};
 ghost use Rattle.av_section.specs.Packed.{HasAllBelow, IsRepacked};
@@ -15,7 +15,6 @@ use crate::palette::entry_states;
 use av_nbt::Tag;
 use av_pack::{bits_for, entries_below, longs_for, pack, unpack};
 use av_types::Fault;
-use indexmap::IndexSet;
 use std::alloc::{AllocError, Global};
 
 /// Up to how many numbers each is compared with each other.
@@ -125,7 +124,7 @@ pub(crate) fn repacked(
     Ok(longs)
 }
 
-/// The numbers of a list, each once, in the order in which they come first, and where each of the list stands among them.
+/// The numbers of a list, each once, and where each of the list stands among them. Where none is twice they are the list.
 #[derive(Drop)]
 pub(crate) struct Once {
     pub numbers: Vec<u16>,
@@ -134,7 +133,7 @@ pub(crate) struct Once {
 
 /// The place of a number in a list, at whose end it is put where it is not there yet.
 fn place_in(once: &mut Vec<u16>, number: u16) -> Result<usize, AllocError>
-    ensures items { OnOk result (once.new.items ≡ insert_key nat_eq once.old.items number) }
+    ensures items { OnOk result (once.new.items ≡ with_number once.old.items number) }
     ensures bound { IfOk result (λ place. place < length once.new.items) }
     ensures value { IfOk result (λ place. slice_index once.new.items place ≡ number) }
 {
@@ -163,26 +162,75 @@ fn distinct_by_pairs(alloc: Global, numbers: Vec<u16>) -> Result<Once, AllocErro
     })
 }
 
-/// What `distinct` answers, by one look-up of each number.
-fn distinct_by_set(alloc: Global, numbers: Vec<u16>) -> Result<Once, AllocError>
+/// The place of a number in a list that rises.
+fn place_among(rising: &[u16], number: u16) -> u16
+    requires rising { IsStrictlyIncreasing rising.now }
+    requires there { Contains rising.now number }
+    requires few { length rising.now ≤ 65536 }
+    ensures bound { result < length rising.now }
+    ensures value { slice_index rising.now result ≡ number }
+{
+    rising.binary_search(&number).unwrap() as u16
+}
+
+/// Where each of a list stands in one that rises.
+fn places_among(rising: &[u16], numbers: Vec<u16>) -> Vec<u16>
+    requires rising { IsStrictlyIncreasing rising.now }
+    requires there { All (Contains rising.now) numbers.items }
+    requires few { length rising.now ≤ 65536 }
+    ensures { ArePlaces rising.now numbers.items result.items }
+{
+    let mut places = numbers;
+    for index in 0..places.len() {
+        places[index] = place_among(rising, places[index]);
+    }
+    places
+}
+
+/// Where each of a list stands in itself, written over a list as long.
+fn own_places(list: Vec<u16>) -> Vec<u16>
+    requires few { length list.items ≤ 65536 }
+    ensures { AreOwnPlaces (length list.items) result.items }
+{
+    let mut places = list;
+    for index in 0..places.len() {
+        places[index] = index as u16;
+    }
+    places
+}
+
+/// The numbers of a list from the least up, each once. A sort costs the same whichever numbers a file has.
+fn in_order(alloc: Global, numbers: &[u16]) -> Result<Vec<u16>, AllocError>
+    ensures { IfOk result (λ rising. IsRisingOf numbers.now rising.items) }
+{
+    let mut rising = Vec::from_slice(alloc, numbers)?;
+    rising.sort_unstable();
+    rising.dedup();
+    Ok(rising)
+}
+
+/// What `distinct` answers, by their order. A list that has none twice stays as it is, and nothing is looked up.
+fn distinct_by_order(alloc: Global, numbers: Vec<u16>) -> Result<Once, AllocError>
     requires few { length numbers.items ≤ 65536 }
     ensures numbers { IfOk result (λ once. AreEachOnce numbers.items once.numbers.items) }
     ensures places { IfOk result (λ once. ArePlaces once.numbers.items numbers.items once.places.items) }
 {
-    let mut once = IndexSet::new(alloc);
-    let mut places = numbers;
-    for index in 0..places.len() {
-        let (place, _) = once.insert_full(places[index])?;
-        places[index] = place as u16;
+    let rising = in_order(alloc, numbers.as_slice())?;
+    if rising.len() == numbers.len() {
+        return Ok(Once {
+            numbers,
+            places: own_places(rising),
+        });
     }
+    let places = places_among(rising.as_slice(), numbers);
     Ok(Once {
-        numbers: Vec::from_slice(alloc, once.as_slice())?,
+        numbers: rising,
         places,
     })
 }
 
-/// The numbers of a list, each once. Where each stands is written over the list itself, in the same pass, so that it takes no
-/// memory of its own.
+/// The numbers of a list, each once. Where each stands is written over a list that is at hand, so that it takes no memory
+/// of its own.
 pub(crate) fn distinct(alloc: Global, numbers: Vec<u16>) -> Result<Once, AllocError>
     requires few { length numbers.items ≤ 65536 }
     ensures numbers { IfOk result (λ once. AreEachOnce numbers.items once.numbers.items) }
@@ -191,7 +239,7 @@ pub(crate) fn distinct(alloc: Global, numbers: Vec<u16>) -> Result<Once, AllocEr
     if numbers.len() <= FEW {
         return distinct_by_pairs(alloc, numbers);
     }
-    distinct_by_set(alloc, numbers)
+    distinct_by_order(alloc, numbers)
 }
 
 /// The index of a number that is in the palette. One that was just put at its end is found there at once.

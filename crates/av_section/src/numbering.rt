@@ -17,7 +17,6 @@ use crate::palette::entry_states;
 use av_nbt::Tag;
 use av_state::{State, StateTable};
 use av_types::Fault;
-use indexmap::IndexSet;
 use std::alloc::Global;
 
 /// Whether each state has a form, which water with an odd level has not.

@@ -1,6 +1,6 @@
 //! The order of a written palette: that of the first places of its numbers.
 ghost use Rattle.std.specs.Prelude.{◌≡◌, ◌≢◌, ◌<◌, ◌≤◌, nat_eq, length, IfOk, IfErr, All, AllPairs, slice_index};
-ghost use Rattle.indexmap.specs.IndexSet.{insert_key};
+ghost use Rattle.av_section.specs.Distinct.{with_number};
 ghost use Rattle.av_section.specs.WrittenPalette.{KnowsIndices, IsWritten};
 
 use std::alloc::{AllocError, Global};
@@ -27,7 +27,7 @@ fn written_index(
     requires below { index < length palette.now }
     requires few { length written.old.items < 65535 }
     ensures knows { IfOk result (λ _. KnowsIndices palette.now seen.new.items written.new.items) }
-    ensures numbers { IfOk result (λ _. written.new.items ≡ insert_key nat_eq written.old.items (slice_index palette.now index)) }
+    ensures numbers { IfOk result (λ _. written.new.items ≡ with_number written.old.items (slice_index palette.now index)) }
     ensures bound { IfOk result (λ found. found < length written.new.items) }
     ensures found { IfOk result (λ found. slice_index written.new.items found ≡ slice_index palette.now index) }
 {
