@@ -1,6 +1,5 @@
 pub mod Lists
 pub mod Numbering
-pub mod Keys
 pub mod Ordered
 pub mod Storable
 pub mod Compared

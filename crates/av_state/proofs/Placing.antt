@@ -1,7 +1,7 @@
 -- A state's number is found by halves, and a new one is put where it was sought.
-use Rattle.std.proofs.Common.{◌≡◌, ℕ, zero, suc, ◌+◌, ◌-◌, ◌<◌, ◌≤◌, List, [], ◌∷◌, ◌++◌, length, get_or, map, Bool, true, false, Option, Some, None, slice_get, option_map, All, inl, inr, refl, ap, ◌∙◌, sym, subst, arith, length-append}
+use Rattle.std.proofs.Common.{◌≡◌, ℕ, zero, suc, ◌+◌, ◌<◌, ◌≤◌, List, [], ◌∷◌, ◌++◌, length, get_or, Bool, false, Option, Some, None, slice_get, option_map, All, inl, inr, refl, ap, ◌∙◌, sym, subst, arith, length-append}
 use Rattle.std.specs.List.{AllWithin, HoldsAt, insert}
-use Rattle.std.specs.List.Sorted.{IsSortedBy, IsNonDecreasingBy, IsPartitionPoint, IsPermutation}
+use Rattle.std.specs.List.Sorted.{IsSortedBy, IsNonDecreasingBy, IsPartitionPoint}
 use Rattle.std.specs.Ordering.{nat_cmp, ordering_then, ordering_index, ordering_reverse, is_lt}
 use Rattle.std.specs.declared.cmp.Ordering.{Ordering}
 use Rattle.std.specs.declared.cmp.Ordering.TheVariants.{Less, Equal, Greater}
@@ -61,9 +61,9 @@ module _ (states : List BlockState) (prints order : List ℕ) (index : IsIndex s
         elim (cases_order k place) [
           | inl at ↦ (let g : stands states s (get_or order k d) ≡ Greater = above k d (omega arith) h in let no : Greater ≡ Equal = sym g ∙ same in absurd cc)
           | inr far ↦ elim far [
-              | inl less ↦ (let g : stands states s (get_or order k d) ≡ Less = below k d (omega arith) less in let no : Less ≡ Equal = sym g ∙ same in absurd cc)
-              | inr more ↦ (let g : stands states s (get_or order k d) ≡ Greater = above k d (omega arith) h in let no : Greater ≡ Equal = sym g ∙ same in absurd cc)
-            ]
+            | inl less ↦ (let g : stands states s (get_or order k d) ≡ Less = below k d (omega arith) less in let no : Less ≡ Equal = sym g ∙ same in absurd cc)
+            | inr more ↦ (let g : stands states s (get_or order k d) ≡ Greater = above k d (omega arith) h in let no : Greater ≡ Equal = sym g ∙ same in absurd cc)
+          ]
         ]
 
     new_cases : (o : Option ℕ) → number_in states s ≡ o → o ≡ None
@@ -91,29 +91,29 @@ module _ {X : Type 0} (lt : X → X → Bool) (xs : List X) (i : ℕ) (y : X) (l
 
   past : (k : ℕ) (d : X) → i ≤ k → k < length xs → IsSortedBy lt xs → AllWithin (λ x. lt x y ≡ false) xs i (length xs) → lt (get_or (insert xs i y) (k + 1) d) (get_or (insert xs i y) k d) ≡ false
   past k d at h up high = elim (cases_order k i) [
-      | inl e ↦ (
-          let here : get_or (insert xs i y) k d ≡ y = ap (λ n. get_or (insert xs i y) n d) e ∙ get_or-insert_at xs i y d le in
-          ap (λ t. lt t (get_or (insert xs i y) k d)) (get_or-insert_above xs i y d k at le) ∙ ap (lt (get_or xs k d)) here ∙ high k d at h)
-      | inr far ↦ elim far [
-          | inl less ↦ absurd (omega arith)
-          | inr more ↦ later k d more h up
-        ]
+    | inl e ↦ (
+        let here : get_or (insert xs i y) k d ≡ y = ap (λ n. get_or (insert xs i y) n d) e ∙ get_or-insert_at xs i y d le in
+        ap (λ t. lt t (get_or (insert xs i y) k d)) (get_or-insert_above xs i y d k at le) ∙ ap (lt (get_or xs k d)) here ∙ high k d at h)
+    | inr far ↦ elim far [
+      | inl less ↦ absurd (omega arith)
+      | inr more ↦ later k d more h up
     ]
+  ]
 
   insert-sorted : IsSortedBy lt xs → AllWithin (λ x. lt y x ≡ false) xs 0 i → AllWithin (λ x. lt x y ≡ false) xs i (length xs) → IsSortedBy lt (insert xs i y)
   insert-sorted up low high k d z h = elim (cases_order (k + 1) i) [
-      | inl e ↦ (
-          let here : get_or (insert xs i y) (k + 1) d ≡ y = ap (λ n. get_or (insert xs i y) n d) e ∙ get_or-insert_at xs i y d le in
+    | inl e ↦ (
+        let here : get_or (insert xs i y) (k + 1) d ≡ y = ap (λ n. get_or (insert xs i y) n d) e ∙ get_or-insert_at xs i y d le in
+        let before = get_or-insert_below xs i y d k (omega arith) le in
+        ap (λ t. lt t (get_or (insert xs i y) k d)) here ∙ ap (lt y) before ∙ low k d (omega arith) (omega arith))
+    | inr far ↦ elim far [
+      | inl less ↦ (
+          let after = get_or-insert_below xs i y d (k + 1) less le in
           let before = get_or-insert_below xs i y d k (omega arith) le in
-          ap (λ t. lt t (get_or (insert xs i y) k d)) here ∙ ap (lt y) before ∙ low k d (omega arith) (omega arith))
-      | inr far ↦ elim far [
-          | inl less ↦ (
-              let after = get_or-insert_below xs i y d (k + 1) less le in
-              let before = get_or-insert_below xs i y d k (omega arith) le in
-              ap (λ t. lt t (get_or (insert xs i y) k d)) after ∙ ap (lt (get_or xs (k + 1) d)) before ∙ up k d (omega arith) (omega arith))
-          | inr more ↦ past k d (omega arith) (let n = length-insert xs i y le in omega (arith, n, h)) up high
-        ]
+          ap (λ t. lt t (get_or (insert xs i y) k d)) after ∙ ap (lt (get_or xs (k + 1) d)) before ∙ up k d (omega arith) (omega arith))
+      | inr more ↦ past k d (omega arith) (let n = length-insert xs i y le in omega (arith, n, h)) up high
     ]
+  ]
 
 module _ (states : List BlockState) (prints order : List ℕ) (index : IsIndex states prints order) (s : BlockState) (place : ℕ) (p : IsPlaceOf states s order place) where
   abbrev more : List BlockState
@@ -162,9 +162,9 @@ module _ (states : List BlockState) (prints order : List ℕ) (index : IsIndex s
       elim (cases_order n (length states)) [
         | inl e ↦ all 0 n (omega arith) (sym e)
         | inr far ↦ elim far [
-            | inl less ↦ index.whole n less (All-tail N (length states) order all)
-            | inr past ↦ absurd (omega (arith, length_more, h, past))
-          ]
+          | inl less ↦ index.whole n less (All-tail N (length states) order all)
+          | inr past ↦ absurd (omega (arith, length_more, h, past))
+        ]
       ]
 
   -- with the state at the end and its number at its place

@@ -84,7 +84,13 @@ impl Index {
     }
 
     /// How a number's state stands to another.
-    fn stands<T: Sought>(&self, states: &[State], number: u16, fingerprint: u64, sought: &T) -> Ordering
+    fn stands<T: Sought>(
+        &self,
+        states: &[State],
+        number: u16,
+        fingerprint: u64,
+        sought: &T,
+    ) -> Ordering
         ensures { result ≡ compared self.now.fingerprints.items (map state_of states.now) fingerprint (T.sought sought.now) number }
     {
         let place = number as usize;
@@ -102,7 +108,12 @@ impl Index {
 
     /// Puts a new state at the end of states, and its number at its place of the order. Nothing changes where memory
     /// is refused.
-    pub(crate) fn put(&mut self, states: &mut Vec<State>, place: usize, state: State) -> Result<(), AllocError>
+    pub(crate) fn put(
+        &mut self,
+        state: State,
+        place: usize,
+        states: &mut Vec<State>,
+    ) -> Result<(), AllocError>
         requires index { IsIndex (map state_of states.old.items) self.old.fingerprints.items self.old.order.items }
         requires place { IsPlaceOf (map state_of states.old.items) (state_of state) self.old.order.items place }
         requires room { length states.old.items < 65535 }
@@ -127,7 +138,7 @@ impl Index {
     {
         match self.find(states.as_slice(), &state) {
             Ok(_) => Ok(()),
-            Err(place) => self.put(states, place, state),
+            Err(place) => self.put(state, place, states),
         }
     }
 }

@@ -174,7 +174,7 @@ impl StateTable {
         if number >= MOST_STATES {
             return Err(Fault::TooManyStates);
         }
-        self.index.put(&mut self.states, place, state.clone()?)?;
+        self.index.put(state.clone()?, place, &mut self.states)?;
         Ok(number as u16)
     }
 }

@@ -1,4 +1,4 @@
-use Rattle.std.proofs.Common.{◌≡◌, ◌∙◌, sym, ap, map, OnOk, slice_get, ◌++◌, ◌∷◌, [], Result, Ok, Err, List, subst}
+use Rattle.std.proofs.Common.{◌≡◌, ◌∙◌, sym, ap, map, OnOk, slice_get, List, subst}
 use Rattle.av_state.specs.BlockState.{BlockState}
 use Rattle.av_state.specs.States.{state_of}
 use Rattle.av_state.specs.Index.{IsPlaceOf}

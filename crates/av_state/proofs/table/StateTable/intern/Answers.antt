@@ -1,4 +1,4 @@
-use Rattle.std.proofs.Common.{refl, sym}
+use Rattle.std.proofs.Common.{refl}
 use Rattle.av_state.specs.Table.{states}
 use Rattle.av_state.specs.States.{state_of}
 use Rattle.av_state.proofs.Numbering.{Numbers-first, Numbers-old, not_new}
