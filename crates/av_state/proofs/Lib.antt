@@ -1,6 +1,7 @@
 pub mod Lists
 pub mod Numbering
-pub mod Keys
 pub mod Ordered
 pub mod Storable
-pub mod Told
+pub mod Compared
+pub mod Placing
+pub mod Found

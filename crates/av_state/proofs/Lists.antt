@@ -1,15 +1,8 @@
--- Lists: equal places, the first place that passes, clones.
-use Rattle.std.proofs.Common.{◌≡◌, ℕ, suc, ◌+◌, List, [], ◌∷◌, map, Bool, true, false, ◌&&◌, Option, Some, None, option_map, cond, refl, ap, ◌∙◌, sym, arith}
+-- Lists: the first place that passes, clones.
+use Rattle.std.proofs.Common.{◌≡◌, ℕ, suc, ◌+◌, List, [], ◌∷◌, map, Bool, true, false, Option, Some, None, option_map, cond, refl, ap, ◌∙◌, sym, arith}
 use Rattle.std.specs.List.{position, position_from, list_any, AllZip}
 use Rattle.std.proofs.lemmas.Iterator.Adapters.{position_from-zero}
-use Rattle.std.specs.Cmp.Lexicographic.{pointwise}
 use Rattle.av_state.specs.BlockState.{index_where}
-
-pub pointwise-map : {A B : Type 0} (E : B → B → Bool) (f : A → B) (xs ys : List A) → pointwise E (map f xs) (map f ys) ≡ pointwise (λ x y. E (f x) (f y)) xs ys
-pointwise-map E f [] [] = refl
-pointwise-map E f [] (y ∷ ys) = refl
-pointwise-map E f (x ∷ xs) [] = refl
-pointwise-map E f (x ∷ xs) (y ∷ ys) = ap (λ b. E (f x) (f y) && b) (pointwise-map E f xs ys)
 
 shifted : (i : ℕ) (o : Option ℕ) → option_map (λ k. i + k) (option_map suc o) ≡ option_map (λ k. (i + 1) + k) o
 shifted i None = refl
@@ -45,3 +38,9 @@ AllZip-views v [] [] h = refl
 AllZip-views v [] (y ∷ ys) h = absurd h
 AllZip-views v (x ∷ xs) [] h = absurd h
 AllZip-views v (x ∷ xs) (y ∷ ys) h = ap (λ z. z ∷ map v ys) h.0 ∙ ap (λ zs. v x ∷ zs) (AllZip-views v xs ys h.1)
+
+pub AllZip-same : (xs ys : List ℕ) → AllZip (λ x y. y ≡ x) xs ys → ys ≡ xs
+AllZip-same [] [] h = refl
+AllZip-same [] (y ∷ ys) h = absurd h
+AllZip-same (x ∷ xs) [] h = absurd h
+AllZip-same (x ∷ xs) (y ∷ ys) h = ap (λ z. z ∷ ys) h.0 ∙ ap (λ zs. x ∷ zs) (AllZip-same xs ys h.1)

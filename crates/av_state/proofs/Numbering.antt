@@ -1,5 +1,5 @@
 -- Numbering states one after the other.
-use Rattle.std.proofs.Common.{◌≡◌, ℕ, zero, suc, ◌+◌, ◌-◌, ◌<◌, ◌≤◌, List, [], ◌∷◌, ◌++◌, length, take, drop, map, Bool, true, false, ◌&&◌, ◌||◌, Option, Some, None, option_map, option_and_then, IfSome, cond, refl, ap, ◌∙◌, sym, arith, subst, length-append}
+use Rattle.std.proofs.Common.{◌≡◌, ℕ, zero, suc, ◌+◌, ◌-◌, ◌<◌, ◌≤◌, List, [], ◌∷◌, ◌++◌, length, take, drop, map, Bool, true, false, ◌&&◌, ◌||◌, Option, Some, None, option_map, option_and_then, IfSome, Result, Ok, Err, OnOk, OnErr, cond, refl, ap, ◌∙◌, sym, arith, subst, length-append}
 use Rattle.std.specs.List.{list_any, slice_get}
 use Rattle.std.specs.Str.{bytes_eq}
 use Rattle.std.specs.Cmp.Lexicographic.{pointwise}
@@ -9,7 +9,7 @@ use Rattle.std.specs.Bool.{Decides}
 use Rattle.std.proofs.lemmas.Option.{none-some, same_Some, slice_get_within}
 use Rattle.std.proofs.lemmas.List.{take-append-drop, take-append-le, length-take, map-append}
 use Rattle.av_state.specs.BlockState.{Property, BlockState, air, water, meant}
-use Rattle.av_state.specs.StateList.{same_property, same_state, first_states, most_states, number_in, with_state, with_states, IsStateList, Numbers}
+use Rattle.av_state.specs.StateList.{same_property, same_state, first_states, most_states, number_in, with_state, with_states, IsStateList, Numbers, IsOneTooMany}
 
 both : {b c : Bool} → b ≡ true → c ≡ true → (b && c) ≡ true
 both h k = rw (h, k) refl
@@ -267,6 +267,23 @@ known xs s n (Some m) l h e =
     let there : slice_get xs m ≡ Some s = number_in-there xs s m e in
     e ∙ ap Some (l.distinct m n (slice_get_within xs m s there) (slice_get_within xs n s h) (there ∙ sym h))
 
+-- whether there was room or not, the states are a table
+pub IsStateList-put : {A X : Type 0} (r : Result A X) (old new : List BlockState) (s : BlockState) → OnOk r (new ≡ old ++ s ∷ []) → OnErr r (new ≡ old) → IsStateList old → meant s ≡ Some s → number_in old s ≡ None → length old < most_states → IsStateList new
+IsStateList-put (Ok a) old new s ok err l m none room = subst IsStateList (sym ok) (IsStateList-more old s l m none room)
+IsStateList-put (Err x) old new s ok err l m none room = subst IsStateList (sym err) l
+
+there_cases : (xs : List BlockState) (s : BlockState) (n : ℕ) (o : Option ℕ) → slice_get xs n ≡ Some s → number_in xs s ≡ o → with_state xs s ≡ xs
+there_cases xs s n None h e = absurd (absent xs s e n h)
+there_cases xs s n (Some m) h e = ap (λ b. cond b xs (xs ++ s ∷ [])) (number_in-any xs s m e)
+
+-- a state that is there is not put at the end
+pub with_state-there : (xs : List BlockState) (s : BlockState) (n : ℕ) → slice_get xs n ≡ Some s → with_state xs s ≡ xs
+with_state-there xs s n h = there_cases xs s n (number_in xs s) h refl
+
+-- one that is not is
+pub with_state-new : (xs : List BlockState) (s : BlockState) → number_in xs s ≡ None → with_state xs s ≡ xs ++ s ∷ []
+with_state-new xs s e = ap (λ b. cond b xs (xs ++ s ∷ [])) (number_in-none xs s e)
+
 -- the number of a number's state is that number
 pub number_in-state : (xs : List BlockState) (s : BlockState) (n : ℕ) → IsStateList xs → slice_get xs n ≡ Some s → number_in xs s ≡ Some n
 number_in-state xs s n l h = known xs s n (number_in xs s) l h refl
@@ -276,3 +293,9 @@ pub number_of-there : (xs : List BlockState) (o : Option BlockState) (r : Option
 number_of-there xs o None e = tt
 number_of-there xs None (Some n) e = absurd (none-some n (sym e))
 number_of-there xs (Some s) (Some n) e = number_in-there xs s n (sym e)
+
+-- a state that has a number is not one too many
+pub not_new : (xs : List BlockState) (s : BlockState) (n : ℕ) → meant s ≡ Some s → number_in xs s ≡ Some n → IsOneTooMany xs s → ⊥
+not_new xs s n m known full =
+    let same : full.form ≡ s = same_Some full.form s (sym full.is_meant ∙ m) in
+    none-some n (sym full.is_new ∙ ap (number_in xs) same ∙ known)

@@ -89,4 +89,4 @@ some_step (Some s) b h = let e : state_of s ≡ b = cc in subst (λ t. is_storab
 
 -- so can each state of a table
 pub table-storable : (t : StateTable) (n : ℕ) (b : BlockState) → slice_get (states t) n ≡ Some b → is_storable b ≡ true
-table-storable t n b h = some_step (slice_get t.numbers.keys n) b (sym (slice_get-map state_of t.numbers.keys n) ∙ h)
+table-storable t n b h = some_step (slice_get t.states.items n) b (sym (slice_get-map state_of t.states.items n) ∙ h)

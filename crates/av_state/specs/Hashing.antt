@@ -56,10 +56,6 @@ all_told_texts (p ∷ ps) = told_texts p ++ all_told_texts ps
 abbrev pub same_told : PropertyText → PropertyText → Bool
 same_told p q = bytes_eq p.key.now q.key.now && bytes_eq p.value.now q.value.now
 
--- whether they are those of a property
-abbrev pub tells : PropertyText → Property → Bool
-tells p q = bytes_eq p.key.now q.key.items && bytes_eq p.value.now q.value.items
-
 pub told_texts-equal : (p q : PropertyText) → same_told p q ≡ true → told_texts p ≡ told_texts q
 told_texts-equal p q h = both-equal p.key.now p.value.now q.key.now q.value.now h
 
@@ -75,39 +71,3 @@ pub told_state-equal : (n m : List ℕ) (ps qs : List PropertyText) → (bytes_e
 told_state-equal n m ps qs h =
     let (here, more) = and_parts (bytes_eq n m) (pointwise same_told ps qs) h in
     ap (λ t. t ∷ all_told_texts ps) ((bytes_eq-Decides n m).0 here) ∙ ap (λ t. m ∷ t) (all_told_texts-equal ps qs more)
-
--- what stands for a property is hashed as it is
-told-hashed : (ps : List PropertyText) (qs : List Property) → pointwise tells ps qs ≡ true → all_told_texts ps ≡ properties_texts qs
-told-hashed [] [] h = refl
-told-hashed [] (q ∷ qs) h = absurd (false≢true h)
-told-hashed (p ∷ ps) [] h = absurd (false≢true h)
-told-hashed (p ∷ ps) (q ∷ qs) h =
-    let (here, more) = and_parts (tells p q) (pointwise tells ps qs) h in
-    ap (λ t. t ++ all_told_texts ps) (both-equal p.key.now p.value.now q.key.items q.value.items here) ∙ ap (λ t. property_texts q ++ t) (told-hashed ps qs more)
-
-pub state-hashed : (n m : List ℕ) (ps : List PropertyText) (qs : List Property) → (bytes_eq n m && pointwise tells ps qs) ≡ true → n ∷ all_told_texts ps ≡ m ∷ properties_texts qs
-state-hashed n m ps qs h =
-    let (here, more) = and_parts (bytes_eq n m) (pointwise tells ps qs) h in
-    ap (λ t. t ∷ all_told_texts ps) ((bytes_eq-Decides n m).0 here) ∙ ap (λ t. m ∷ t) (told-hashed ps qs more)
-
--- what stands for one state stands for those that are equal to it, and for no other
-tells-again : (p : PropertyText) (x y : Property) → tells p x ≡ true → tells p y ≡ equal_properties x y
-tells-again p x y h =
-    let (k, v) = and_parts (bytes_eq p.key.now x.key.items) (bytes_eq p.value.now x.value.items) h in
-    ap (λ t. bytes_eq t y.key.items && bytes_eq p.value.now y.value.items) ((bytes_eq-Decides p.key.now x.key.items).0 k)
-    ∙ ap (λ t. bytes_eq x.key.items y.key.items && bytes_eq t y.value.items) ((bytes_eq-Decides p.value.now x.value.items).0 v)
-
-all-tell-again : (ps : List PropertyText) (xs ys : List Property) → pointwise tells ps xs ≡ true → pointwise tells ps ys ≡ pointwise equal_properties xs ys
-all-tell-again [] [] ys h = elim ys [ [] ↦ refl | y ∷ rest ↦ refl ]
-all-tell-again [] (x ∷ xs) ys h = absurd (false≢true h)
-all-tell-again (p ∷ ps) [] ys h = absurd (false≢true h)
-all-tell-again (p ∷ ps) (x ∷ xs) [] h = refl
-all-tell-again (p ∷ ps) (x ∷ xs) (y ∷ ys) h =
-    let (here, more) = and_parts (tells p x) (pointwise tells ps xs) h in
-    ap (λ b. b && pointwise tells ps ys) (tells-again p x y here) ∙ ap (λ b. equal_properties x y && b) (all-tell-again ps xs ys more)
-
-pub state-told-again : (n m o : List ℕ) (ps : List PropertyText) (xs ys : List Property) → (bytes_eq n m && pointwise tells ps xs) ≡ true
-    → (bytes_eq n o && pointwise tells ps ys) ≡ (bytes_eq m o && pointwise equal_properties xs ys)
-state-told-again n m o ps xs ys h =
-    let (here, more) = and_parts (bytes_eq n m) (pointwise tells ps xs) h in
-    ap (λ t. bytes_eq t o && pointwise tells ps ys) ((bytes_eq-Decides n m).0 here) ∙ ap (λ b. bytes_eq m o && b) (all-tell-again ps xs ys more)

@@ -7,3 +7,5 @@ pub mod Table
 pub mod Form
 pub mod Texts
 pub mod Hashing
+pub mod Order
+pub mod Index

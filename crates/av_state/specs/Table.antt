@@ -6,4 +6,4 @@ use Rattle.av_state.specs.States.{state_of}
 
 -- in the order of their numbers
 abbrev pub states : StateTable → List BlockState
-states t = map state_of t.numbers.keys
+states t = map state_of t.states.items

@@ -1,6 +1,7 @@
 //! Block states and their numbers.
 #![tactic(auto)]
 
+mod index;
 pub mod state;
 pub mod table;
 pub mod text;

@@ -13,7 +13,7 @@ use std::alloc::{AllocError, Global};
 use std::hash::{Hash, Hasher};
 
 /// One property of a state, as `lit` = `true`.
-#[derive(Debug, Drop, PartialEq, Eq)]
+#[derive(Debug, Drop, PartialEq, Eq, PartialOrd, Ord)]
 pub struct Property {
     /// The property's name.
     pub key: Vec<u8>,
@@ -47,7 +47,7 @@ impl Clone for Property {
 
 /// A block state: a name, and properties in the byte order of their keys, none of them twice. Each text is of at most
 /// 65,535 bytes, as those of a file are.
-#[derive(Debug, Drop, PartialEq, Eq)]
+#[derive(Debug, Drop, PartialEq, Eq, PartialOrd, Ord)]
 pub struct State {
     /// The block's name, as `minecraft:stone`.
     pub name: Vec<u8>,

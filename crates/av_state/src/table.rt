@@ -1,14 +1,15 @@
 //! Numbers for block states.
-ghost use Rattle.std.specs.Prelude.{◌≡◌, map, OnOk};
-ghost use Rattle.av_state.specs.StateList.{IsStateList, with_state};
+ghost use Rattle.std.specs.Prelude.{◌≡◌, map};
+ghost use Rattle.av_state.specs.Index.{IsIndex};
+ghost use Rattle.av_state.specs.StateList.{IsStateList};
 ghost use Rattle.av_state.specs.States.{state_of};
 ghost use Rattle.std.proofs.Props.{props};
 
+use crate::index::{Index, Sought};
 use crate::state::{Form, State};
 use crate::text::{PropertyText, StateText};
 use av_types::{Fault, Wet};
-use indexmap::IndexSet;
-use std::alloc::{AllocError, Global};
+use std::alloc::Global;
 
 /// The most states that a table has.
 const MOST_STATES: usize = 65535;
@@ -19,8 +20,10 @@ const MOST_STATES: usize = 65535;
 /// water and air in the form that they take when they are read.
 #[derive(Drop)]
 pub struct StateTable {
-    numbers: IndexSet<State>,
-    pub ghost numbered: { IsStateList (map state_of numbers.keys) } by { Prim.hlevel props },
+    states: Vec<State>,
+    index: Index,
+    pub ghost numbered: { IsStateList (map state_of states.items) } by { Prim.hlevel props },
+    ghost indexed: { IsIndex (map state_of states.items) index.fingerprints.items index.order.items } by { Prim.hlevel props },
 }
 
 impl StateTable {
@@ -28,6 +31,7 @@ impl StateTable {
     ghost use Rattle.av_types.specs.declared.fault.Fault.TheVariants.{OutOfMemory, BadWaterLevel, TooManyStates};
     ghost use Rattle.av_state.specs.BlockState.{meant, storable, wet_of};
     ghost use Rattle.av_state.specs.StateList.{first_states, most_states, number_in, Numbers, IsNew, IsOneTooMany};
+    ghost use Rattle.av_state.specs.Index.{IsPlaceOf};
     ghost use Rattle.av_state.specs.Table.{states};
     ghost use Rattle.av_state.specs.Texts.{properties_told, state_told, form_of};
 
@@ -36,19 +40,20 @@ impl StateTable {
         ensures ok { IfOk result (λ t. states t ≡ first_states) }
         ensures memory { IfErr result (λ e. e ≡ OutOfMemory) }
     {
-        let mut numbers = IndexSet::new(alloc);
-        add_state(&mut numbers, State::air(alloc)?)?;
+        let mut states = Vec::new(alloc);
+        let mut index = Index::new(alloc);
+        index.append(&mut states, State::air(alloc)?)?;
         for level in 0..9 {
-            add_state(&mut numbers, State::water(alloc, level)?)?;
+            index.append(&mut states, State::water(alloc, level)?)?;
         }
-        Ok(StateTable { numbers })
+        Ok(StateTable { states, index })
     }
 
     /// How many states there are, from 10 to 65,535.
     pub fn len(&self) -> usize
         ensures { result ≡ length (states self.now) }
     {
-        self.numbers.len()
+        self.states.len()
     }
 
     /// Whether there is no state, which is never so.
@@ -65,7 +70,7 @@ impl StateTable {
         // and of no other number
         ensures only { number_in (states self.now) (state_of result.now) ≡ Some number }
     {
-        &self.numbers[number as usize]
+        &self.states[number as usize]
     }
 
     /// The number of a state in the form that it takes when it is read, where it has such a form and that is there.
@@ -110,29 +115,19 @@ impl StateTable {
             return None;
         }
         match state.form() {
-            Form::Same => self.place_of(state),
+            Form::Same => self.place(&state),
             Form::Fixed(known) => Some(known),
             Form::NoLevel => None,
         }
     }
 
-    /// The number of a state whose texts stand elsewhere, as it is.
-    fn place_of(&self, state: StateText<'_>) -> Option<u16>
-        ensures { result ≡ number_in (states self.now) (state_told state.entry) }
-    {
-        match self.numbers.get_index_of(state) {
-            Some(index) => Some(index as u16),
-            None => None,
-        }
-    }
-
     /// The number of a state as it is.
-    fn place(&self, state: &State) -> Option<u16>
-        ensures { result ≡ number_in (states self.now) (state_of state.now) }
+    fn place<T: Sought>(&self, sought: &T) -> Option<u16>
+        ensures { result ≡ number_in (states self.now) (T.sought sought.now) }
     {
-        match self.numbers.get_index_of(state) {
-            Some(index) => Some(index as u16),
-            None => None,
+        match self.index.find(self.states.as_slice(), sought) {
+            Ok(number) => Some(number),
+            Err(_) => None,
         }
     }
 
@@ -159,35 +154,27 @@ impl StateTable {
         match state.form() {
             Form::Fixed(number) => Ok(number),
             Form::NoLevel => Err(Fault::BadWaterLevel),
-            Form::Same => match self.place(state) {
-                Some(number) => Ok(number),
-                None => self.add(state),
+            Form::Same => match self.index.find(self.states.as_slice(), state) {
+                Ok(number) => Ok(number),
+                Err(place) => self.add(state, place),
             },
         }
     }
 
-    /// Gives a new state the next number.
-    fn add(&mut self, state: &State) -> Result<u16, Fault>
+    /// Gives a new state the next number, and puts that at its place of the order.
+    fn add(&mut self, state: &State, place: usize) -> Result<u16, Fault>
         requires same { meant (state_of state.now) ≡ Some (state_of state.now) }
-        requires new { number_in (states self.old) (state_of state.now) ≡ None }
+        requires place { IsPlaceOf (states self.old) (state_of state.now) self.old.index.order.items place }
         ensures ok { IfOk result (Numbers (states self.old) (state_of state.now) (states self.new)) }
         ensures too_many { (result ≡ Err TooManyStates) ↔ (length (states self.old) ≡ most_states) }
         ensures memory { IfErr result (λ e. e ≢ TooManyStates → e ≡ OutOfMemory) }
         ensures unchanged { OnErr result (states self.new ≡ states self.old) }
     {
-        let number = self.numbers.len();
+        let number = self.states.len();
         if number >= MOST_STATES {
             return Err(Fault::TooManyStates);
         }
-        self.numbers.insert(state.clone()?)?;
+        self.index.put(state.clone()?, place, &mut self.states)?;
         Ok(number as u16)
     }
-}
-
-/// Puts a state at the end where it is not there yet.
-fn add_state(numbers: &mut IndexSet<State>, state: State) -> Result<(), AllocError>
-    ensures { OnOk result (map state_of numbers.new.keys ≡ with_state (map state_of numbers.old.keys) (state_of state)) }
-{
-    numbers.insert(state)?;
-    Ok(())
 }

@@ -1,14 +1,15 @@
 //! Names and properties whose texts stand elsewhere, as in a file's tags: a table is asked by them without a copy.
-ghost use Rattle.std.specs.Prelude.{◌≡◌, ◌&&◌, IfSome, option_map, length, true};
+ghost use Rattle.std.specs.Prelude.{◌≡◌, IfSome, option_map, length, true};
 ghost use Rattle.std.specs.List.{list_all};
-ghost use Rattle.std.specs.Cmp.Lexicographic.{pointwise};
-ghost use Rattle.std.specs.Str.{bytes_eq};
+ghost use Rattle.std.specs.Cmp.Lexicographic.{slice_cmp};
 ghost use Rattle.av_state.specs.BlockState.{is_short_property, starts_above, keys_rise, is_storable, value_of, level_of};
-ghost use Rattle.av_state.specs.Hashing.{tells};
-ghost use Rattle.av_state.specs.Texts.{properties_told, state_told};
+ghost use Rattle.av_state.specs.Order.{property_cmp};
+ghost use Rattle.av_state.specs.Texts.{property_told, properties_told, state_told};
+ghost use Rattle.av_state.specs.Views.{property_of, properties_of};
 
+use crate::index::{Sought, fingerprint};
 use crate::state::{AIR, Form, LEVEL, Property, State, WATER, is_short, level_of_text};
-use indexmap::Equivalent;
+use std::cmp::Ordering;
 use std::hash::{Hash, Hasher};
 
 /// A property whose texts stand elsewhere.
@@ -56,39 +57,44 @@ impl Hash for StateText<'_> {
     }
 }
 
-/// Whether the texts are those of a property.
-fn tells(text: PropertyText<'_>, property: &Property) -> bool
-    ensures { result ≡ tells text.entry property.now }
+/// How a property stands to one whose texts stand elsewhere.
+fn order_of_property(stored: &Property, sought: PropertyText<'_>) -> Ordering
+    ensures { result ≡ property_cmp (property_of stored.now) (property_told sought.entry) }
 {
-    text.key == property.key.as_slice() && text.value == property.value.as_slice()
+    match stored.key.as_slice().cmp(sought.key) {
+        Ordering::Equal => stored.value.as_slice().cmp(sought.value),
+        apart => apart,
+    }
 }
 
-/// Whether the texts are those of properties, one by one.
-fn all_tell(texts: &[PropertyText<'_>], properties: &[Property]) -> bool
-    ensures { result ≡ pointwise tells texts.now properties.now }
+/// How properties stand to those whose texts stand elsewhere.
+fn order_of_properties(stored: &[Property], sought: &[PropertyText<'_>]) -> Ordering
+    ensures { result ≡ slice_cmp property_cmp (properties_of stored.now) (properties_told sought.now) }
 {
-    if texts.len() != properties.len() {
-        return false;
-    }
-    for index in 0..texts.len() {
-        if !tells(texts[index], &properties[index]) {
-            return false;
+    for index in 0..stored.len() {
+        if index == sought.len() {
+            return Ordering::Greater;
+        }
+        let order = order_of_property(&stored[index], sought[index]);
+        if order.is_ne() {
+            return order;
         }
     }
-    true
+    stored.len().cmp(&sought.len())
 }
 
-impl Equivalent<State> for StateText<'_> {
-    ghost use Rattle.av_state.specs.Hashing.{state-hashed, state-told-again};
+impl Sought for StateText<'_> {
+    ghost sought = { state_told };
 
-    ghost equivalent = { λ s k. bytes_eq s.name.now k.name.items && pointwise tells s.properties.now k.properties.items };
+    fn fingerprint(&self) -> u64 {
+        fingerprint(self)
+    }
 
-    ghost respects_hash = { λ s k. state-hashed s.name.now k.name.items s.properties.now k.properties.items };
-
-    ghost respects_eq = { λ s x y. state-told-again s.name.now x.name.items y.name.items s.properties.now x.properties.items y.properties.items };
-
-    fn equivalent(&self, key: &State) -> bool {
-        self.name == key.name.as_slice() && all_tell(self.properties, key.properties.as_slice())
+    fn order_of(&self, stored: &State) -> Ordering {
+        match stored.name.as_slice().cmp(self.name) {
+            Ordering::Equal => order_of_properties(stored.properties.as_slice(), self.properties),
+            apart => apart,
+        }
     }
 }
 

@@ -4,4 +4,6 @@
 #[cfg(test)]
 mod expecting;
 #[cfg(test)]
+mod one_hash;
+#[cfg(test)]
 mod tests;

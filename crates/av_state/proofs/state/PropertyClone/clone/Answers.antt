@@ -1,4 +1,4 @@
-use Rattle.av_state.proofs.Keys.{AllZip-same}
+use Rattle.av_state.proofs.Lists.{AllZip-same}
 use Rattle.av_state.proofs.state.PropertyClone.clone.Goals as goal
 
 pub returns : goal.returns

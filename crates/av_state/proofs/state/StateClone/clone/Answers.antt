@@ -2,8 +2,7 @@ use Rattle.std.proofs.Common.{◌≡◌, sym, subst, true}
 use Rattle.av_state.specs.BlockState.{BlockState, is_storable}
 use Rattle.av_state.specs.Views.{property_of, properties_of}
 use Rattle.av_state.specs.States.{state_of}
-use Rattle.av_state.proofs.Lists.{AllZip-views}
-use Rattle.av_state.proofs.Keys.{AllZip-same}
+use Rattle.av_state.proofs.Lists.{AllZip-views, AllZip-same}
 use Rattle.av_state.proofs.state.StateClone.clone.Goals as goal
 
 pub invariant_of-result : goal.invariant_of-result

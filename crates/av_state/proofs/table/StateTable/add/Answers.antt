@@ -1,28 +1,34 @@
-use Rattle.std.proofs.Common.{◌≡◌, ◌<◌, ℕ, ◌∙◌, sym, subst, length, map, arith}
+use Rattle.std.proofs.Common.{◌≡◌, ◌<◌, ℕ, ◌∙◌, ◌++◌, ◌∷◌, [], List, ap, sym, subst, length, map, OnOk, arith}
 use Rattle.std.proofs.lemmas.List.{length-map}
+use Rattle.av_state.specs.BlockState.{BlockState}
 use Rattle.av_state.specs.StateList.{Numbers}
 use Rattle.av_state.specs.Table.{states}
 use Rattle.av_state.specs.States.{state_of}
-use Rattle.av_state.proofs.Keys.{same_views, IsStateList-insert, Numbers-insert}
+use Rattle.av_state.proofs.Numbering.{Numbers-new, IsStateList-put}
 use Rattle.av_state.proofs.table.StateTable.add.Goals as goal
 
 pub invariant_of-self-2 : goal.invariant_of-self-2
 invariant_of-self-2 c =
-    let s = c.args.state.now in
-    let old = c.args.self.now.numbers.keys in
-    let room : length (states c.args.self.now) < 65535 = omega (arith, length-map old state_of, c.len-number.ensures.len) in
-    record { numbered = IsStateList-insert _ (λ a b. same_views a b) c.insert.result old c.insert.new.self.keys c.in_ok-clone.field-0 (state_of s) c.in_ok-clone.ensures.cases c.insert.ensures.keys c.insert.ensures.err c.args.self.now.numbered c.requires.same c.requires.new room }
+    let s = state_of c.args.state.now in
+    let old = c.args.self.now.states.items in
+    let room : length (states c.args.self.now) < 65535 = omega (arith, length-map old state_of) in
+    let P : BlockState → Type 0 = λ t. OnOk c.put.result (map state_of c.put.new.states.items ≡ map state_of old ++ t ∷ []) in
+    record {
+      numbered = IsStateList-put c.put.result (map state_of old) (map state_of c.put.new.states.items) s (subst P c.in_ok-clone.ensures.cases c.put.ensures.ok) c.put.ensures.unchanged c.args.self.now.numbered c.requires.same c.requires.place.is_new room;
+      indexed = c.put.ensures.index;
+    }
 
 pub returns-clause-ok : goal.returns-clause-ok
 returns-clause-ok c =
-    let s = c.args.state.now in
-    let old = c.args.self.now.numbers.keys in
-    let n : length (states c.args.self.now) ≡ c.len-number.result = length-map old state_of ∙ sym c.len-number.ensures.len in
-    let h = Numbers-insert _ (λ a b. same_views a b) old c.insert.new.self.keys c.in_ok-clone.field-0 (state_of s) c.in_ok-clone.ensures.cases c.in_ok-insert.ensures.keys c.requires.same c.requires.new in
-    let Q : ℕ → Type 0 = λ k. Numbers (states c.args.self.now) (state_of s) (map state_of c.insert.new.self.keys) k in
-    subst Q n h
+    let s = state_of c.args.state.now in
+    let old = c.args.self.now.states.items in
+    let n : length (map state_of old) ≡ c.len-number.result = omega (arith, length-map old state_of) in
+    let all : map state_of c.put.new.states.items ≡ map state_of old ++ s ∷ [] = c.in_ok-put.ensures.ok ∙ ap (λ t. map state_of old ++ t ∷ []) c.in_ok-clone.ensures.cases in
+    let P : List BlockState → Type 0 = λ xs. Numbers (map state_of old) s xs (length (map state_of old)) in
+    let Q : ℕ → Type 0 = λ k. Numbers (map state_of old) s (map state_of c.put.new.states.items) k in
+    subst Q n (subst P (sym all) (Numbers-new (map state_of old) s c.requires.same c.requires.place.is_new))
 
 pub returns-clause-too_many : goal.returns-clause-too_many
 returns-clause-too_many c =
-    let room : length (states c.args.self.now) < 65535 = omega (arith, length-map c.args.self.now.numbers.keys state_of, c.len-number.ensures.len) in
+    let room : length (states c.args.self.now) < 65535 = omega (arith, length-map c.args.self.now.states.items state_of) in
     (λ refused. absurd cc, λ full. absurd (omega (arith, room, full)))

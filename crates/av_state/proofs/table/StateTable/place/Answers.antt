@@ -1,16 +1,6 @@
-use Rattle.std.proofs.Common.{◌∙◌}
-use Rattle.av_state.specs.States.{state_of}
-use Rattle.av_state.specs.StateList.{same_state}
-use Rattle.av_state.proofs.Lists.{position-views}
-use Rattle.av_state.proofs.Keys.{same_views}
+use Rattle.std.proofs.Common.{sym}
+use Rattle.av_state.proofs.Found.{number_in-found}
 use Rattle.av_state.proofs.table.StateTable.place.Goals as goal
 
-pub returns-in-Some : goal.returns-in-Some
-returns-in-Some c =
-    let s = c.args.state.now in
-    c.in-Some.ensures.index ∙ position-views _ state_of (same_state (state_of s)) (λ t. same_views s t) c.args.self.now.numbers.keys
-
-pub returns-in-None : goal.returns-in-None
-returns-in-None c =
-    let s = c.args.state.now in
-    c.in-None.ensures.index ∙ position-views _ state_of (same_state (state_of s)) (λ t. same_views s t) c.args.self.now.numbers.keys
+pub returns-in-Ok : goal.returns-in-Ok
+returns-in-Ok g c = sym (number_in-found c.as_slice.ensures.value c.args.self.now.numbered c.in-Ok.ensures)
