@@ -101,7 +101,7 @@ LIGHTS = """
     vault[facing=north,ominous=false,vault_state=active] 12 1.21
 """
 
-# What a state that gives no light has beside glowstone: 14, or 0 where it stops all light.
+# What a state that gives no light has beside glowstone: 14, or 0 where it stops all light, as a block of a later version does.
 BESIDE = """
     air 14
     water[level=0] 14
@@ -167,7 +167,7 @@ BESIDE = """
     cherry_leaves[distance=1,persistent=false,waterlogged=false] 14 1.20
     bamboo_mosaic_stairs[facing=north,half=top,shape=straight,waterlogged=false] 14 1.20
     chiseled_bookshelf[facing=north] 0 1.20
-    pale_wall_hanging_sign[facing=north,waterlogged=false] 0
+    firefly_bush 0
     oak_wall_hanging_sign[facing=north,waterlogged=false] 14 1.20
     short_grass 14 1.20.3
     polished_tuff_wall[east=low,north=none,south=none,up=true,waterlogged=false,west=low] 14 1.21
