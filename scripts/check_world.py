@@ -8,6 +8,7 @@ worlds, words and files are given that are refused; a call meets another, the ga
 calls end before each change of the file system and are made again, with stand_in.py in the program's place. Where Python has no
 module lz4 (Debian: python3-lz4) no chunk is LZ4.
 """
+import contextlib
 import glob
 import os
 import resource
@@ -24,7 +25,7 @@ from check_packed import difference
 from flat_runs import WATER, edit
 from kept_worlds import HAS_LZ4, LOADED, SPRING, Document, game_world, lit, payload, small_world, stamps_of, stored_chunks_of, write_world
 from stored_chunks import STAMPS, ZLIB, write
-from world_calls import COMMAND, STAND_IN, backup, call, contents, others, refused, shots
+from world_calls import COMMAND, STAND_IN, backup, begun, call, contents, others, refused, shots
 
 # ---------------------------------------------------------------- a whole run
 
@@ -137,6 +138,10 @@ def words(work, program):
         status, out, err = call(*given)
         yield given, (2, [], "usage: anvilwater-world", "anvilwater-world: error: " + line), (status, out, err[0][:23], err[-1])
     yield "help", (0, "usage: anvilwater-world"), (lambda found: (found[0], found[1][0][:23]))(call("--help"))
+    steps = ["%s, step %d of 3: %d of 5 files" % (name, step, done) for name, step in (("plain", 1), ("packed", 3)) for done in range(1, 6)]
+    told = call(world, "--progress", what="same")[2]
+    yield "progress", steps, [line.partition(", about ")[0] for line in told if "files, about " in line]
+    yield "a terminal", True, all(step in on_terminal(world) for step in steps)
     for where in (region, os.path.join(world, "DIM-1")):
         taken = region if where == region else os.path.join(where, "region")
         yield where, (0, ["folder " + taken, "chunks 5 turns 0", "nothing changed"], []), call(where, what="same")
@@ -155,6 +160,20 @@ def words(work, program):
     yield "nothing is another", was, shots(world)
     shutil.copy(os.path.join(region, "r.0.0.mca"), world)
     yield "both", refused("%s has region files and a folder region; name the one that is meant" % world), call(world)[::2]
+
+
+def on_terminal(world):
+    """What a call tells where standard error is a terminal."""
+    master, slave = os.openpty()
+    process = begun(world, what="same", stderr=slave)
+    os.close(slave)
+    found = b""
+    with contextlib.suppress(OSError):
+        while piece := os.read(master, 4096):
+            found += piece
+    os.close(master)
+    process.communicate()
+    return found.decode()
 
 
 def hostile(work, program):
@@ -191,7 +210,7 @@ def main():
         sys.exit(__doc__)
     program, asked, wrong = os.path.abspath(sys.argv[1]), 0, 0
     for examples in (whole, words, hostile, check_ends.locks, check_ends.signals, check_ends.changed_by_others,
-                     check_ends.elsewhere, check_ends.ends):
+                     check_ends.devices, check_ends.syncs, check_ends.going_back, check_ends.ends):
         with tempfile.TemporaryDirectory() as work:
             for what, want, got in examples(os.path.realpath(work), program):
                 asked += 1

@@ -10,8 +10,8 @@ COMMAND, STAND_IN = os.path.join(TOP, "anvilwater-world"), os.path.join(TOP, "sc
 
 def begun(*words, program=STAND_IN, what="count", **options):
     """A call that is running. `what` is what stand_in.py does."""
-    return subprocess.Popen([COMMAND, *words, "--program", program], stdout=subprocess.PIPE, stderr=subprocess.PIPE, text=True,
-                            env={**os.environ, "STAND_IN": what}, **options)
+    options = {"stdout": subprocess.PIPE, "stderr": subprocess.PIPE, **options}
+    return subprocess.Popen([COMMAND, *words, "--program", program], text=True, env={**os.environ, "STAND_IN": what}, **options)
 
 
 def ended(process):

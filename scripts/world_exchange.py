@@ -85,9 +85,8 @@ def working_folder(world):
 
 def left_behind(world):
     """The working folders that calls left behind which didn't come to their end."""
-    start, end = map(re.escape, world.beside("\n").split("\n"))
-    form = re.compile(start + "[0-9a-f]{16}[.]work" + end)
-    paths = filter(form.fullmatch, (os.path.join(world.parent, name) for name in sorted(os.listdir(world.parent))))
+    form = re.compile(re.escape(world.mark) + "[0-9a-f]{16}[.]work")
+    paths = [os.path.join(world.parent, name) for name in sorted(os.listdir(world.parent)) if form.fullmatch(name)]
     return [path for path in paths if is_own(path)]
 
 

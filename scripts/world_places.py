@@ -38,9 +38,13 @@ class World(typing.NamedTuple):
     def name(self):
         return os.path.basename(self.region)
 
+    @property
+    def mark(self):
+        """How the names of this command's own files begin, which are beside the folder."""
+        return ".anvilwater-%s." % self.name
+
     def beside(self, ending):
-        """A name of this command's own, beside the folder."""
-        return os.path.join(self.parent, ".anvilwater-%s.%s" % (self.name, ending))
+        return os.path.join(self.parent, self.mark + ending)
 
 
 def find_world(named):
