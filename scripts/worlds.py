@@ -242,30 +242,30 @@ def processors():
     return len(os.sched_getaffinity(0))
 
 
-def reports(words, crew, files):
-    """Does what the words say by two pools of threads, for chunks and for files. What is to be told comes in the files' order."""
-    found = places(words.source) | (places(words.like) if words.like is not None else set())
-    work = Work(words, crew)
-    progress = Progress(len(found), words.progress)
-    futures = [files.submit(work.region, place) for place in sorted(found)]
-    try:
-        for future in futures:
-            report = future.result()
-            progress.tell(report.lines)
-            yield report
-    finally:
-        for future in futures:
-            future.cancel()
+def reports(words, found):
+    """Does what the words say with these regions, by two pools of threads, for chunks and for files. What is to be told comes in the
+    files' order."""
+    pools = concurrent.futures.ThreadPoolExecutor
+    with pools(processors()) as crew, pools(FILES_AT_ONCE) as files:
+        work = Work(words, crew)
+        futures = [files.submit(work.region, place) for place in sorted(found)]
+        try:
+            for future in futures:
+                yield future.result()
+        finally:
+            for future in futures:
+                future.cancel()
 
 
 def main():
     words, counts, wrong = words_read(), collections.Counter(regions=0, chunks=0), False
-    pools = concurrent.futures.ThreadPoolExecutor
     try:
-        with pools(processors()) as crew, pools(FILES_AT_ONCE) as files:
-            for report in reports(words, crew, files):
-                counts += report.counts
-                wrong |= report.wrong
+        found = places(words.source) | (places(words.like) if words.like is not None else set())
+        progress = Progress(len(found), words.progress)
+        for report in reports(words, found):
+            progress.tell(report.lines)
+            counts += report.counts
+            wrong |= report.wrong
     except OSError as why:
         sys.exit("worlds.py: %s: %s" % (why.filename, why.strerror))
     except KeyboardInterrupt:

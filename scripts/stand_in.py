@@ -1,0 +1,59 @@
+#!/usr/bin/env python3
+"""Stands in for the program in check_world.py, where it is to be seen how often it ran, or is to take long, or refuses.
+
+STAND_IN says what it does with region files: `count`, as without it, adds a byte to each chunk but those that begin with `keep`;
+one that begins with `grow` becomes one that needs a file of its own, and one that is as large as chunks can be is turned round. `same`
+changes nothing, `refuse` has a fault and status 7, `pause PATH` makes a file and goes on when that is gone, and `wait PATH` makes
+one and never goes on. What is imported late takes longer than all else where there are no files.
+"""
+import os
+import sys
+import time
+
+sys.dont_write_bytecode = True
+
+
+def counted(payload):
+    from stored_chunks import MOST, NOISE
+    if payload.startswith(b"keep"):
+        return payload
+    if payload.startswith(b"grow"):
+        return NOISE
+    return payload[::-1] if len(payload) == MOST else payload + b"+"
+
+
+def wait(path, always):
+    """Waits until the file is gone, or who called this program is."""
+    caller = os.getppid()
+    open(path, "x").close()
+    while os.getppid() == caller and (always or os.path.exists(path)):
+        time.sleep(0.02)
+    time.sleep(0.2)
+
+
+def copy_region(source, target, name, made):
+    from stored_chunks import PLAIN, read_plain, write_region
+    if os.path.getsize(os.path.join(source, name)) == 0:
+        open(os.path.join(target, name), "x").close()
+        return
+    x, z = map(int, name.split(".")[1:3])
+    chunks, stamps = read_plain(source, x, z)
+    write_region(target, x, z, {index: (PLAIN, made(payload)) for index, payload in chunks.items()}, stamps)
+
+
+def main():
+    words = dict(zip(sys.argv[2::2], sys.argv[3::2]))
+    names = os.listdir(words["--in"])
+    what, _, path = os.environ.get("STAND_IN", "count").partition(" ")
+    if names and what == "refuse":
+        sys.stderr.write("fault 99: StandIn\n")
+        sys.exit(7)
+    if names and what in ("wait", "pause"):
+        wait(path, what == "wait")
+    for name in names:
+        copy_region(words["--in"], words["--out"], name, (lambda payload: payload) if what == "same" else counted)
+    print("chunks %d turns 0" % len(names))
+
+
+if __name__ == "__main__":
+    main()

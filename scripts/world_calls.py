@@ -1,0 +1,57 @@
+"""Calls of anvilwater-world for check_world.py, and what they leave."""
+import glob
+import os
+import stat
+import subprocess
+
+TOP = os.path.dirname(os.path.dirname(os.path.abspath(__file__)))
+COMMAND, STAND_IN = os.path.join(TOP, "anvilwater-world"), os.path.join(TOP, "scripts", "stand_in.py")
+
+
+def begun(*words, program=STAND_IN, what="count", **options):
+    """A call that is running. `what` is what stand_in.py does."""
+    options = {"stdout": subprocess.PIPE, "stderr": subprocess.PIPE, **options}
+    return subprocess.Popen([COMMAND, *words, "--program", program], text=True, env={**os.environ, "STAND_IN": what}, **options)
+
+
+def ended(process):
+    """The status of a call, and the lines on its two streams."""
+    out, err = process.communicate(timeout=120)
+    return process.returncode, out.splitlines(), err.splitlines()
+
+
+def call(*words, **options):
+    return ended(begun(*words, **options))
+
+
+def refused(line):
+    """The status of a call that ends with this line, and the lines of errors."""
+    return 1, ["anvilwater-world: " + line]
+
+
+def shots(folder):
+    """All that is in a folder: each file with its bytes, mode, owner and time, and each other thing with its kind."""
+    found = {}
+    for top, folders, files in os.walk(folder):
+        for name in folders + files:
+            path = os.path.join(top, name)
+            status = os.lstat(path)
+            content = open(path, "rb").read() if stat.S_ISREG(status.st_mode) else None
+            time = status.st_mtime_ns if content is not None else 0
+            found[os.path.relpath(path, folder)] = content, status.st_mode, status.st_uid, status.st_gid, time
+    return found
+
+
+def contents(folder):
+    return {name: open(os.path.join(folder, name), "rb").read() for name in os.listdir(folder)}
+
+
+def backup(world):
+    """The files of the folder that is named by date and time, where there is one, or what folders there are."""
+    found = glob.glob(os.path.join(world, "region.before-*"))
+    return contents(found[0]) if len(found) == 1 else found
+
+
+def others(world):
+    """What a world has besides its region files and their backups."""
+    return sorted(name for name in os.listdir(world) if name != "region" and not name.startswith("region.before-"))

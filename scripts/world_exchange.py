@@ -1,0 +1,252 @@
+"""New region files take the places of old ones, so that each is whole whenever it ends, and the old ones are kept.
+
+A working folder beside the region files has the new files in `packed`, the old ones in `old` by links, and a journal, which is synced
+before the first file takes its place. With it the next call goes on where one ended; a folder without it is only taken away.
+"""
+import contextlib
+import errno
+import filecmp
+import json
+import os
+import re
+import secrets
+import shutil
+import stat
+
+from chunk_data import SECTOR
+from region_files import EXTERNAL_NAME, HEADER, REGION_NAME, externals
+from world_places import Problem, Stuck, is_ours, make_alike
+
+FORM = 1
+NO_LINKS = {errno.EPERM, errno.EXDEV, errno.EMLINK, errno.EOPNOTSUPP, errno.ENOSYS}
+
+# ---------------------------------------------------------------- files
+
+
+def sync(path):
+    descriptor = os.open(path, os.O_RDONLY)
+    try:
+        os.fsync(descriptor)
+    finally:
+        os.close(descriptor)
+
+
+def seen(path):
+    """By what a file is known again; None where there is none."""
+    try:
+        return known_by(os.lstat(path))
+    except FileNotFoundError:
+        return None
+
+
+def known_by(status):
+    return [status.st_size, status.st_mtime_ns]
+
+
+def stamps(path):
+    """The timestamps of a region file."""
+    with open(path, "rb") as file:
+        return file.read(HEADER)[SECTOR:]
+
+
+def copied(source, target):
+    """Copies a file with its owner, mode and time, and syncs it."""
+    shutil.copyfile(source, target, follow_symlinks=False)
+    with open(target, "rb") as file:
+        make_alike(file.fileno(), os.lstat(source))
+        shutil.copystat(source, target, follow_symlinks=False)
+        os.fsync(file.fileno())
+
+
+def linked(source, target):
+    """Gives a file a second name, or copies it where the file system has no such names."""
+    try:
+        os.link(source, target, follow_symlinks=False)
+    except OSError as why:
+        if why.errno not in NO_LINKS:
+            raise
+        copied(source, target)
+
+
+# ---------------------------------------------------------------- working folders
+
+
+@contextlib.contextmanager
+def working_folder(world):
+    """A new folder beside the region files. At the end it goes, unless it has a journal."""
+    path = world.beside("%s.work" % secrets.token_hex(8))
+    os.mkdir(path, 0o700)
+    try:
+        yield path
+    finally:
+        if not os.path.lexists(os.path.join(path, "journal")):
+            shutil.rmtree(path, ignore_errors=True)
+
+
+def left_behind(world):
+    """The working folders that calls left behind which didn't come to their end."""
+    form = re.compile(re.escape(world.mark) + "[0-9a-f]{16}[.]work")
+    paths = [os.path.join(world.parent, name) for name in sorted(os.listdir(world.parent)) if form.fullmatch(name)]
+    return [path for path in paths if is_own(path)]
+
+
+def is_own(path):
+    status = os.lstat(path)
+    if not stat.S_ISDIR(status.st_mode) or status.st_uid != os.geteuid():
+        raise Problem("%s was left behind by another user, or is none of this command's folders; nothing is done" % path)
+    return True
+
+
+# ---------------------------------------------------------------- the exchange
+
+
+class Exchange:
+    """An exchange of files by a working folder."""
+
+    def __init__(self, world, work):
+        self.world, self.region, self.work = world, world.region, work
+        self.packed, self.old = os.path.join(work, "packed"), os.path.join(work, "old")
+        self.journal = os.path.join(work, "journal")
+
+    def prepare(self, files, stored, backup):
+        """Finds the files that are to be replaced, added and removed, keeps the old ones by second names, and writes the journal.
+        `files` has what was there, and `stored` the regions whose chunks are all as they were stored, which are left alone. Answers
+        how many owners could not be kept, or None where nothing changed."""
+        aside, packed = self.alone(stored), sorted(os.listdir(self.packed))
+        new = [name for name in packed if name not in aside and (name not in files or not self.is_same(name))]
+        gone = [name for name in files if name not in aside and EXTERNAL_NAME.fullmatch(name) and name not in packed]
+        if not new and not gone:
+            return None
+        # What a region names is there before it, and goes after it.
+        new.sort(key=lambda name: (REGION_NAME.fullmatch(name) is not None, name))
+        foreign = [self.like_old(name, files) for name in new].count(False)
+        self.keep([name for name in new + gone if name in files], files)
+        for name, status in files.items():
+            self.check_same(name, status)
+        for name in new:
+            if name not in files and os.path.lexists(os.path.join(self.region, name)):
+                raise Problem("%s came while the world was worked on; nothing is done" % name)
+        before = {name: known_by(status) for name, status in files.items()}
+        self.write_journal({"form": FORM, "backup": backup, "new": [[name, before.get(name)] for name in new],
+                            "gone": [[name, before[name]] for name in gone]})
+        return foreign
+
+    def alone(self, stored):
+        """The files of these regions, but for regions whose timestamps changed."""
+        found, beside = set(), externals(self.region)
+        for place in stored:
+            if stamps(os.path.join(self.packed, place.name)) == stamps(os.path.join(self.region, place.name)):
+                found |= {place.name} | beside[place]
+        return found
+
+    def is_same(self, name):
+        return filecmp.cmp(os.path.join(self.packed, name), os.path.join(self.region, name), shallow=False)
+
+    def like_old(self, name, files):
+        """Gives a new file the owner and mode of the old one, and one that had none those of a region's."""
+        model = files.get(name) or next(iter(files.values()))
+        with open(os.path.join(self.packed, name), "rb") as file:
+            given = make_alike(file.fileno(), model)
+            os.fsync(file.fileno())
+        return given
+
+    def keep(self, names, files):
+        """Gives the old files second names in a folder that is like theirs."""
+        os.mkdir(self.old)
+        for name in names:
+            linked(os.path.join(self.region, name), os.path.join(self.old, name))
+        descriptor = os.open(self.old, os.O_RDONLY)
+        make_alike(descriptor, os.stat(self.region))
+        os.fsync(descriptor)
+        os.close(descriptor)
+
+    def check_same(self, name, status):
+        """Refuses a file that is another than the one that was read."""
+        path = os.path.join(self.region, name)
+        if seen(path) != known_by(status) or os.lstat(path).st_ino != status.st_ino:
+            raise Problem("%s was changed by another program while the world was worked on; nothing is done" % name)
+
+    def write_journal(self, content):
+        part = self.journal + ".part"
+        with open(part, "w", encoding="ascii") as file:
+            json.dump(content, file)
+            file.flush()
+            os.fsync(file.fileno())
+        for folder in (self.packed, self.world.parent):
+            sync(folder)
+        os.rename(part, self.journal)
+        sync(self.work)
+
+    # ------------------------------------------------------------ places
+
+    def read_journal(self):
+        try:
+            with open(self.journal, encoding="ascii") as file:
+                content = json.load(file)
+            names = [name for name, _ in content["new"] + content["gone"]]
+            if content["form"] != FORM or not isinstance(content["backup"], str) or not all(map(is_ours, names)):
+                raise ValueError
+        except (ValueError, KeyError, TypeError) as why:
+            raise Stuck("%s is no journal of this command; nothing is done" % self.journal) from why
+        return content
+
+    def place(self):
+        """Lets each new file take its place by a rename, then removes those that no region names any more, and answers the journal.
+        What was done before is not done again."""
+        content = self.read_journal()
+        parts = {name: os.path.join(self.packed, name) for name, _ in content["new"]}
+        for name, before in content["new"]:
+            self.check_part(name, os.path.lexists(parts[name]), before)
+        for name, _ in content["new"]:
+            if os.path.lexists(parts[name]):
+                os.replace(parts[name], os.path.join(self.region, name))
+        for name, before in content["gone"]:
+            path = os.path.join(self.region, name)
+            if seen(path) == before:
+                os.unlink(path)
+        sync(self.region)
+        return content
+
+    def check_part(self, name, waits, before):
+        """Refuses to go on where a file is another than it was when the journal was written, or where its new one is lost."""
+        is_old = seen(os.path.join(self.region, name)) == before
+        if waits != is_old:
+            raise Stuck("%s %s; nothing is done. Remove %s to go on with the files as they are; in it, old has the old ones" % (
+                name, "was changed since it began to be replaced" if waits else "is to be replaced, but its new file is lost", self.work))
+
+    def deliver(self, backup):
+        """Moves the old files to the folder in which they are to be kept."""
+        target = os.path.join(self.world.parent, backup)
+        if os.path.lexists(self.old):
+            try:
+                os.rename(self.old, target)
+            except OSError as why:
+                if why.errno != errno.EXDEV:
+                    raise
+                self.copy_old(target)
+            for folder in {os.path.dirname(target), self.work}:
+                sync(folder)
+        return target
+
+    def copy_old(self, target):
+        """Copies the old files to another file system."""
+        os.makedirs(target, exist_ok=True)
+        for name in sorted(os.listdir(self.old)):
+            copied(os.path.join(self.old, name), os.path.join(target, name))
+        descriptor = os.open(target, os.O_RDONLY)
+        make_alike(descriptor, os.stat(self.region))
+        os.fsync(descriptor)
+        os.close(descriptor)
+        shutil.rmtree(self.old)
+
+    def clear(self):
+        """Takes all away but the journal."""
+        for name in os.listdir(self.work):
+            path = os.path.join(self.work, name)
+            if path != self.journal:
+                shutil.rmtree(path) if os.path.isdir(path) else os.unlink(path)
+
+    def forget(self):
+        os.unlink(self.journal)
+        os.rmdir(self.work)
+        sync(self.world.parent)

@@ -1,0 +1,342 @@
+#!/usr/bin/env python3
+"""Runs the program over a world as the game keeps it, in place.
+
+    anvilwater-world WORLD [--edits FILE] [--ticks N] [--table FILE] [--workers N] [--backup FOLDER]
+
+WORLD is a world's folder or a dimension's (world, world/DIM-1), whose folder `region` is taken, or a folder of region files
+r.X.Z.mca itself. Its chunks may have any compression. The game must not have the world open, and can't open it meanwhile.
+
+The region files are made plain in a working folder beside them, the program sets the edits, runs the ticks and lights all chunks, and
+what it wrote is packed as it was before. Then each file that changed takes the place of the old one by a rename; the old files come
+to the folder of --backup, by default one beside the region files that is named with date and time. To go back, move them back.
+
+A chunk that can't be read, or is too large for the program, is named, counts as not loaded, and comes back as it was; a file that
+can't be taken there and back ends the call, and the world is as it was. A call that was interrupted while files took their places is
+finished by the next one, which then does nothing else. Status 0: all was done; 1: something was wrong, and a line says what; 2: other
+words are needed; another: that of the program where it refuses, 128 and the signal's number after INT, TERM or HUP.
+"""
+import argparse
+import contextlib
+import os
+import shutil
+import signal
+import subprocess
+import sys
+import time
+
+sys.dont_write_bytecode = True
+import worlds
+from region_files import places
+from world_exchange import Exchange, left_behind, working_folder
+from world_places import Problem, Stuck, find_world, hold_region, hold_session, surveyed
+
+TOP = os.path.dirname(os.path.dirname(os.path.abspath(__file__)))
+STOPS = signal.SIGINT, signal.SIGTERM, signal.SIGHUP
+MIB = 1 << 20
+
+
+class Stopped(BaseException):
+    """A signal asks for an end."""
+
+
+class Refused(Exception):
+    """The program refused, and said why."""
+
+# ---------------------------------------------------------------- words
+
+
+def number(least, most):
+    def read(text):
+        if not text.isdecimal() or not least <= int(text) <= most:
+            raise argparse.ArgumentTypeError("%r is no number from %d to %d" % (text, least, most))
+        return int(text)
+    return read
+
+
+def words_read(given):
+    parser = argparse.ArgumentParser(prog="anvilwater-world", description=__doc__, allow_abbrev=False,
+                                     formatter_class=argparse.RawDescriptionHelpFormatter)
+    parser.add_argument("world", metavar="WORLD", help="the folder of a world, of a dimension, or of region files")
+    parser.add_argument("--edits", metavar="FILE", help="blocks to be set, each in a tick of the run (docs/FORMATS.md)")
+    parser.add_argument("--ticks", metavar="N", type=number(0, 1_000_000), help="ticks to be run; 0 without --edits")
+    parser.add_argument("--table", metavar="FILE", default=os.path.join(TOP, "tables", "blocks.toml"),
+                        help="the block table; tables/blocks.toml without it")
+    parser.add_argument("--workers", metavar="N", type=number(1, 8), default=min(8, worlds.processors()),
+                        help="threads that turn ticks, 1 to 8; without it as many as there are processors")
+    parser.add_argument("--backup", metavar="FOLDER", help="a new folder for the old files")
+    parser.add_argument("--program", metavar="FILE", default=os.path.join(TOP, "anvilwater"), help="another program than ./anvilwater")
+    parser.add_argument("--progress", action="store_true", help="says how far it is on standard error, as it does on a terminal")
+    words = parser.parse_args(given)
+    if words.edits is not None and words.ticks is None:
+        parser.error("--edits needs --ticks N, since each edit is set in one of the run's ticks")
+    return words
+
+
+# ---------------------------------------------------------------- what is told
+
+
+def say(line):
+    """Tells a result. It is written at once, so that a device that fails is noticed."""
+    try:
+        os.write(1, os.fsencode(line + "\n"))
+    except OSError as why:
+        raise Problem("standard output: %s" % why.strerror) from why
+
+
+def note(line):
+    clear = "\r\033[K" if os.isatty(2) else ""
+    with contextlib.suppress(OSError):
+        os.write(2, os.fsencode(clear + line + "\n"))
+
+
+def complain(line):
+    note("anvilwater-world: " + line)
+
+
+class Progress:
+    """Tells which step is done, how many of its files are, and about how long it still takes."""
+
+    def __init__(self, shown):
+        self.terminal = os.isatty(2)
+        self.shown = shown or self.terminal
+        self.name, self.total, self.files, self.start = "", 0, 0, 0.0
+
+    def begin(self, name, total=0):
+        self.name, self.total, self.files, self.start = name, total, 0, time.monotonic()
+        self.show("%s: begins" % name, not total)
+
+    def step(self, lines):
+        """One file more is done, with what is to be told of it."""
+        self.files += 1
+        for line in lines:
+            note(line)
+        rest = (time.monotonic() - self.start) / self.files * (self.total - self.files)
+        self.show("%s: %d of %d files, about %.0f s left" % (self.name, self.files, self.total, rest))
+
+    def end(self):
+        self.show("%s: done in %.0f s" % (self.name, time.monotonic() - self.start), True)
+
+    def show(self, text, stays=False):
+        """On a terminal what stays not is written over."""
+        if self.shown and self.terminal and not stays:
+            os.write(2, ("\r\033[K" + text).encode())
+        elif self.shown:
+            note(text)
+
+
+# ---------------------------------------------------------------- signals
+
+
+@contextlib.contextmanager
+def stops_heeded():
+    """INT, TERM and HUP raise Stopped, once."""
+    def stop(which, _):
+        stops_ignored()
+        raise Stopped(which)
+    before = {which: signal.getsignal(which) for which in STOPS}
+    for which in STOPS:
+        if before[which] is not signal.SIG_IGN:
+            signal.signal(which, stop)
+    try:
+        yield
+    finally:
+        for which, handler in before.items():
+            signal.signal(which, handler)
+
+
+def stops_ignored():
+    for which in STOPS:
+        signal.signal(which, signal.SIG_IGN)
+
+
+# ---------------------------------------------------------------- the program
+
+
+class Program:
+    """The program, with the words of the call."""
+
+    def __init__(self, words, work):
+        self.path, self.workers = os.path.abspath(words.program), str(words.workers)
+        self.table, self.edits = os.path.join(work, "table"), os.path.join(work, "edits")
+        for source, target in ((words.table, self.table), (words.edits or os.devnull, self.edits)):
+            with open(source, "rb") as given, open(target, "xb") as file:
+                shutil.copyfileobj(given, file)
+
+    def run(self, source, target, edits, ticks):
+        """What it prints. Its other lines go where those of this command go."""
+        words = [self.path, "run", "--in", source, "--out", target, "--table", self.table, "--edits", edits, "--ticks", str(ticks),
+                 "--workers", self.workers]
+        with subprocess.Popen(words, stdin=subprocess.DEVNULL, stdout=subprocess.PIPE, start_new_session=True) as process:
+            try:
+                printed = process.communicate()[0]
+            except BaseException:
+                with contextlib.suppress(ProcessLookupError):
+                    os.killpg(process.pid, signal.SIGTERM)
+                raise
+        if process.returncode < 0:
+            raise Problem("the program was ended by signal %d; nothing is done" % -process.returncode)
+        if process.returncode > 0:
+            raise Refused(process.returncode)
+        return os.fsdecode(printed.rstrip(b"\n"))
+
+
+# ---------------------------------------------------------------- the call
+
+
+class Call:
+    """A call of the command."""
+
+    def __init__(self, words):
+        self.words, self.progress, self.world, self.wrong = words, Progress(words.progress), None, False
+
+    def run(self, stack):
+        """Does what the words say, under the locks, and answers the status."""
+        self.world = find_world(self.words.world)
+        hold_region(self.world, stack)
+        for top in self.world.tops:
+            hold_session(top, stack)
+        say("folder %s" % self.world.region)
+        if not self.finish_left():
+            self.work()
+        return 1 if self.wrong else 0
+
+    def finish_left(self):
+        """Finishes exchanges that calls before left behind, and answers whether there were any. What else they left goes."""
+        finished = False
+        for path in left_behind(self.world):
+            exchange = Exchange(self.world, path)
+            if os.path.lexists(exchange.journal):
+                self.exchange(exchange, ["finished a call that was interrupted; nothing else was done"])
+                finished = True
+            else:
+                shutil.rmtree(path)
+                complain("%s, which a call that was interrupted left behind, is taken away" % path)
+        return finished
+
+    def work(self):
+        region = self.world.region
+        survey, backup = surveyed(region), self.backup()
+        self.check_room(survey, backup)
+        with working_folder(self.world) as work:
+            plain, out, packed = (os.path.join(work, name) for name in ("plain", "out", "packed"))
+            program = self.program(work)
+            self.convert("plain", region, plain)
+            printed = self.run_program(program, plain, out)
+            shutil.rmtree(plain)
+            stored = self.convert("packed", out, packed, region)
+            exchange = Exchange(self.world, work)
+            foreign = exchange.prepare(survey.files, stored, backup)
+            if foreign is None:
+                say("%s\nnothing changed" % printed)
+            else:
+                self.exchange(exchange, [printed] if printed else [])
+            if foreign:
+                complain("the owners of %d files could not be kept" % foreign)
+
+    def backup(self):
+        """The folder for the old files, by its name beside the region files or by its path."""
+        if self.words.backup is None:
+            name = "%s.before-%s" % (self.world.name, time.strftime("%Y-%m-%d-%H%M%S"))
+            while os.path.lexists(os.path.join(self.world.parent, name)):
+                name += "-more"
+            return name
+        path = os.path.abspath(self.words.backup)
+        if os.path.lexists(path):
+            raise Problem("%s is there already, and --backup is to name a new folder; nothing is done" % path)
+        os.stat(os.path.dirname(path))
+        if not os.access(os.path.dirname(path), os.W_OK | os.X_OK):
+            raise Problem("%s can't be made; nothing is done" % path)
+        return path
+
+    def check_room(self, survey, backup):
+        """Refuses a file system that has not half the room that the work is likely to take."""
+        parent, beside = self.world.parent, os.path.dirname(os.path.join(self.world.parent, backup))
+        needed = {parent: 2 * survey.plain + survey.stored}
+        if os.stat(parent).st_dev != os.stat(beside).st_dev:
+            needed[beside] = survey.stored
+        for folder, size in needed.items():
+            status = os.statvfs(folder)
+            free = status.f_bavail * status.f_frsize
+            if free < size // 2:
+                raise Problem("%s has room for %d MiB, and about %d MiB are needed; nothing is done" % (folder, free // MIB, size // MIB))
+
+    # ------------------------------------------------------------ steps
+
+    def convert(self, way, source, target, like=None):
+        """Makes the files plain, or packs them, and answers the regions whose chunks are all as they were stored. A file that can't be
+        made ends the call."""
+        found, stored = places(self.world.region), []
+        os.mkdir(target)
+        self.progress.begin("%s, step %d of 3" % (way, 3 if like else 1), len(found))
+        words = argparse.Namespace(way=way, source=source, target=target, like=like)
+        with contextlib.closing(worlds.reports(words, found)) as reports:
+            for report in reports:
+                made = report.counts["regions"]
+                self.progress.step(report.lines if made else report.lines[:-1])
+                if not made:
+                    raise Problem(report.lines[-1])
+                self.wrong |= report.wrong
+                if report.counts["kept"] == report.counts["chunks"]:
+                    stored.append(report.place)
+        self.progress.end()
+        return stored
+
+    def program(self, work):
+        """The program with its table and edits, which are copied, since a pipe can be read once. It is run over no files, so that it
+        is built, and tells of a table that it refuses, before the work."""
+        nothing = os.path.join(work, "nothing")
+        os.mkdir(nothing)
+        program = Program(self.words, work)
+        program.run(nothing, nothing, os.devnull, 0)
+        return program
+
+    def run_program(self, program, source, target):
+        os.mkdir(target)
+        self.progress.begin("run, step 2 of 3")
+        printed = program.run(source, target, program.edits, self.words.ticks or 0)
+        self.progress.end()
+        return printed
+
+    def exchange(self, exchange, lines):
+        """Lets the new files take their places. Signals are not heeded here, and what is told is told before the journal goes: so a
+        call that told nothing is finished by the next one, and no call does its work twice."""
+        stops_ignored()
+        content = exchange.place()
+        target = exchange.deliver(content["backup"])
+        exchange.clear()
+        replaced = sum(before is not None for _, before in content["new"])
+        lines.append("replaced %d added %d removed %d" % (replaced, len(content["new"]) - replaced, len(content["gone"])))
+        say("\n".join([*lines, "before %s" % target]))
+        exchange.forget()
+
+
+def is_unfinished(world):
+    """Whether the next call has something to finish."""
+    with contextlib.suppress(OSError, Problem):
+        return world is not None and any(os.path.lexists(Exchange(world, path).journal) for path in left_behind(world))
+    return False
+
+
+def main(given=None):
+    call, status = Call(words_read(given)), 1
+    try:
+        with stops_heeded(), contextlib.ExitStack() as stack:
+            return call.run(stack)
+    except Refused as why:
+        return why.args[0]
+    except Stuck as why:
+        complain(str(why))
+        return status
+    except Problem as why:
+        line = str(why)
+    except OSError as why:
+        line = ": ".join(filter(None, (os.fsdecode(why.filename or ""), why.strerror or str(why))))
+    except Stopped as why:
+        line, status = "interrupted", 128 + why.args[0]
+    more = "; call again, which finishes what was begun" if is_unfinished(call.world) else ""
+    complain(line + more)
+    return status
+
+
+if __name__ == "__main__":
+    sys.exit(main())
