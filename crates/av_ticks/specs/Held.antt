@@ -1,15 +1,16 @@
 -- Working definitions: what a set of positions holds. No public clause cites them.
 use Rattle.std.specs.Prelude.{◌≡◌, Bool, List, Option}
 use Rattle.std.specs.Option.{ForSome}
+use Rattle.av_types.specs.Places.{place_of}
 use Rattle.av_types.specs.declared.place.Pos.{Pos}
 use Rattle.av_types.specs.declared.tick.Entry.{Entry}
 use Rattle.av_ticks.specs.Entries.{is_pending}
-use Rattle.av_ticks.specs.Patches.{patch_of, bit_of, marked_in}
+use Rattle.av_ticks.specs.Marked.{key_of, marked_in}
 use Rattle.av_ticks.specs.declared.positions.Positions.{Positions}
 
 -- a position is there
 unfoldable pub holds : Positions → Pos → Bool
-holds s p = marked_in s.patches (patch_of p) (bit_of p)
+holds s p = marked_in s.sections (key_of p) (place_of p)
 
 -- an index, where there is one, holds the positions of some entries and no others
 abbrev pub IsIndexOf : Option Positions → List Entry → Type 0

@@ -1,6 +1,6 @@
 pub mod Order
 pub mod Entries
-pub mod Patches
+pub mod Marked
 pub mod Held
 pub mod Stored
 pub mod Ticks

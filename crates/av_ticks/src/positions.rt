@@ -1,82 +1,83 @@
 //! A set of positions that is kept in an order, so that a look-up takes no more steps than the logarithm of what is there,
 //! whatever the positions are.
-ghost use Rattle.std.specs.Prelude.{ℕ, ◌≡◌, ◌<◌, ◌==◌, ◌&&◌, ◌||◌, not, false, true, OnOk, OnErr};
+ghost use Rattle.std.specs.Prelude.{ℕ, ◌≡◌, ◌==◌, ◌&&◌, ◌||◌, not, false, true, None, OnOk, OnErr};
 ghost use Rattle.std.specs.BTreeMap.{get, is_at};
 ghost use Rattle.av_types.specs.declared.place.Pos.{Pos};
 ghost use Rattle.av_types.specs.Places.{same_pos};
-ghost use Rattle.av_ticks.specs.declared.positions.Patch.{Patch};
-ghost use Rattle.av_ticks.specs.Patches.{patch_of, bit_of, patch_cmp, marked_in};
+ghost use Rattle.av_ticks.specs.declared.positions.SectionKey.{SectionKey};
+ghost use Rattle.av_ticks.specs.Marked.{key_of, key_cmp, marked_in};
 ghost use Rattle.av_ticks.specs.Held.{holds};
 
-use av_types::Pos;
+use av_section::places::PlaceSet;
+use av_types::{Place, Pos};
 use std::alloc::{AllocError, Global};
 use std::collections::BTreeMap;
 
-/// The 64 blocks of a quarter of a section's layer, 16 along x by 4 along z. What differs most within a chunk comes first.
+/// The position of a section, by what tells the sections of a chunk apart first.
 #[derive(Clone, Copy, PartialEq, Eq, PartialOrd, Ord)]
-struct Patch {
-    section_y: i32,
-    /// From 0 to 63, from the lowest layer up.
-    quarter: u16,
-    section_x: i32,
-    section_z: i32,
+struct SectionKey {
+    y: i32,
+    x: i32,
+    z: i32,
 }
 
-/// Bits by their patches.
-type Patches = BTreeMap<Patch, u64>;
+/// Sets of places by their sections.
+type Sections = BTreeMap<SectionKey, PlaceSet>;
 
 /// Some positions.
 #[derive(Drop)]
 pub(crate) struct Positions {
-    /// A bit for each block of a patch. A patch that has no bit left is taken out.
-    patches: Patches,
+    /// The places of each section. A chunk has few sections, so a look-up takes few steps. One whose places are all gone stays.
+    sections: Sections,
 }
 
-/// The patch that a block lies in.
-fn own_patch(pos: Pos) -> Patch
-    ensures { result ≡ patch_of pos }
+/// The key of the section that a block lies in.
+fn own_key(pos: Pos) -> SectionKey
+    ensures { result ≡ key_of pos }
 {
     let section = pos.section();
-    Patch {
-        section_y: section.y,
-        quarter: pos.place().index / 64,
-        section_x: section.x,
-        section_z: section.z,
+    SectionKey {
+        y: section.y,
+        x: section.x,
+        z: section.z,
     }
 }
 
-/// The number of a block in its patch.
-fn own_bit(pos: Pos) -> u32
-    ensures value { result ≡ bit_of pos }
-    ensures bound { result < 64 }
+/// Marks a place of a section that is there. Answers whether it is.
+fn mark(sections: &mut Sections, key: SectionKey, place: Place) -> bool
+    ensures here { result ≡ true → (i : ℕ) → marked_in sections.new key i ≡ (i == place.index || marked_in sections.old key i) }
+    ensures others { result ≡ true → (q : SectionKey) → is_at (key_cmp key) q ≡ false → get key_cmp sections.new q ≡ get key_cmp sections.old q }
+    ensures absent { result ≡ false → get key_cmp sections.old key ≡ None }
+    ensures same { result ≡ false → sections.new.entries ≡ sections.old.entries }
 {
-    u32::from(pos.place().index % 64)
-}
-
-/// Marks a block of a patch.
-fn mark(patches: &mut Patches, patch: Patch, bit: u32) -> Result<(), AllocError>
-    requires { bit < 64 }
-    ensures here { OnOk result ((i : ℕ) → marked_in patches.new patch i ≡ (i == bit || marked_in patches.old patch i)) }
-    ensures others { OnOk result ((q : Patch) → is_at (patch_cmp patch) q ≡ false → get patch_cmp patches.new q ≡ get patch_cmp patches.old q) }
-    ensures err { OnErr result (patches.new.entries ≡ patches.old.entries) }
-{
-    let bits = patches.entry(patch)?.or_insert(0);
-    *bits |= 1 << bit;
-    Ok(())
-}
-
-/// Takes the mark of a block of a patch away. Answers whether the patch has none left.
-fn unmark(patches: &mut Patches, patch: Patch, bit: u32) -> bool
-    requires { bit < 64 }
-    ensures here { (i : ℕ) → i < 64 → marked_in patches.new patch i ≡ (marked_in patches.old patch i && not (i == bit)) }
-    ensures others { (q : Patch) → is_at (patch_cmp patch) q ≡ false → get patch_cmp patches.new q ≡ get patch_cmp patches.old q }
-    ensures none { result ≡ true → (i : ℕ) → marked_in patches.new patch i ≡ false }
-{
-    let Some(bits) = patches.get_mut(&patch) else {
+    let Some(places) = sections.get_mut(&key) else {
         return false;
     };
-    *bits &= !(1 << bit);
-    *bits == 0
+    places.insert(place);
+    true
+}
+
+/// Takes the mark of a place of a section away.
+fn unmark(sections: &mut Sections, key: SectionKey, place: Place)
+    ensures here { (i : ℕ) → marked_in sections.new key i ≡ (marked_in sections.old key i && not (i == place.index)) }
+    ensures others { (q : SectionKey) → is_at (key_cmp key) q ≡ false → get key_cmp sections.new q ≡ get key_cmp sections.old q }
+{
+    if let Some(places) = sections.get_mut(&key) {
+        places.remove(place);
+    }
+}
+
+/// Puts in a section that is not there, with one place.
+fn add_section(sections: &mut Sections, key: SectionKey, place: Place) -> Result<(), AllocError>
+    requires absent { get key_cmp sections.old key ≡ None }
+    ensures here { OnOk result ((i : ℕ) → marked_in sections.new key i ≡ (i == place.index || marked_in sections.old key i)) }
+    ensures others { OnOk result ((q : SectionKey) → is_at (key_cmp key) q ≡ false → get key_cmp sections.new q ≡ get key_cmp sections.old q) }
+    ensures err { OnErr result (sections.new.entries ≡ sections.old.entries) }
+{
+    let mut first = PlaceSet::new();
+    first.insert(place);
+    sections.insert(key, first)?;
+    Ok(())
 }
 
 impl Positions {
@@ -85,7 +86,7 @@ impl Positions {
         ensures { (q : Pos) → holds result q ≡ false }
     {
         Positions {
-            patches: BTreeMap::new(alloc),
+            sections: BTreeMap::new(alloc),
         }
     }
 
@@ -93,8 +94,8 @@ impl Positions {
     pub(crate) fn has(&self, pos: Pos) -> bool
         ensures { result ≡ holds self.now pos }
     {
-        match self.patches.get(&own_patch(pos)) {
-            Some(bits) => bits >> own_bit(pos) & 1 == 1,
+        match self.sections.get(&own_key(pos)) {
+            Some(places) => places.contains(pos.place()),
             None => false,
         }
     }
@@ -104,8 +105,11 @@ impl Positions {
         ensures ok { OnOk result ((q : Pos) → holds self.new q ≡ (same_pos q pos || holds self.old q)) }
         ensures err { OnErr result ((q : Pos) → holds self.new q ≡ holds self.old q) }
     {
-        let patch = own_patch(pos);
-        mark(&mut self.patches, patch, own_bit(pos))?;
+        let key = own_key(pos);
+        if mark(&mut self.sections, key, pos.place()) {
+            return Ok(());
+        }
+        add_section(&mut self.sections, key, pos.place())?;
         Ok(())
     }
 
@@ -113,9 +117,6 @@ impl Positions {
     pub(crate) fn take_out(&mut self, pos: Pos)
         ensures { (q : Pos) → holds self.new q ≡ (holds self.old q && not (same_pos q pos)) }
     {
-        let patch = own_patch(pos);
-        if unmark(&mut self.patches, patch, own_bit(pos)) {
-            self.patches.remove(&patch);
-        }
+        unmark(&mut self.sections, own_key(pos), pos.place());
     }
 }
