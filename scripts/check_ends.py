@@ -155,7 +155,7 @@ def always(answer):
 
 def devices(work, _):
     """File systems without room or without links, owners that can't be given, and old files that are kept on another file system."""
-    worlds = [os.path.join(work, "world%d" % number) for number in range(4)]
+    worlds = [os.path.join(work, "world%d" % number) for number in range(5)]
     for world in worlds:
         write_world(world, small_world())
     old, was = contents(region_of(worlds[0])), shots(worlds[0])
@@ -171,7 +171,21 @@ def devices(work, _):
         os.chown(os.path.join(region_of(worlds[2]), "r.0.1.mca"), 1234, 1234)
         status, lines = forked(worlds[2], work, lambda: setattr(os, "fchown", always(PermissionError(errno.EPERM, "no owners"))))
         yield "no owners", (0, "anvilwater-world: the owners of 1 files could not be kept"), (status, lines[-1])
-    yield from elsewhere(worlds[3], kept)
+    yield from undelivered(worlds[3], work, kept)
+    yield from elsewhere(worlds[4], kept)
+
+
+def undelivered(world, work, kept):
+    """The folder for the old files can't be made, and then can."""
+    rename = os.rename
+    full = always(OSError(errno.ENOSPC, "No space left on device"))
+    status, lines = forked(world, work, lambda: setattr(os, "rename", lambda *names: (full if names[0].endswith("/old") else rename)(*names)))
+    line = "No space left on device; the new files are in their places, and the old ones are in %s/.anvilwater-region." % world
+    yield "no room for the old files", (1, line, "call again, which finishes what was begun"), \
+        (status, lines[-1].split(": ")[-1][:len(line)], lines[-1].split("; ")[-1])
+    status, out, _ = call(world)
+    told = ["folder " + region_of(world), "finished a call that was interrupted; nothing else was done", "replaced 3 added 1 removed 1"]
+    yield "then there is", (0, told, kept), (status, out[:3], backup(world))
 
 
 def elsewhere(world, kept):
@@ -301,7 +315,8 @@ def ends(work, _):
     new, kept = contents(region_of(world)), {name: old[name] for name in OLD}
     yield "the old files", kept, backup(world)
     chunks = {at: payload(chunk) for place in small_world() for at, chunk in stored_chunks_of(region_of(world), *place).items()}
-    yield "each chunk once", (b"chunk+", b"small+", b"plain+", b"more+", b"keep"), tuple(chunks[at] for at in ((0, 0), (3, 0), (-1, 0), (0, 32), (4, 0)))
+    places = (0, 0), (3, 0), (-1, 0), (0, 32), (4, 0)
+    yield "each chunk once", [b"chunk+", b"small+", b"plain+", b"more+", b"keep"], [chunks[at] for at in places]
     seen = set()
     for number in itertools.count(1):
         world = os.path.join(work, "world%d" % number)

@@ -24,7 +24,7 @@ import kept_worlds
 from check_packed import difference
 from flat_runs import WATER, edit
 from kept_worlds import HAS_LZ4, LOADED, SPRING, Document, game_world, lit, payload, small_world, stamps_of, stored_chunks_of, write_world
-from stored_chunks import STAMPS, ZLIB, write
+from stored_chunks import LZ4, RAW, STAMPS, ZLIB, write
 from world_calls import COMMAND, STAND_IN, backup, begun, call, contents, others, refused, shots
 
 # ---------------------------------------------------------------- a whole run
@@ -154,12 +154,24 @@ def words(work, program):
                         ((world, "--backup", missing + "/old"), missing + ": No such file or directory")):
         yield given, refused(line), call(*given)[::2]
     yield "no program", refused(missing + ": No such file or directory"), call(world, program=missing)[::2]
-    yield "a fault", (1, ["fault 20: BadEdit 1"]), call(world, "--edits", edits, "--ticks", "1", program=program)[::2]
+    valid = os.path.join(work, "valid")
+    write_world(valid, game_world())
+    yield "a fault", (1, [*TOLD, "fault 20: BadEdit 1"]), \
+        call(valid, "--edits", "/dev/stdin", "--ticks", "1", program=program, stdin=piped("1 2 3\n"))[::2]
     yield "a table", (1, ["fault 19: BadTable"]), call(world, "--table", edits, program=program)[::2]
     yield "another status", (7, ["fault 99: StandIn"]), call(world, what="refuse")[::2]
+    yield "a program that dies", refused("the program was ended by signal 9; nothing is done"), call(world, what="die")[::2]
     yield "nothing is another", was, shots(world)
     shutil.copy(os.path.join(region, "r.0.0.mca"), world)
     yield "both", refused("%s has region files and a folder region; name the one that is meant" % world), call(world)[::2]
+
+
+def piped(text):
+    """A pipe that has a text."""
+    end, start = os.pipe()
+    os.write(start, text.encode())
+    os.close(start)
+    return end
 
 
 def on_terminal(world):
@@ -178,8 +190,8 @@ def on_terminal(world):
 
 def hostile(work, program):
     """Files that a call refuses, and what it does where a device fails: the world is as it was."""
-    odd = [("r.7.0.mca", lambda path: os.symlink("r.0.0.mca", path), "r.7.0.mca is a symbolic link, in whose place a file would come; nothing is done"),
-           ("c.1.1.mcc", lambda path: os.symlink("r.0.0.mca", path), "c.1.1.mcc is a symbolic link, in whose place a file would come; nothing is done"),
+    link, is_link = lambda path: os.symlink("r.0.0.mca", path), "%s is a symbolic link, in whose place a file would come; nothing is done"
+    odd = [("r.7.0.mca", link, is_link % "r.7.0.mca"), ("c.1.1.mcc", link, is_link % "c.1.1.mcc"),
            ("r.7.0.mca", os.mkfifo, "r.7.0.mca is no file; nothing is done"), ("r.7.0.mca", os.mkdir, "r.7.0.mca is no file; nothing is done"),
            ("r.7.0.mca", lambda path: write(*os.path.split(path), b"bytes"), "r.7.0.mca: its 5 bytes are less than a header; nothing is done"),
            ("r.0.0.mca", lambda path: os.truncate(path, os.path.getsize(path) - 4096),
@@ -191,10 +203,17 @@ def hostile(work, program):
         was = shots(world)
         yield line, refused(line), call(world)[::2]
         yield "nothing is another", was, shots(world)
-    world, was = os.path.join(work, "world"), None
+    world = os.path.join(work, "world")
     write_world(world, small_world())
     was = shots(world)
     line = "r.0.0.mca: File too large; nothing is written for it"
+    module = os.path.join(work, "module")
+    os.mkdir(module)
+    write(module, "lz4.py", b"raise ImportError")
+    lz4 = os.path.join(work, "lz4")
+    write_world(lz4, {(0, 0): {(0, 0): (LZ4, RAW)}})
+    yield "no module", refused("r.0.0.mca: LZ4 needs the Python module lz4 (Debian: python3-lz4); nothing is done"), \
+        call(lz4, paths=[module])[::2]
     small = lambda: resource.setrlimit(resource.RLIMIT_FSIZE, (1 << 20, 1 << 20))
     yield "a device that fails", refused(line), call(world, preexec_fn=small)[::2]
     yield "nothing is another", was, shots(world)

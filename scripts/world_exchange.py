@@ -219,14 +219,21 @@ class Exchange:
         target = os.path.join(self.world.parent, backup)
         if os.path.lexists(self.old):
             try:
-                os.rename(self.old, target)
+                self.move_old(target)
             except OSError as why:
-                if why.errno != errno.EXDEV:
-                    raise
-                self.copy_old(target)
-            for folder in {os.path.dirname(target), self.work}:
-                sync(folder)
+                raise Problem("%s: %s; the new files are in their places, and the old ones are in %s" % (
+                    target, why.strerror, self.old)) from why
         return target
+
+    def move_old(self, target):
+        try:
+            os.rename(self.old, target)
+        except OSError as why:
+            if why.errno != errno.EXDEV:
+                raise
+            self.copy_old(target)
+        for folder in (os.path.dirname(target), self.work):
+            sync(folder)
 
     def copy_old(self, target):
         """Copies the old files to another file system."""
