@@ -184,7 +184,7 @@ def undelivered(world, work, kept):
     yield "no room for the old files", (1, line, "call again, which finishes what was begun"), \
         (status, lines[-1].split(": ")[-1][:len(line)], lines[-1].split("; ")[-1])
     status, out, _ = call(world)
-    told = ["folder " + region_of(world), "finished a call that was interrupted; nothing else was done", "replaced 3 added 1 removed 1"]
+    told = ["folder " + region_of(world), "finished a call that was interrupted; nothing else was done", "replaced 4 added 1 removed 1"]
     yield "then there is", (0, told, kept), (status, out[:3], backup(world))
 
 
