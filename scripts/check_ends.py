@@ -11,7 +11,7 @@ import time
 
 import world_run
 from kept_worlds import payload, small_world, stored_chunks_of, write_world
-from stored_chunks import EXTERNAL, write
+from stored_chunks import write
 from world_calls import STAND_IN, backup, begun, call, contents, ended, others, refused, shots
 
 ENDED, FAILED = 99, 98

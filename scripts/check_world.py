@@ -123,18 +123,15 @@ def compared(region, old):
 # ---------------------------------------------------------------- what is refused
 
 
-def words(work, program):
-    """Words, and folders that are a world, a dimension or neither."""
+def words(work, _):
+    """Words that are refused, help, and how far a call is."""
     world = os.path.join(work, "world")
     write_world(world, small_world())
-    shutil.copytree(os.path.join(world, "region"), os.path.join(world, "DIM-1", "region"))
-    was, region, edits = shots(world), os.path.join(world, "region"), os.path.join(work, "edits")
-    write(work, "edits", b"1 2 3\n")
     for given, line in (((), "the following arguments are required: WORLD"), ((world, "more"), "unrecognized arguments: more"),
                         ((world, "--ticks", "-1"), "argument --ticks: '-1' is no number from 0 to 1000000"),
                         ((world, "--ticks", "1000001"), "argument --ticks: '1000001' is no number from 0 to 1000000"),
                         ((world, "--workers", "9"), "argument --workers: '9' is no number from 1 to 8"),
-                        ((world, "--edits", edits), "--edits needs --ticks N, since each edit is set in one of the run's ticks")):
+                        ((world, "--edits", world), "--edits needs --ticks N, since each edit is set in one of the run's ticks")):
         status, out, err = call(*given)
         yield given, (2, [], "usage: anvilwater-world", "anvilwater-world: error: " + line), (status, out, err[0][:23], err[-1])
     yield "help", (0, "usage: anvilwater-world"), (lambda found: (found[0], found[1][0][:23]))(call("--help"))
@@ -142,6 +139,15 @@ def words(work, program):
     told = call(world, "--progress", what="same")[2]
     yield "progress", steps, [line.partition(", about ")[0] for line in told if "files, about " in line]
     yield "a terminal", True, all(step in on_terminal(world) for step in steps)
+
+
+def folders(work, program):
+    """Folders that are a world, a dimension or neither, files that are not there, and a program that refuses."""
+    world = os.path.join(work, "world")
+    write_world(world, small_world())
+    shutil.copytree(os.path.join(world, "region"), os.path.join(world, "DIM-1", "region"))
+    was, region, edits = shots(world), os.path.join(world, "region"), os.path.join(work, "edits")
+    write(work, "edits", b"1 2 3\n")
     for where in (region, os.path.join(world, "DIM-1")):
         taken = region if where == region else os.path.join(where, "region")
         yield where, (0, ["folder " + taken, "chunks 5 turns 0", "nothing changed"], []), call(where, what="same")
@@ -228,7 +234,7 @@ def main():
     if len(sys.argv) != 2:
         sys.exit(__doc__)
     program, asked, wrong = os.path.abspath(sys.argv[1]), 0, 0
-    for examples in (whole, words, hostile, check_ends.locks, check_ends.signals, check_ends.changed_by_others,
+    for examples in (whole, words, folders, hostile, check_ends.locks, check_ends.signals, check_ends.changed_by_others,
                      check_ends.devices, check_ends.syncs, check_ends.going_back, check_ends.ends):
         with tempfile.TemporaryDirectory() as work:
             for what, want, got in examples(os.path.realpath(work), program):
