@@ -1,4 +1,4 @@
-"""How calls of anvilwater-world end, for check_world.py: they meet others, and end before each change of the file system."""
+"""How calls of anvilwater-world end, for check_world.py: they meet others, and end before changes of the file system."""
 import errno
 import fcntl
 import itertools
@@ -307,32 +307,33 @@ def after_call(old, new, world):
 
 
 def ends(work, _):
-    """Calls that end before each change of the file system, and the calls after them."""
-    world = os.path.join(work, "world")
+    """Calls that end before changes of the file system, and the calls after them: before every fifth while copies are made, and before
+    each one from then on."""
+    world, path = os.path.join(work, "world"), os.path.join(work, "log")
     write_world(world, small_world())
     old = contents(region_of(world))
-    call(world)
+    with open(path, "w") as log:
+        forked(world, work, lambda: traced(log))
+    lines = open(path).read().splitlines()
+    first = next(number for number, line in enumerate(lines) if line.startswith("mkdir ") and line.endswith("/old"))
     new, kept = contents(region_of(world)), {name: old[name] for name in OLD}
     yield "the old files", kept, backup(world)
     chunks = {at: payload(chunk) for place in small_world() for at, chunk in stored_chunks_of(region_of(world), *place).items()}
     places = (0, 0), (3, 0), (-1, 0), (0, 32), (4, 0)
     yield "each chunk once", [b"chunk+", b"small+", b"plain+", b"more+", b"keep"], [chunks[at] for at in places]
     seen = set()
-    for number in itertools.count(1):
+    for number in [*range(1, first, 5), *range(first, len(lines) + 1)]:
         world = os.path.join(work, "world%d" % number)
         write_world(world, small_world())
-        status, lines = forked(world, work, lambda: ends_at(number))
-        if status != ENDED:
-            break
-        state, told = after_call(old, new, world), any(line.startswith("replaced ") for line in lines)
+        status, output = forked(world, work, lambda: ends_at(number))
+        state, told = after_call(old, new, world), any(line.startswith("replaced ") for line in output)
         seen.add((state, has_journal(world), told))
-        yield "after %d changes" % number, True, state == "old" or told or has_journal(world)
+        yield "after %d changes" % number, (ENDED, True), (status, state == "old" or told or has_journal(world))
         # A call that told its results and has no journal is at its end: another one would do more.
         is_last = told and not has_journal(world)
         again = call(world, what="same") if is_last else forked(world, work, lambda: None)
         yield "then another call", (0, "new", kept, ["level.dat", "session.lock"]), \
             (again[0], after_call(old, new, world), backup(world), others(world))
         shutil.rmtree(world)
-    yield "the last", (0, "new", kept, ["level.dat", "session.lock"]), (status, after_call(old, new, world), backup(world), others(world))
     yield "ends of each kind", {("old", False, False), ("old", True, False), ("some", True, False), ("new", True, False), ("new", True, True),
                                 ("new", False, True)}, seen

@@ -5,7 +5,7 @@
 
 PROGRAM runs a world of all compressions, whose chunks are compared tag by tag by a reader that shares nothing with worlds.py. Then
 worlds, words and files are given that are refused; a call meets another, the game's lock, signals, and other programs that write; and
-calls end before each change of the file system and are made again, with stand_in.py in the program's place. Where Python has no
+calls end before changes of the file system and are made again, with stand_in.py in the program's place. Where Python has no
 module lz4 (Debian: python3-lz4) no chunk is LZ4.
 """
 import contextlib
