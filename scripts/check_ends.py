@@ -329,11 +329,33 @@ def ends(work, _):
         state, told = after_call(old, new, world), any(line.startswith("replaced ") for line in output)
         seen.add((state, has_journal(world), told))
         yield "after %d changes" % number, (ENDED, True), (status, state == "old" or told or has_journal(world))
-        # A call that told its results and has no journal is at its end: another one would do more.
-        is_last = told and not has_journal(world)
-        again = call(world, what="same") if is_last else forked(world, work, lambda: None)
         yield "then another call", (0, "new", kept, ["level.dat", "session.lock"]), \
-            (again[0], after_call(old, new, world), backup(world), others(world))
+            (called_again(world, work, told), after_call(old, new, world), backup(world), others(world))
         shutil.rmtree(world)
     yield "ends of each kind", {("old", False, False), ("old", True, False), ("some", True, False), ("new", True, False), ("new", True, True),
                                 ("new", False, True)}, seen
+    number = next(number for number, line in enumerate(lines) if line.startswith("replace packed/") and " region/" in line)
+    yield from ends_again(work, number + 3, (old, new, kept))
+
+
+def called_again(world, work, told):
+    """The status of a call after one that ended. One that told its results and has no journal is at its end: another would do more."""
+    return call(world, what="same")[0] if told and not has_journal(world) else forked(world, work, lambda: None)[0]
+
+
+def ends_again(work, number, files):
+    """A call that ended after two files took their places, one that finishes it and ends before each of its changes, and a third."""
+    begun_world, (old, new, kept) = os.path.join(work, "begun"), files
+    write_world(begun_world, small_world())
+    forked(begun_world, work, lambda: ends_at(number))
+    yield "begun", ("some", True), (after_call(old, new, begun_world), has_journal(begun_world))
+    for count in itertools.count(1):
+        world = shutil.copytree(begun_world, os.path.join(work, "again%d" % count))
+        status, output = forked(world, work, lambda: ends_at(count))
+        if status != ENDED:
+            break
+        told = any(line.startswith("finished ") for line in output)
+        yield "a third call after %d changes" % count, (0, "new", kept, ["level.dat", "session.lock"]), \
+            (called_again(world, work, told), after_call(old, new, world), backup(world), others(world))
+        shutil.rmtree(world)
+    yield "a second call that doesn't end", (0, True), (status, count > 15)
