@@ -1,4 +1,4 @@
-"""How calls of anvilwater-world end, for check_world.py: they meet others, and end before each change of the file system."""
+"""How calls of anvilwater-world end, for check_world.py: they meet others, and end before changes of the file system."""
 import errno
 import fcntl
 import itertools
@@ -11,7 +11,7 @@ import time
 
 import world_run
 from kept_worlds import payload, small_world, stored_chunks_of, write_world
-from stored_chunks import EXTERNAL, write
+from stored_chunks import write
 from world_calls import STAND_IN, backup, begun, call, contents, ended, others, refused, shots
 
 ENDED, FAILED = 99, 98
@@ -155,7 +155,7 @@ def always(answer):
 
 def devices(work, _):
     """File systems without room or without links, owners that can't be given, and old files that are kept on another file system."""
-    worlds = [os.path.join(work, "world%d" % number) for number in range(4)]
+    worlds = [os.path.join(work, "world%d" % number) for number in range(5)]
     for world in worlds:
         write_world(world, small_world())
     old, was = contents(region_of(worlds[0])), shots(worlds[0])
@@ -171,7 +171,21 @@ def devices(work, _):
         os.chown(os.path.join(region_of(worlds[2]), "r.0.1.mca"), 1234, 1234)
         status, lines = forked(worlds[2], work, lambda: setattr(os, "fchown", always(PermissionError(errno.EPERM, "no owners"))))
         yield "no owners", (0, "anvilwater-world: the owners of 1 files could not be kept"), (status, lines[-1])
-    yield from elsewhere(worlds[3], kept)
+    yield from undelivered(worlds[3], work, kept)
+    yield from elsewhere(worlds[4], kept)
+
+
+def undelivered(world, work, kept):
+    """The folder for the old files can't be made, and then can."""
+    rename = os.rename
+    full = always(OSError(errno.ENOSPC, "No space left on device"))
+    status, lines = forked(world, work, lambda: setattr(os, "rename", lambda *names: (full if names[0].endswith("/old") else rename)(*names)))
+    line = "No space left on device; the new files are in their places, and the old ones are in %s/.anvilwater-region." % world
+    yield "no room for the old files", (1, line, "call again, which finishes what was begun"), \
+        (status, lines[-1].split(": ")[-1][:len(line)], lines[-1].split("; ")[-1])
+    status, out, _ = call(world)
+    told = ["folder " + region_of(world), "finished a call that was interrupted; nothing else was done", "replaced 4 added 1 removed 1"]
+    yield "then there is", (0, told, kept), (status, out[:3], backup(world))
 
 
 def elsewhere(world, kept):
@@ -293,31 +307,55 @@ def after_call(old, new, world):
 
 
 def ends(work, _):
-    """Calls that end before each change of the file system, and the calls after them."""
-    world = os.path.join(work, "world")
+    """Calls that end before changes of the file system, and the calls after them: before every fifth while copies are made, and before
+    each one from then on."""
+    world, path = os.path.join(work, "world"), os.path.join(work, "log")
     write_world(world, small_world())
     old = contents(region_of(world))
-    call(world)
+    with open(path, "w") as log:
+        forked(world, work, lambda: traced(log))
+    lines = open(path).read().splitlines()
+    first = next(number for number, line in enumerate(lines) if line.startswith("mkdir ") and line.endswith("/old"))
     new, kept = contents(region_of(world)), {name: old[name] for name in OLD}
     yield "the old files", kept, backup(world)
     chunks = {at: payload(chunk) for place in small_world() for at, chunk in stored_chunks_of(region_of(world), *place).items()}
-    yield "each chunk once", (b"chunk+", b"small+", b"plain+", b"more+", b"keep"), tuple(chunks[at] for at in ((0, 0), (3, 0), (-1, 0), (0, 32), (4, 0)))
+    places = (0, 0), (3, 0), (-1, 0), (0, 32), (4, 0)
+    yield "each chunk once", [b"chunk+", b"small+", b"plain+", b"more+", b"keep"], [chunks[at] for at in places]
     seen = set()
-    for number in itertools.count(1):
+    for number in [*range(1, first, 5), *range(first, len(lines) + 1)]:
         world = os.path.join(work, "world%d" % number)
         write_world(world, small_world())
-        status, lines = forked(world, work, lambda: ends_at(number))
-        if status != ENDED:
-            break
-        state, told = after_call(old, new, world), any(line.startswith("replaced ") for line in lines)
+        status, output = forked(world, work, lambda: ends_at(number))
+        state, told = after_call(old, new, world), any(line.startswith("replaced ") for line in output)
         seen.add((state, has_journal(world), told))
-        yield "after %d changes" % number, True, state == "old" or told or has_journal(world)
-        # A call that told its results and has no journal is at its end: another one would do more.
-        is_last = told and not has_journal(world)
-        again = call(world, what="same") if is_last else forked(world, work, lambda: None)
+        yield "after %d changes" % number, (ENDED, True), (status, state == "old" or told or has_journal(world))
         yield "then another call", (0, "new", kept, ["level.dat", "session.lock"]), \
-            (again[0], after_call(old, new, world), backup(world), others(world))
+            (called_again(world, work, told), after_call(old, new, world), backup(world), others(world))
         shutil.rmtree(world)
-    yield "the last", (0, "new", kept, ["level.dat", "session.lock"]), (status, after_call(old, new, world), backup(world), others(world))
     yield "ends of each kind", {("old", False, False), ("old", True, False), ("some", True, False), ("new", True, False), ("new", True, True),
                                 ("new", False, True)}, seen
+    number = next(number for number, line in enumerate(lines) if line.startswith("replace packed/") and " region/" in line)
+    yield from ends_again(work, number + 3, (old, new, kept))
+
+
+def called_again(world, work, told):
+    """The status of a call after one that ended. One that told its results and has no journal is at its end: another would do more."""
+    return call(world, what="same")[0] if told and not has_journal(world) else forked(world, work, lambda: None)[0]
+
+
+def ends_again(work, number, files):
+    """A call that ended after two files took their places, one that finishes it and ends before each of its changes, and a third."""
+    begun_world, (old, new, kept) = os.path.join(work, "begun"), files
+    write_world(begun_world, small_world())
+    forked(begun_world, work, lambda: ends_at(number))
+    yield "begun", ("some", True), (after_call(old, new, begun_world), has_journal(begun_world))
+    for count in itertools.count(1):
+        world = shutil.copytree(begun_world, os.path.join(work, "again%d" % count))
+        status, output = forked(world, work, lambda: ends_at(count))
+        if status != ENDED:
+            break
+        told = any(line.startswith("finished ") for line in output)
+        yield "a third call after %d changes" % count, (0, "new", kept, ["level.dat", "session.lock"]), \
+            (called_again(world, work, told), after_call(old, new, world), backup(world), others(world))
+        shutil.rmtree(world)
+    yield "a second call that doesn't end", (0, True), (status, count > 15)

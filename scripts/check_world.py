@@ -5,7 +5,7 @@
 
 PROGRAM runs a world of all compressions, whose chunks are compared tag by tag by a reader that shares nothing with worlds.py. Then
 worlds, words and files are given that are refused; a call meets another, the game's lock, signals, and other programs that write; and
-calls end before each change of the file system and are made again, with stand_in.py in the program's place. Where Python has no
+calls end before changes of the file system and are made again, with stand_in.py in the program's place. Where Python has no
 module lz4 (Debian: python3-lz4) no chunk is LZ4.
 """
 import contextlib
@@ -24,7 +24,7 @@ import kept_worlds
 from check_packed import difference
 from flat_runs import WATER, edit
 from kept_worlds import HAS_LZ4, LOADED, SPRING, Document, game_world, lit, payload, small_world, stamps_of, stored_chunks_of, write_world
-from stored_chunks import STAMPS, ZLIB, write
+from stored_chunks import LZ4, RAW, STAMPS, ZLIB, write
 from world_calls import COMMAND, STAND_IN, backup, begun, call, contents, others, refused, shots
 
 # ---------------------------------------------------------------- a whole run
@@ -123,18 +123,15 @@ def compared(region, old):
 # ---------------------------------------------------------------- what is refused
 
 
-def words(work, program):
-    """Words, and folders that are a world, a dimension or neither."""
+def words(work, _):
+    """Words that are refused, help, and how far a call is."""
     world = os.path.join(work, "world")
     write_world(world, small_world())
-    shutil.copytree(os.path.join(world, "region"), os.path.join(world, "DIM-1", "region"))
-    was, region, edits = shots(world), os.path.join(world, "region"), os.path.join(work, "edits")
-    write(work, "edits", b"1 2 3\n")
     for given, line in (((), "the following arguments are required: WORLD"), ((world, "more"), "unrecognized arguments: more"),
                         ((world, "--ticks", "-1"), "argument --ticks: '-1' is no number from 0 to 1000000"),
                         ((world, "--ticks", "1000001"), "argument --ticks: '1000001' is no number from 0 to 1000000"),
                         ((world, "--workers", "9"), "argument --workers: '9' is no number from 1 to 8"),
-                        ((world, "--edits", edits), "--edits needs --ticks N, since each edit is set in one of the run's ticks")):
+                        ((world, "--edits", world), "--edits needs --ticks N, since each edit is set in one of the run's ticks")):
         status, out, err = call(*given)
         yield given, (2, [], "usage: anvilwater-world", "anvilwater-world: error: " + line), (status, out, err[0][:23], err[-1])
     yield "help", (0, "usage: anvilwater-world"), (lambda found: (found[0], found[1][0][:23]))(call("--help"))
@@ -142,6 +139,15 @@ def words(work, program):
     told = call(world, "--progress", what="same")[2]
     yield "progress", steps, [line.partition(", about ")[0] for line in told if "files, about " in line]
     yield "a terminal", True, all(step in on_terminal(world) for step in steps)
+
+
+def folders(work, program):
+    """Folders that are a world, a dimension or neither, files that are not there, and a program that refuses."""
+    world = os.path.join(work, "world")
+    write_world(world, small_world())
+    shutil.copytree(os.path.join(world, "region"), os.path.join(world, "DIM-1", "region"))
+    was, region, edits = shots(world), os.path.join(world, "region"), os.path.join(work, "edits")
+    write(work, "edits", b"1 2 3\n")
     for where in (region, os.path.join(world, "DIM-1")):
         taken = region if where == region else os.path.join(where, "region")
         yield where, (0, ["folder " + taken, "chunks 5 turns 0", "nothing changed"], []), call(where, what="same")
@@ -154,12 +160,24 @@ def words(work, program):
                         ((world, "--backup", missing + "/old"), missing + ": No such file or directory")):
         yield given, refused(line), call(*given)[::2]
     yield "no program", refused(missing + ": No such file or directory"), call(world, program=missing)[::2]
-    yield "a fault", (1, ["fault 20: BadEdit 1"]), call(world, "--edits", edits, "--ticks", "1", program=program)[::2]
+    valid = os.path.join(work, "valid")
+    write_world(valid, game_world())
+    yield "a fault", (1, [*TOLD, "fault 20: BadEdit 1"]), \
+        call(valid, "--edits", "/dev/stdin", "--ticks", "1", program=program, stdin=piped("1 2 3\n"))[::2]
     yield "a table", (1, ["fault 19: BadTable"]), call(world, "--table", edits, program=program)[::2]
     yield "another status", (7, ["fault 99: StandIn"]), call(world, what="refuse")[::2]
+    yield "a program that dies", refused("the program was ended by signal 9; nothing is done"), call(world, what="die")[::2]
     yield "nothing is another", was, shots(world)
     shutil.copy(os.path.join(region, "r.0.0.mca"), world)
     yield "both", refused("%s has region files and a folder region; name the one that is meant" % world), call(world)[::2]
+
+
+def piped(text):
+    """A pipe that has a text."""
+    end, start = os.pipe()
+    os.write(start, text.encode())
+    os.close(start)
+    return end
 
 
 def on_terminal(world):
@@ -178,8 +196,8 @@ def on_terminal(world):
 
 def hostile(work, program):
     """Files that a call refuses, and what it does where a device fails: the world is as it was."""
-    odd = [("r.7.0.mca", lambda path: os.symlink("r.0.0.mca", path), "r.7.0.mca is a symbolic link, in whose place a file would come; nothing is done"),
-           ("c.1.1.mcc", lambda path: os.symlink("r.0.0.mca", path), "c.1.1.mcc is a symbolic link, in whose place a file would come; nothing is done"),
+    link, is_link = lambda path: os.symlink("r.0.0.mca", path), "%s is a symbolic link, in whose place a file would come; nothing is done"
+    odd = [("r.7.0.mca", link, is_link % "r.7.0.mca"), ("c.1.1.mcc", link, is_link % "c.1.1.mcc"),
            ("r.7.0.mca", os.mkfifo, "r.7.0.mca is no file; nothing is done"), ("r.7.0.mca", os.mkdir, "r.7.0.mca is no file; nothing is done"),
            ("r.7.0.mca", lambda path: write(*os.path.split(path), b"bytes"), "r.7.0.mca: its 5 bytes are less than a header; nothing is done"),
            ("r.0.0.mca", lambda path: os.truncate(path, os.path.getsize(path) - 4096),
@@ -191,10 +209,17 @@ def hostile(work, program):
         was = shots(world)
         yield line, refused(line), call(world)[::2]
         yield "nothing is another", was, shots(world)
-    world, was = os.path.join(work, "world"), None
+    world = os.path.join(work, "world")
     write_world(world, small_world())
     was = shots(world)
     line = "r.0.0.mca: File too large; nothing is written for it"
+    module = os.path.join(work, "module")
+    os.mkdir(module)
+    write(module, "lz4.py", b"raise ImportError")
+    lz4 = os.path.join(work, "lz4")
+    write_world(lz4, {(0, 0): {(0, 0): (LZ4, RAW)}})
+    yield "no module", refused("r.0.0.mca: LZ4 needs the Python module lz4 (Debian: python3-lz4); nothing is done"), \
+        call(lz4, paths=[module])[::2]
     small = lambda: resource.setrlimit(resource.RLIMIT_FSIZE, (1 << 20, 1 << 20))
     yield "a device that fails", refused(line), call(world, preexec_fn=small)[::2]
     yield "nothing is another", was, shots(world)
@@ -209,7 +234,7 @@ def main():
     if len(sys.argv) != 2:
         sys.exit(__doc__)
     program, asked, wrong = os.path.abspath(sys.argv[1]), 0, 0
-    for examples in (whole, words, hostile, check_ends.locks, check_ends.signals, check_ends.changed_by_others,
+    for examples in (whole, words, folders, hostile, check_ends.locks, check_ends.signals, check_ends.changed_by_others,
                      check_ends.devices, check_ends.syncs, check_ends.going_back, check_ends.ends):
         with tempfile.TemporaryDirectory() as work:
             for what, want, got in examples(os.path.realpath(work), program):

@@ -3,10 +3,11 @@
 
 STAND_IN says what it does with region files: `count`, as without it, adds a byte to each chunk but those that begin with `keep`;
 one that begins with `grow` becomes one that needs a file of its own, and one that is as large as chunks can be is turned round. `same`
-changes nothing, `refuse` has a fault and status 7, `pause PATH` makes a file and goes on when that is gone, and `wait PATH` makes
-one and never goes on. What is imported late takes longer than all else where there are no files.
+changes nothing, `refuse` has a fault and status 7, `die` ends by a signal, `pause PATH` makes a file and goes on when that is gone,
+and `wait PATH` makes one and never goes on. What is imported late takes longer than all else where there are no files.
 """
 import os
+import signal
 import sys
 import time
 
@@ -48,6 +49,8 @@ def main():
     if names and what == "refuse":
         sys.stderr.write("fault 99: StandIn\n")
         sys.exit(7)
+    if names and what == "die":
+        os.kill(os.getpid(), signal.SIGKILL)
     if names and what in ("wait", "pause"):
         wait(path, what == "wait")
     for name in names:

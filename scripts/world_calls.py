@@ -8,10 +8,11 @@ TOP = os.path.dirname(os.path.dirname(os.path.abspath(__file__)))
 COMMAND, STAND_IN = os.path.join(TOP, "anvilwater-world"), os.path.join(TOP, "scripts", "stand_in.py")
 
 
-def begun(*words, program=STAND_IN, what="count", **options):
-    """A call that is running. `what` is what stand_in.py does."""
+def begun(*words, program=STAND_IN, what="count", paths=(), **options):
+    """A call that is running. `what` is what stand_in.py does, and `paths` have modules that come before others."""
     options = {"stdout": subprocess.PIPE, "stderr": subprocess.PIPE, **options}
-    return subprocess.Popen([COMMAND, *words, "--program", program], text=True, env={**os.environ, "STAND_IN": what}, **options)
+    environment = {**os.environ, "STAND_IN": what, "PYTHONPATH": os.pathsep.join([*paths, os.environ.get("PYTHONPATH", "")])}
+    return subprocess.Popen([COMMAND, *words, "--program", program], text=True, env=environment, **options)
 
 
 def ended(process):

@@ -107,11 +107,13 @@ class Exchange:
         self.world, self.region, self.work = world, world.region, work
         self.packed, self.old = os.path.join(work, "packed"), os.path.join(work, "old")
         self.journal = os.path.join(work, "journal")
+        # How many owners could not be kept.
+        self.foreign = 0
 
     def prepare(self, files, stored, backup):
-        """Finds the files that are to be replaced, added and removed, keeps the old ones by second names, and writes the journal.
-        `files` has what was there, and `stored` the regions whose chunks are all as they were stored, which are left alone. Answers
-        how many owners could not be kept, or None where nothing changed."""
+        """Finds the files that are to be replaced, added and removed, and keeps the old ones by second names. `files` has what was
+        there, and `stored` the regions whose chunks are all as they were stored, which are left alone. Answers what the journal is to
+        have, or None where nothing changed."""
         aside, packed = self.alone(stored), sorted(os.listdir(self.packed))
         new = [name for name in packed if name not in aside and (name not in files or not self.is_same(name))]
         gone = [name for name in files if name not in aside and EXTERNAL_NAME.fullmatch(name) and name not in packed]
@@ -119,7 +121,7 @@ class Exchange:
             return None
         # What a region names is there before it, and goes after it.
         new.sort(key=lambda name: (REGION_NAME.fullmatch(name) is not None, name))
-        foreign = [self.like_old(name, files) for name in new].count(False)
+        self.foreign = [self.like_old(name, files) for name in new].count(False)
         self.keep([name for name in new + gone if name in files], files)
         for name, status in files.items():
             self.check_same(name, status)
@@ -127,9 +129,8 @@ class Exchange:
             if name not in files and os.path.lexists(os.path.join(self.region, name)):
                 raise Problem("%s came while the world was worked on; nothing is done" % name)
         before = {name: known_by(status) for name, status in files.items()}
-        self.write_journal({"form": FORM, "backup": backup, "new": [[name, before.get(name)] for name in new],
-                            "gone": [[name, before[name]] for name in gone]})
-        return foreign
+        return {"form": FORM, "backup": backup, "new": [[name, before.get(name)] for name in new],
+                "gone": [[name, before[name]] for name in gone]}
 
     def alone(self, stored):
         """The files of these regions, but for regions whose timestamps changed."""
@@ -219,14 +220,21 @@ class Exchange:
         target = os.path.join(self.world.parent, backup)
         if os.path.lexists(self.old):
             try:
-                os.rename(self.old, target)
+                self.move_old(target)
             except OSError as why:
-                if why.errno != errno.EXDEV:
-                    raise
-                self.copy_old(target)
-            for folder in {os.path.dirname(target), self.work}:
-                sync(folder)
+                raise Problem("%s: %s; the new files are in their places, and the old ones are in %s" % (
+                    target, why.strerror, self.old)) from why
         return target
+
+    def move_old(self, target):
+        try:
+            os.rename(self.old, target)
+        except OSError as why:
+            if why.errno != errno.EXDEV:
+                raise
+            self.copy_old(target)
+        for folder in (os.path.dirname(target), self.work):
+            sync(folder)
 
     def copy_old(self, target):
         """Copies the old files to another file system."""

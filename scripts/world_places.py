@@ -77,9 +77,9 @@ def tops(paths):
 # ---------------------------------------------------------------- locks
 
 
-def opened_lock(path, flags, mode=0o644):
+def opened_lock(path, flags):
     """A file to be locked. It is left open, since what closes it gives the lock back."""
-    descriptor = os.open(path, os.O_RDWR | os.O_NONBLOCK | flags, mode)
+    descriptor = os.open(path, os.O_RDWR | os.O_NONBLOCK | flags, 0o644)
     if not stat.S_ISREG(os.fstat(descriptor).st_mode):
         os.close(descriptor)
         raise Problem("%s is no file" % path)

@@ -206,6 +206,7 @@ class Call:
         for path in left_behind(self.world):
             exchange = Exchange(self.world, path)
             if os.path.lexists(exchange.journal):
+                stops_ignored()
                 self.exchange(exchange, ["finished a call that was interrupted; nothing else was done"])
                 finished = True
             else:
@@ -225,13 +226,15 @@ class Call:
             shutil.rmtree(plain)
             stored = self.convert("packed", out, packed, region)
             exchange = Exchange(self.world, work)
-            foreign = exchange.prepare(survey.files, stored, backup)
-            if foreign is None:
+            content = exchange.prepare(survey.files, stored, backup)
+            if content is None:
                 say("%s\nnothing changed" % printed)
-            else:
-                self.exchange(exchange, [printed] if printed else [])
-            if foreign:
-                complain("the owners of %d files could not be kept" % foreign)
+                return
+            stops_ignored()
+            exchange.write_journal(content)
+            self.exchange(exchange, [printed])
+            if exchange.foreign:
+                complain("the owners of %d files could not be kept" % exchange.foreign)
 
     def backup(self):
         """The folder for the old files, by its name beside the region files or by its path."""
@@ -298,9 +301,8 @@ class Call:
         return printed
 
     def exchange(self, exchange, lines):
-        """Lets the new files take their places. Signals are not heeded here, and what is told is told before the journal goes: so a
-        call that told nothing is finished by the next one, and no call does its work twice."""
-        stops_ignored()
+        """Lets the new files take their places. What is told is told before the journal goes: so a call that told nothing is finished by
+        the next one, and no call does its work twice."""
         content = exchange.place()
         target = exchange.deliver(content["backup"])
         exchange.clear()
