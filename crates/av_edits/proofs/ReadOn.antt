@@ -8,18 +8,12 @@ use Rattle.av_types.specs.declared.fault.Fault.{Fault}
 use Rattle.av_state.specs.BlockState.{BlockState}
 use Rattle.av_land.specs.Tick.{Set}
 use Rattle.av_edits.specs.declared.edit.Edit.{Edit}
-use Rattle.av_edits.specs.Edits.{fault_of, table_of, edits_in, or_later, first_in_lines, table_after_lines, stated_in, option_list, Grows}
+use Rattle.av_edits.specs.Edits.{fault_of, table_of, edits_in, or_later, first_in_lines, table_after_lines, edit_lines, stated_in, option_list, Grows}
 
 pub drop_next : {X Y Z : Type 0} (f : X → Y) (g : Y → Z) (xs : List X) (i : ℕ) (d : X) → i < length xs → map g (map f (drop i xs)) ≡ g (f (get_or xs i d)) ∷ map g (map f (drop (i + 1) xs))
 drop_next f g [] i d h = absurd (omega arith)
 drop_next f g (x ∷ xs) zero d h = refl
 drop_next f g (x ∷ xs) (suc i) d h = let step : suc i + 1 ≡ suc (i + 1) = omega arith in rw step (drop_next f g xs i d (omega arith))
-
-pub drop_end : {X Y Z : Type 0} (f : X → Y) (g : Y → Z) (xs : List X) (i : ℕ) → length xs ≤ i → map g (map f (drop i xs)) ≡ []
-drop_end f g [] zero h = refl
-drop_end f g [] (suc i) h = refl
-drop_end f g (x ∷ xs) zero h = absurd (omega arith)
-drop_end f g (x ∷ xs) (suc i) h = drop_end f g xs i (omega arith)
 
 module _ (loaded : Pos → Bool) (ticks : ℕ) where
   pub faults_next : (t t' : List BlockState) (n m : ℕ) (x : List ℕ) (all rest : List (List ℕ)) (total : Option Fault) → all ≡ x ∷ rest → fault_of loaded ticks t n x ≡ None → t' ≡ table_of t x → m ≡ suc n
@@ -32,14 +26,8 @@ module _ (loaded : Pos → Bool) (ticks : ℕ) where
       → first_in_lines loaded ticks t n all ≡ total → total ≡ Some f
   faults_stop t n x all rest total f e some h = sym h ∙ (ap (first_in_lines loaded ticks t n) e ∙ ap (λ o. or_later o (first_in_lines loaded ticks (table_of t x) (suc n) rest)) some)
 
-  pub faults_end : (t : List BlockState) (n : ℕ) (all : List (List ℕ)) (total : Option Fault) → all ≡ [] → first_in_lines loaded ticks t n all ≡ total → total ≡ None
-  faults_end t n all total e h = sym h ∙ ap (first_in_lines loaded ticks t n) e
-
 pub tables_next : (t t' : List BlockState) (x : List ℕ) (all rest : List (List ℕ)) (total : List BlockState) → all ≡ x ∷ rest → t' ≡ table_of t x → table_after_lines t all ≡ total → table_after_lines t' rest ≡ total
 tables_next t t' x all rest total e tab h = ap (λ u. table_after_lines u rest) tab ∙ (sym (ap (table_after_lines t) e) ∙ h)
-
-pub tables_end : (t : List BlockState) (all : List (List ℕ)) (total : List BlockState) → all ≡ [] → table_after_lines t all ≡ total → t ≡ total
-tables_end t all total e h = sym (ap (table_after_lines t) e) ∙ h
 
 -- some edits were read, and others are still to be read
 pub record AreEditsRead (t : List BlockState) (es : List Edit) (rest whole : List (List ℕ)) : Type 0 where
@@ -75,14 +63,14 @@ read_next t t' es es' o x all rest whole e g more one a = record {
   all = assoc a.taken (edits_in x) (flat_map edits_in rest) ∙ (ap (λ l. a.taken ++ flat_map edits_in l) (sym e) ∙ a.all);
 }
 
-pub read_end : (t : List BlockState) (es : List Edit) (all whole : List (List ℕ)) → all ≡ [] → AreEditsRead t es all whole → map (stated_in t) es ≡ map Some (flat_map edits_in whole)
-read_end t es all whole e a = a.are ∙ ap (map Some) (sym (append_nil a.taken) ∙ (ap (λ l. a.taken ++ flat_map edits_in l) (sym e) ∙ a.all)) where
-  append_nil : {X : Type 0} (xs : List X) → xs ++ [] ≡ xs
-  append_nil [] = refl
-  append_nil (x ∷ xs) = ap (λ l. x ∷ l) (append_nil xs)
-
-pub grows_refl : (t : List BlockState) → Grows t t
-grows_refl t = λ n s h. h
+pub lines_next : (es es' : List Edit) (o : Option Edit) (n m : ℕ) (x : List ℕ) (all rest : List (List ℕ)) (whole : List ℕ) → all ≡ x ∷ rest → es' ≡ es ++ option_list o → map (λ (e : Edit). e.line) (option_list o) ≡ map (λ (e : Set BlockState). n) (edits_in x) → m ≡ suc n
+    → map (λ (e : Edit). e.line) es ++ edit_lines n all ≡ whole → map (λ (e : Edit). e.line) es' ++ edit_lines m rest ≡ whole
+lines_next es es' o n m x all rest whole e more one num h =
+    let line : Edit → ℕ = λ (e : Edit). e.line in
+    let now : List ℕ = map (λ (e : Set BlockState). n) (edits_in x) in
+    ap (λ (l : List Edit). map line l ++ edit_lines m rest) more ∙ (ap (λ (l : List ℕ). l ++ edit_lines m rest) (map-append line es (option_list o))
+    ∙ (ap (λ (l : List ℕ). (map line es ++ l) ++ edit_lines m rest) one ∙ (assoc (map line es) now (edit_lines m rest)
+    ∙ (ap (λ (k : ℕ). map line es ++ (now ++ edit_lines k rest)) num ∙ (ap (λ (l : List (List ℕ)). map line es ++ edit_lines n l) (sym e) ∙ h)))))
 
 pub grows_on : (t u v : List BlockState) → Grows t u → Grows u v → Grows t v
 grows_on t u v a b = λ n s h. b n s (a n s h)

@@ -1,5 +1,5 @@
 -- The lines of an edit file, and their first fault.
-use Rattle.std.specs.Prelude.{◌≡◌, slice_get, option_map, ℕ, suc, ◌==◌, nat_lt, nat_le, length, List, [], ◌∷◌, Option, Some, None, Bool, ◌&&◌, ◌||◌, if◌then◌else◌, map, get_or}
+use Rattle.std.specs.Prelude.{◌≡◌, slice_get, option_map, ℕ, suc, ◌==◌, nat_lt, nat_le, length, List, [], ◌∷◌, ◌++◌, Option, Some, None, Bool, ◌&&◌, ◌||◌, if◌then◌else◌, map, get_or}
 use Rattle.std.specs.List.{flat_map}
 use Rattle.std.specs.Str.Lines.{strip_carriage_return}
 use Rattle.av_types.specs.declared.place.Pos.{Pos}
@@ -69,6 +69,15 @@ table_after_lines table (text ∷ texts) = table_after_lines (table_of table tex
 -- where there is no fault, the edits in order
 abbrev pub edits_of : List ℕ → List (Set BlockState)
 edits_of text = flat_map edits_in (lines_of text)
+
+-- for each edit of some lines, the number of the line that states it, where the first of the lines has this number
+abbrev pub edit_lines : ℕ → List (List ℕ) → List ℕ
+edit_lines line [] = []
+edit_lines line (text ∷ texts) = map (λ e. line) (edits_in text) ++ edit_lines (suc line) texts
+
+-- for each edit in order, the line that states it; skipped lines are counted
+abbrev pub lines_of_edits : List ℕ → List ℕ
+lines_of_edits text = edit_lines 1 (lines_of text)
 
 -- an edit with the state that its number has
 abbrev pub stated_in : List BlockState → Edit → Option (Set BlockState)

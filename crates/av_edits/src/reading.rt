@@ -8,7 +8,7 @@ ghost use Rattle.av_state.specs.States.{state_of};
 ghost use Rattle.av_state.specs.StateList.{with_state, most_states};
 ghost use Rattle.av_state.specs.Table.{states};
 ghost use Rattle.av_edits.specs.Statements.{set_of};
-ghost use Rattle.av_edits.specs.Edits.{is_skipped, edit_fault, fault_of, table_of, edits_in, first_in_lines, first_in_edits, table_after_lines, lines_of, edits_of, stated_in, option_list, Grows};
+ghost use Rattle.av_edits.specs.Edits.{is_skipped, edit_fault, fault_of, table_of, edits_in, first_in_lines, first_in_edits, table_after_lines, lines_of, edits_of, edit_lines, lines_of_edits, stated_in, option_list, Grows};
 
 use crate::edit::Edit;
 use crate::words::{Statement, line_edit, parts};
@@ -62,6 +62,7 @@ fn judge<C: Cells>(
 ) -> Result<Edit, Fault>
     requires form { meant (state_of statement.now.state) ≡ Some (state_of statement.now.state) }
     ensures ok { IfOk result (λ e. stated_in (states table.new) e ≡ Some (set_of statement.now)) }
+    ensures line { IfOk result (λ e. e.line ≡ line) }
     ensures after { OnOk result (states table.new ≡ with_state (states table.old) (state_of statement.now.state)) }
     ensures none { OnOk result (edit_fault (C.world cells.now).loaded ticks (states table.old) line (set_of statement.now) ≡ None) }
     ensures fault { IfErr result (λ e. e ≢ OutOfMemory → edit_fault (C.world cells.now).loaded ticks (states table.old) line (set_of statement.now) ≡ Some e) }
@@ -94,6 +95,7 @@ fn read_line<C: Cells>(
     table: &mut StateTable,
 ) -> Result<Option<Edit>, Fault>
     ensures ok { IfOk result (λ e. map (stated_in (states table.new)) (option_list e) ≡ map Some (edits_in line.now)) }
+    ensures lines { IfOk result (λ e. map (λ e. e.line) (option_list e) ≡ map (λ e. number) (edits_in line.now)) }
     ensures after { OnOk result (states table.new ≡ table_of (states table.old) line.now) }
     ensures none { OnOk result (fault_of (C.world cells.now).loaded ticks (states table.old) number line.now ≡ None) }
     ensures fault { IfErr result (λ e. e ≢ OutOfMemory → fault_of (C.world cells.now).loaded ticks (states table.old) number line.now ≡ Some e) }
@@ -127,6 +129,7 @@ fn read_lines<C: Cells>(
     table: &mut StateTable,
 ) -> Result<Vec<Edit>, Fault>
     ensures ok { IfOk result (λ es. map (stated_in (states table.new)) es.items ≡ map Some (flat_map edits_in (map strip_carriage_return (map (λ x. x.now) lines.now)))) }
+    ensures lines { IfOk result (λ es. map (λ e. e.line) es.items ≡ edit_lines 1 (map strip_carriage_return (map (λ x. x.now) lines.now))) }
     ensures after { OnOk result (states table.new ≡ table_after_lines (states table.old) (map strip_carriage_return (map (λ x. x.now) lines.now))) }
     ensures none { OnOk result (first_in_lines (C.world cells.now).loaded ticks (states table.old) 1 (map strip_carriage_return (map (λ x. x.now) lines.now)) ≡ None) }
     ensures fault { IfErr result (λ e. e ≢ OutOfMemory → first_in_lines (C.world cells.now).loaded ticks (states table.old) 1 (map strip_carriage_return (map (λ x. x.now) lines.now)) ≡ Some e) }
@@ -148,13 +151,15 @@ fn read_lines<C: Cells>(
 }
 
 /// The edits that a text states, in the order of its lines, for a run of so many ticks. Each line is `T X Y Z STATE`: in
-/// tick T the block is set to the state. Empty lines and lines that begin with `#` state nothing, and are counted. The
-/// states are numbered by `table`, new ones at its end, also before a refusal; older numbers keep their states.
+/// tick T the block is set to the state. Empty lines and lines that begin with `#` state nothing, and are counted. Each
+/// edit has the number of its line, from 1 on. The states are numbered by `table`, new ones at its end, also before a
+/// refusal; older numbers keep their states.
 ///
 /// # Errors
 /// The fault of the first line that has one, and of that line the first of these: `BadEdit` where it is of another form
 /// or its water has no such level, `EditTick` where T is not 1 to `ticks`, `EditOutside` where the block is not loaded,
-/// `TooManyStates` where the table is full. Each names the line. `OutOfMemory` may stand in place of any.
+/// `TooManyStates` where the table is full. The first three name the line, and the last one names none. `OutOfMemory`
+/// may stand in place of any.
 pub fn read<C: Cells>(
     alloc: Global,
     text: &[u8],
@@ -163,6 +168,7 @@ pub fn read<C: Cells>(
     table: &mut StateTable,
 ) -> Result<Vec<Edit>, Fault>
     ensures ok { IfOk result (λ es. map (stated_in (states table.new)) es.items ≡ map Some (edits_of text.now)) }
+    ensures lines { IfOk result (λ es. map (λ e. e.line) es.items ≡ lines_of_edits text.now) }
     ensures after { OnOk result (states table.new ≡ table_after_lines (states table.old) (lines_of text.now)) }
     ensures none { OnOk result (first_in_edits (C.world cells.now).loaded ticks (states table.old) text.now ≡ None) }
     ensures fault { IfErr result (λ e. e ≢ OutOfMemory → first_in_edits (C.world cells.now).loaded ticks (states table.old) text.now ≡ Some e) }

@@ -12,9 +12,9 @@ use Rattle.av_types.specs.Division.{divided}
 use Rattle.av_types.specs.Places.{chunk_of, same_pos}
 use Rattle.av_types.proofs.SamePlaces.{same_pos_is, same_pos-refl}
 use Rattle.av_flood.specs.Offsets.{is_within, offset, IsNth, IsBeyond, away, apart}
-use Rattle.av_flood.specs.Board.{corner, is_on, index_of, IsOff, IsPlace}
+use Rattle.av_flood.specs.Board.{corner, is_on, index_of, IsOff, IsPlace, IsSettled}
 use Rattle.av_flood.specs.Blocks.{IsNear, IsFarFromEnds, MayBeLoaded, column_at}
-use Rattle.av_flood.specs.Flooding.{Matters, IsNearAlong, IsSettled}
+use Rattle.av_flood.specs.Flooding.{Matters, IsNearAlong}
 
 and_false_left : (a b : Bool) → a ≡ false → (a && b) ≡ false
 and_false_left true b e = grind arith

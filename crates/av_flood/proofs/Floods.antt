@@ -7,9 +7,9 @@ use Rattle.av_types.specs.declared.place.Height.{Height}
 use Rattle.av_types.specs.Places.{same_pos}
 use Rattle.av_types.proofs.SamePlaces.{same_pos_is, same_pos-refl}
 use Rattle.av_flood.specs.Light.{Terrain, sides, below, above, north, south, west, east, IsAdjacent, cost, HasLight, IsLight}
-use Rattle.av_flood.specs.Board.{is_on}
+use Rattle.av_flood.specs.Board.{is_on, IsSettled}
 use Rattle.av_flood.specs.Blocks.{IsNear}
-use Rattle.av_flood.specs.Flooding.{Matters, Levels, Waits, Has, IsNoted, IsMarked, IsSoundAt, IsFlooding, IsPushed, IsPopped, IsNone, IsGrown, IsBrought, IsOffered, WaitsIfEmitting, IsStarted, IsSettled}
+use Rattle.av_flood.specs.Flooding.{Matters, Levels, Waits, Has, IsNoted, IsMarked, IsSoundAt, IsFlooding, IsPushed, IsPopped, IsNone, IsGrown, IsBrought, IsOffered, WaitsIfEmitting, IsStarted}
 use Rattle.std.proofs.lemmas.Bool.{false≢true, cases_lt}
 use Rattle.std.proofs.lemmas.Bool.Decides.{eqb_tells}
 use Rattle.av_flood.proofs.Queues.{IsPushed-kept, IsPushed-only, IsPushed-there, IsPopped-back}

@@ -1,5 +1,6 @@
 -- The board of a flood: a chunk and 14 blocks on each horizontal side, over the whole height.
 use Rattle.std.specs.Prelude.{◌-◌, ◌/◌, ◌%◌, ◌≡◌, ◌<◌, List, length, true, false, ℕ, ◌+◌, ◌*◌, pos, ◌+ℤ◌, ◌-ℤ◌, ◌*ℤ◌, Bool, ◌&&◌, if◌then◌else◌, slice_index, nat_le}
+use Rattle.av_types.specs.Places.{same_pos}
 use Rattle.av_types.specs.declared.place.Pos.{Pos}
 use Rattle.av_pack.specs.Nibbles.{nibble_at}
 use Rattle.av_types.specs.declared.place.ChunkPos.{ChunkPos}
@@ -36,6 +37,10 @@ raw_of f p = if is_on f.chunk f.height p then slice_index f.light.items (index_o
 -- the byte of a block: from 128 on its light, and 0 where it has none
 abbrev pub byte_of : Flood → Pos → ℕ
 byte_of f p = if nat_le 128 (raw_of f p) then raw_of f p else 0
+
+-- a block was given this byte, and the others have theirs
+abbrev pub IsSettled : (Pos → ℕ) → (Pos → ℕ) → Pos → ℕ → Type 0
+IsSettled old new p n = (q : Pos) → new q ≡ (if same_pos q p then n else old q)
 
 -- the light of a block: 0 beyond the board, and where none was settled
 abbrev pub light_of : Flood → Pos → ℕ

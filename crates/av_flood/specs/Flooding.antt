@@ -1,9 +1,8 @@
 -- Working definitions: a flood from the brightest level down. No public clause cites them.
-use Rattle.std.specs.Prelude.{ℤ, ◌≡◌, ℕ, ◌+◌, ◌≤◌, ◌<◌, pos, ◌+ℤ◌, ◌*ℤ◌, ◌≤ℤ◌, List, [], ◌∷◌, IsTrue, Contains, ◌⊎◌, if◌then◌else◌, ◌++◌, ◌≢◌, map, length, slice_index_or}
+use Rattle.std.specs.Prelude.{ℤ, ◌≡◌, ℕ, ◌+◌, ◌≤◌, ◌<◌, pos, ◌+ℤ◌, ◌*ℤ◌, ◌≤ℤ◌, List, [], ◌∷◌, IsTrue, Contains, ◌⊎◌, ◌++◌, ◌≢◌, map, length, slice_index_or}
 use Rattle.av_flood.specs.declared.buckets.Buckets.{Buckets}
 use Rattle.av_flood.specs.declared.board.Flood.{Flood}
 use Rattle.av_flood.specs.Board.{raw_of}
-use Rattle.av_types.specs.Places.{same_pos}
 use Rattle.av_types.specs.declared.place.Pos.{Pos}
 use Rattle.av_types.specs.declared.place.ChunkPos.{ChunkPos}
 use Rattle.av_flood.specs.Light.{Terrain, IsAdjacent, cost, HasLight}
@@ -96,10 +95,6 @@ pub record IsBrought (t : Terrain) (n seen : ℕ) (todo : Levels) (q : Pos) : Ty
 -- light of level n that is at p has come to q
 pub record IsOffered (t : Terrain) (c : ChunkPos) (n : ℕ) (lit : Pos → ℕ) (todo : Levels) (q : Pos) : Type 0 where
   pub has : IsTrue (t.loaded q) → (v : ℕ) → 0 < v → v + cost t q ≡ n → Matters c v q → Has lit todo q v
-
--- a block was given light
-abbrev pub IsSettled : (Pos → ℕ) → (Pos → ℕ) → Pos → ℕ → Type 0
-IsSettled old new p n = (q : Pos) → new q ≡ (if same_pos q p then n else old q)
 
 -- the blocks that wait in each level
 abbrev pub todo_of : Buckets → Levels

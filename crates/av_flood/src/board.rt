@@ -38,10 +38,10 @@ pub struct Flood {
 
 impl Flood {
     ghost use Rattle.av_flood.specs.Offsets.{apart};
-    ghost use Rattle.av_flood.specs.Board.{corner, is_on, raw_of, byte_of, light_of, is_settled, settled_count, light_at, HasLightSoFar, IsOff, IsPlace};
+    ghost use Rattle.av_flood.specs.Board.{corner, is_on, raw_of, byte_of, light_of, is_settled, settled_count, light_at, HasLightSoFar, IsOff, IsPlace, IsSettled};
     ghost use Rattle.av_flood.specs.Spots.{IsSpot};
     ghost use Rattle.av_types.specs.Places.{same_pos};
-    ghost use Rattle.av_flood.specs.Flooding.{IsSettled, IsFresh};
+    ghost use Rattle.av_flood.specs.Flooding.{IsFresh};
 
     /// A board on which no block has light yet.
     ///

@@ -1,20 +1,24 @@
 -- A world stays ready.
-use Rattle.std.proofs.Common.{◌≡◌, ℕ, zero, suc, ◌<◌, ◌+◌, IsTrue, Bool, true, false, cond, nat_eq, List, [], ◌∷◌, length, get_or, drop, Result, Ok, Err, OnOk, is_err, true≢false, refl, sym, ap, subst, ◌∙◌, arith}
+use Rattle.std.proofs.Common.{◌≡◌, ℕ, zero, suc, ◌<◌, ◌≤◌, ◌+◌, pos, IsTrue, Bool, true, false, cond, nat_eq, List, [], ◌∷◌, length, get_or, drop, Result, Ok, Err, OnOk, is_err, true≢false, refl, sym, ap, subst, ◌∙◌, arith}
 use Rattle.std.specs.List.{list_all}
 use Rattle.std.proofs.lemmas.Bool.{and_parts}
 use Rattle.av_types.specs.declared.place.Pos.{Pos}
+use Rattle.av_types.specs.declared.place.ChunkPos.{ChunkPos}
+use Rattle.av_types.specs.declared.place.SectionPos.{SectionPos}
+use Rattle.av_types.specs.Places.{chunk_of, section_of, chunk_of_section, block_at}
+use Rattle.av_types.proofs.Coordinates.{section_back}
 use Rattle.av_types.specs.declared.tick.Entry.{Entry}
 use Rattle.av_cells.specs.World as cells
 use Rattle.av_cells.specs.Rule.{HasKinds}
 use Rattle.av_cells.specs.declared.kind.Kind.{Kind}
 use Rattle.av_land.specs.Land.{Land}
 use Rattle.av_land.specs.Tick.{set_in, edited, turned, turned_all}
-use Rattle.av_world.specs.Views.{blocks, site}
+use Rattle.av_world.specs.Views.{blocks, site, room, CanSetAt}
 use Rattle.av_world.proofs.Whole.{whole_kept}
 use Rattle.av_world.specs.declared.worlds.World.{World}
 use Rattle.av_edits.specs.declared.edit.Edit.{Edit}
 use Rattle.av_edits.specs.Numbered.{number_sets}
-use Rattle.av_serial.specs.Ready.{IsReady, IsSamePlace, CanApply}
+use Rattle.av_serial.specs.Ready.{IsReady, IsSamePlace, IsStillPrepared, CanApply}
 
 pub ready_on : (n : ℕ) (old new : World) → site new ≡ site old → (blocks new).loaded ≡ (blocks old).loaded → HasKinds n (blocks new) → IsReady n old → IsReady n new
 ready_on n old new s l h r = record { whole = whole_kept old new s l r.whole; numbers = h }
@@ -36,6 +40,16 @@ sound_on u v a s = ap (λ (x : cells.Site). x.broken) a.site_is ∙ s
 
 pub can_apply_on : (n : ℕ) (u v : World) (e : Edit) → IsSamePlace u v → CanApply n u e → CanApply n v e
 can_apply_on n u v e a c = record { loaded = subst (λ (f : Pos → Bool). IsTrue (f e.pos)) (sym a.loaded_is) c.loaded; number = c.number }
+
+-- each chunk and each section has a block
+pub prepared_on : (old new : World) → ((q : Pos) → room old (chunk_of q) ≤ room new (chunk_of q)) → ((q : Pos) (n : ℕ) → CanSetAt old (section_of q) n → CanSetAt new (section_of q) n) → IsStillPrepared old new
+prepared_on old new rooms sets = record {
+  room_grows = λ c.
+      (let s : SectionPos = record { x = c.x; y = pos 0; z = c.z } in
+      let back : chunk_of (block_at s 0) ≡ c = ap (λ (t : SectionPos). chunk_of_section t) (section_back s 0 (omega arith)) in
+      subst (λ (d : ChunkPos). room old d ≤ room new d) back (rooms (block_at s 0)));
+  prepared = λ s n. subst (λ (t : SectionPos). CanSetAt old t n → CanSetAt new t n) (section_back s 0 (omega arith)) (sets (block_at s 0) n);
+}
 
 -- what an answer that is no refusal says
 pub when_ok : {A E : Type 0} (r : Result A E) (P : Type 0) → is_err r ≡ false → OnOk r P → P

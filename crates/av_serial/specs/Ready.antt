@@ -1,6 +1,8 @@
 -- What a tick asks of a world, and keeps.
 use Rattle.std.specs.Borrow.{Bor, MutBor}
-use Rattle.std.specs.Prelude.{◌≡◌, ℕ, ◌<◌, IsTrue, List, All, true, false, Result, OnOk, OnErr, IfOk, IfErr}
+use Rattle.std.specs.Prelude.{◌≡◌, ℕ, ◌<◌, ◌≤◌, IsTrue, List, All, true, false, Result, OnOk, OnErr, IfOk, IfErr}
+use Rattle.av_types.specs.declared.place.ChunkPos.{ChunkPos}
+use Rattle.av_types.specs.declared.place.SectionPos.{SectionPos}
 use Rattle.av_types.specs.declared.fault.Fault.{Fault}
 use Rattle.av_types.specs.declared.fault.Fault.TheVariants.{OutOfMemory}
 use Rattle.av_rules.specs.Kinds.{kind_count}
@@ -8,7 +10,7 @@ use Rattle.av_rules.specs.declared.kinds.Kinds.{Kinds}
 use Rattle.av_cells.specs.Kinds.{kinds_of}
 use Rattle.av_cells.specs.Rule.{HasKinds}
 use Rattle.av_land.specs.Tick.{ticked, tick_count}
-use Rattle.av_world.specs.Views.{blocks, site, is_broken}
+use Rattle.av_world.specs.Views.{blocks, site, is_broken, room, CanSetAt}
 use Rattle.av_world.specs.Lands.{IsUncarved, land_of}
 use Rattle.av_world.specs.declared.worlds.World.{World}
 use Rattle.av_edits.specs.declared.edit.Edit.{Edit}
@@ -23,6 +25,11 @@ pub record IsReady (kinds : ℕ) (w : World) : Type 0 where
 pub record IsSamePlace (old new : World) : Type 0 where
   pub site_is : site new ≡ site old
   pub loaded_is : (blocks new).loaded ≡ (blocks old).loaded
+
+-- each list has room for no fewer entries, and what a section was prepared for, it still is
+pub record IsStillPrepared (old new : World) : Type 0 where
+  pub room_grows : (c : ChunkPos) → room old c ≤ room new c
+  pub prepared : (s : SectionPos) (n : ℕ) → CanSetAt old s n → CanSetAt new s n
 
 -- an edit of a loaded block, to a number that has a kind
 pub record CanApply (kinds : ℕ) (w : World) (e : Edit) : Type 0 where

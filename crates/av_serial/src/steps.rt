@@ -6,7 +6,7 @@ ghost use Rattle.av_cells.specs.Kinds.{kinds_of};
 ghost use Rattle.av_land.specs.Tick.{set_in, turned};
 ghost use Rattle.av_world.specs.Views.{is_broken, blocks};
 ghost use Rattle.av_world.specs.Lands.{land_of};
-ghost use Rattle.av_serial.specs.Ready.{IsReady, IsSamePlace, CanApply};
+ghost use Rattle.av_serial.specs.Ready.{IsReady, IsSamePlace, IsStillPrepared, CanApply};
 
 use av_cells::{Cells, set_awake};
 use av_edits::Edit;
@@ -27,6 +27,7 @@ pub(crate) fn set_block(
     requires edit { CanApply (kind_count kinds.now) world.old edit.now }
     ensures done { OnOk result (land_of world.new ≡ set_in (kinds_of kinds.now) now edit.now.pos edit.now.number (land_of world.old)) }
     ensures undone { OnErr result (land_of world.new ≡ land_of world.old) }
+    ensures kept { OnErr result (IsStillPrepared world.old world.new) }
     ensures ready { IsReady (kind_count kinds.now) world.new }
     ensures place { IsSamePlace world.old world.new }
 {
@@ -40,12 +41,14 @@ pub(crate) fn set_block(
 /// Sets the block of an edit in tick `now`, and wakes it and those next to it.
 ///
 /// # Errors
-/// `Broken` of a broken world, and else `OutOfMemory`. Also then the world is as before.
+/// `Broken` of a broken world, and else `OutOfMemory`. Also then the world is as before, with what was prepared, and has
+/// room for no fewer entries.
 pub fn apply(world: &mut World, kinds: &Kinds, now: u32, edit: &Edit) -> Result<(), Fault>
     requires ready { is_broken world.old ≡ false → IsReady (kind_count kinds.now) world.old }
     requires edit { is_broken world.old ≡ false → CanApply (kind_count kinds.now) world.old edit.now }
     ensures done { OnOk result (land_of world.new ≡ set_in (kinds_of kinds.now) now edit.now.pos edit.now.number (land_of world.old)) }
     ensures undone { OnErr result (land_of world.new ≡ land_of world.old) }
+    ensures kept { OnErr result (IsStillPrepared world.old world.new) }
     ensures ready { is_broken world.old ≡ false → IsReady (kind_count kinds.now) world.new }
     ensures place { IsSamePlace world.old world.new }
     ensures whole_world { OnOk result (is_broken world.old ≡ false) }

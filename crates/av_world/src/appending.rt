@@ -130,7 +130,8 @@ impl World {
     /// which no entry waits, and no two are of one block. A broken world takes any.
     ///
     /// # Errors
-    /// `Broken` of a broken world, and else `OutOfMemory`. Also then the world is as before.
+    /// `Broken` of a broken world, and else `OutOfMemory`. Also then the world is as before, with what was prepared, and
+    /// has room for no fewer entries.
     pub fn append(&mut self, made: &[Made]) -> Result<(), Fault>
         requires loaded { is_broken self.old ≡ false → All (λ m. IsTrue ((blocks self.old).loaded m.entry.pos)) made.now }
         requires fresh { is_broken self.old ≡ false → All (λ m. (blocks self.old).pending m.entry.pos ≡ false) made.now }
@@ -143,6 +144,7 @@ impl World {
         ensures unbroken { OnOk result (is_broken self.old ≡ false) }
         ensures same_blocks { OnErr result (blocks self.new ≡ blocks self.old) }
         ensures same_land { OnErr result (land_of self.new ≡ land_of self.old) }
+        ensures kept { OnErr result (IsWorldKept self.old self.new) }
         ensures fault { IfErr result (λ e. e ≡ (if is_broken self.old then Broken else OutOfMemory)) }
     {
         if self.broken {

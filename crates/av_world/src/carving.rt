@@ -6,12 +6,11 @@ ghost use Rattle.av_types.specs.declared.place.SectionPos.{SectionPos};
 ghost use Rattle.av_cells.specs.Grid.{is_here, with_filling, among, only, without, over, cells_of};
 ghost use Rattle.av_cells.specs.Positions.{same_section};
 ghost use Rattle.av_world.specs.Lawful.{IsTied};
-ghost use Rattle.av_world.specs.Near.{HasPlace};
-ghost use Rattle.av_world.specs.OutOf.{IsPartOf, put_filling, mended};
+ghost use Rattle.av_world.specs.OutOf.{IsPartOf, put_filling, mended, HasPlace};
 ghost use Rattle.av_world.specs.ParcelViews.{kept_grid, aside, blocks as parcel_blocks, lists as parcel_lists};
 ghost use Rattle.av_world.specs.Parts.{part_grid, IsTiedIn};
 ghost use Rattle.av_world.specs.Sections.{filling_in};
-ghost use Rattle.av_world.specs.Views.{sections, grid, blocks, lists, height_of, positions_of, is_broken, IsSamePlaces};
+ghost use Rattle.av_world.specs.Views.{sections, grid, blocks, lists, height_of, positions_of, is_broken, IsSamePlaces, IsWorldKept};
 
 use crate::chunks::{exchange_in, offset};
 use crate::finding::near_index;
@@ -100,7 +99,7 @@ impl World {
     /// Lists stay.
     ///
     /// # Errors
-    /// `Broken` of a broken world, and else `OutOfMemory`. Also then the world is as before.
+    /// `Broken` of a broken world, and else `OutOfMemory`. Also then the world is as before, with what was prepared.
     pub fn carve(&mut self, at: &[SectionPos]) -> Result<Parcel, Fault>
         requires loaded { is_broken self.old ≡ false → All (λ s. IsTrue (is_here (grid self.old s))) at.now }
         requires distinct { is_broken self.old ≡ false → AllPairs (λ s t. same_section t s ≡ false) at.now }
@@ -111,6 +110,7 @@ impl World {
         ensures same { IsSamePlaces self.old self.new }
         ensures unbroken { OnOk result (is_broken self.old ≡ false) }
         ensures unchanged { OnErr result (grid self.new ≡ grid self.old) }
+        ensures kept { OnErr result (IsWorldKept self.old self.new) }
         ensures fault { IfErr result (λ e. e ≡ (if is_broken self.old then Broken else OutOfMemory)) }
     {
         if self.broken {

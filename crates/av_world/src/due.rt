@@ -10,7 +10,7 @@ ghost use Rattle.av_land.specs.Tick.{due_entries, without_due};
 ghost use Rattle.av_world.specs.Changes.{SameNumbers};
 ghost use Rattle.av_world.specs.Due.{at_least, is_reached, tick_of};
 ghost use Rattle.av_world.specs.Lands.{land_of, IsUncarved};
-ghost use Rattle.av_world.specs.Views.{sections, blocks, lists, site, is_broken, chunks_of};
+ghost use Rattle.av_world.specs.Views.{sections, blocks, lists, site, is_broken, chunks_of, IsWorldKept};
 
 use crate::chunks::leave_in;
 use crate::worlds::World;
@@ -142,7 +142,7 @@ impl World {
     /// pending no longer.
     ///
     /// # Errors
-    /// `Broken` of a broken world, and else `OutOfMemory`. Also then the world is as before.
+    /// `Broken` of a broken world, and else `OutOfMemory`. Also then the world is as before, with what was prepared.
     pub fn take_due(&mut self, now: u32) -> Result<Vec<Entry>, Fault>
         ensures due { IfOk result (λ due. due.items ≡ due_entries now (land_of self.old)) }
         ensures left { OnOk result (land_of self.new ≡ without_due now (land_of self.old)) }
@@ -152,6 +152,7 @@ impl World {
         ensures whole { IsUncarved self.old → IsUncarved self.new }
         ensures unchanged_land { OnErr result (land_of self.new ≡ land_of self.old) }
         ensures unchanged { OnErr result (blocks self.new ≡ blocks self.old) }
+        ensures kept { OnErr result (IsWorldKept self.old self.new) }
         ensures fault { IfErr result (λ e. e ≡ (if is_broken self.old then Broken else OutOfMemory)) }
     {
         if self.broken {

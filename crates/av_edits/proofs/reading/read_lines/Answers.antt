@@ -3,7 +3,7 @@ use Rattle.std.proofs.lemmas.Result.{err_from_is_err_and}
 use Rattle.std.specs.Str.Lines.{strip_carriage_return}
 use Rattle.av_state.specs.Table.{states}
 use Rattle.av_edits.specs.Edits.{fault_of, table_of, edits_in}
-use Rattle.av_edits.proofs.ReadOn.{drop_next, faults_next, faults_stop, tables_next, read_next, grows_on}
+use Rattle.av_edits.proofs.ReadOn.{drop_next, faults_next, faults_stop, tables_next, read_next, lines_next, grows_on}
 use Rattle.av_edits.proofs.reading.read_lines.Goals as goal
 
 pub returns-in_err-edit-clause-fault : goal.returns-in_err-edit-clause-fault
@@ -27,5 +27,6 @@ loop-index-preserved g c =
       faults = faults_next L c.args.ticks t u (c.loop-index.index + 1) (c.loop-index.index + 1 + 1) _ _ _ _ next (ap (fault_of L c.args.ticks t (c.loop-index.index + 1)) (sym c.without_return.ensures) ∙ c.in_ok-edit.ensures.none) (c.in_ok-edit.ensures.after ∙ ap (table_of t) c.without_return.ensures) (omega arith) c.loop-index.invariant.faults;
       tables = tables_next t u _ _ _ _ next (c.in_ok-edit.ensures.after ∙ ap (table_of t) c.without_return.ensures) c.loop-index.invariant.tables;
       read = read_next t u c.loop-index.edits.items c.push_some.new.edits.items c.in_ok-edit.edit _ _ _ _ next c.read_line.ensures.grows c.in_ok-push_some.ensures (c.in_ok-edit.ensures.ok ∙ ap (λ x. map Some (edits_in x)) c.without_return.ensures) c.loop-index.invariant.read;
+      lines = lines_next c.loop-index.edits.items c.push_some.new.edits.items c.in_ok-edit.edit (c.loop-index.index + 1) (c.loop-index.index + 1 + 1) _ _ _ _ next c.in_ok-push_some.ensures (c.in_ok-edit.ensures.lines ∙ ap (λ x. map (λ e. c.loop-index.index + 1) (edits_in x)) c.without_return.ensures) (omega arith) c.loop-index.invariant.lines;
       grows = grows_on (states c.args.table.now) t u c.loop-index.invariant.grows c.read_line.ensures.grows;
     }

@@ -1,6 +1,5 @@
 use Rattle.std.proofs.Common.{◌≡◌, ◌+◌, false, subst, sym}
-use Rattle.av_flood.specs.Board.{raw_of, is_settled, IsPlace}
-use Rattle.av_flood.specs.Flooding.{IsSettled}
+use Rattle.av_flood.specs.Board.{raw_of, is_settled, IsPlace, IsSettled}
 use Rattle.av_flood.proofs.Boards.{settled_light, settled_settled, settled_byte, not_seen}
 use Rattle.av_flood.proofs.board.Flood.settle.Goals as goal
 
