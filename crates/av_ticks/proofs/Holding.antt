@@ -23,7 +23,7 @@ same_spot p q key place =
     let section : section_of p ≡ section_of q = λ i. record { x = (key i).x; y = (key i).y; z = (key i).z } in
     same_block p q section place
 
--- a block that lies in the section of another is that one where their numbers are the same
+-- a block that lies in the section of another is that one where their places are the same
 same_in_section : (p q : Pos) → key_of p ≡ key_of q → (place_of q == place_of p) ≡ same_pos q p
 same_in_section p q key = by (place_of q == place_of p) refl (same_pos q p) refl where
   by : (b : Bool) → (place_of q == place_of p) ≡ b → (c : Bool) → same_pos q p ≡ c → b ≡ c
