@@ -102,7 +102,7 @@ fn wake_all<C: Cells, const N: usize>(
 
 /// Sets a block to a state in tick `now`, and then wakes it and those next to it: below, above, north, south, west
 /// and east of it, in this order. Each that is wet, with no entry that waits, gets one that is due five ticks
-/// later. The entries are added to the lists of their chunks, and to `made`. Takes no memory.
+/// later. The entries are added to the lists of their chunks, and to `made`. It can't want memory.
 #[tactic(auto, unfolding(crate::specs::Turn::set_awake))]
 pub fn set_awake_onto<C: Cells, const N: usize>(
     cells: &mut C,

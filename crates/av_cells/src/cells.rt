@@ -9,7 +9,7 @@ use av_types::{Entry, Fault, Pos};
 /// Blocks that a turn can read and change.
 ///
 /// A block is read as a number of its state, and changed by `set`. Each chunk has a list of entries (scheduled
-/// ticks of water), to which `add` appends. `set` and `add` take no memory: what they need is made before,
+/// ticks of water), to which `add` appends. `set` and `add` can't want memory: what they need is made before,
 /// by `prepare` or `prepare_set`.
 pub trait Cells {
     ghost use Rattle.av_types.specs.declared.place.Pos.{Pos};
@@ -20,10 +20,10 @@ pub trait Cells {
     /// The entries of each chunk, in order.
     ghost lists: { Self → Lists };
 
-    /// How many more entries of a block take no memory.
+    /// How many more entries of a block can be added for sure.
     ghost room: { Self → Pos → ℕ };
 
-    /// Whether to set a block to a number takes no memory.
+    /// Whether a block can be set to a number for sure.
     ghost can_set: { Self → Pos → ℕ → Type 0 };
 
     /// What no call changes: the height, the chunks that were inserted, and whether the world is broken.

@@ -137,7 +137,7 @@ fn renew<C: Cells>(
 /// no drop, all that can be entered. Each set wakes the block and those next to it.
 ///
 /// The entries that were added are put into `made`, which is empty, in order. The room for them was made before, by
-/// `prepare`; this takes no memory.
+/// `prepare`; this can't want memory.
 #[tactic(auto, unfolding(av_cells::specs::Turn::turn))]
 pub fn turn_onto<C: Cells>(
     cells: &mut C,
