@@ -3,7 +3,9 @@ mod Gathers
 mod Joinings
 mod Owned
 mod Shares
+mod Slotted
 mod Sides
 mod CornerLists
+mod Indexed
 mod Onces
 mod Orders

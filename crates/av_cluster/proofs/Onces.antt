@@ -47,7 +47,7 @@ once_more owners numbers ks x old new shared once fresh inside g = by (owners x)
         (all_pairs_push (λ s t. same_section t s ≡ false) (get_or old m []) x (once m) (apart m))
     at (inr f) = subst (AllPairs (λ s t. same_section t s ≡ false)) (sym (ap (λ ys. get_or ys n []) i ∙ get_or-set_other old m n (get_or old m [] ++ x ∷ []) [] f)) (once n)
 
--- a key of a map is not among those before it
+-- a key is not among those before it
 pub key_fresh : (ks : List (ℤ × ℤ × ℤ)) → IsDistinct same_key ks → (i : ℕ) (d : ℤ × ℤ × ℤ) → i < length ks → ¬ Contains (take i ks) (get_or ks i d)
 key_fresh ks h i d l c =
     let apart = AllPairs-from_IsDistinct same ks h in

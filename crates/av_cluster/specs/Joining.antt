@@ -15,7 +15,7 @@ same_key a b = (int_eq a.0 b.0 && int_eq a.1 b.1) && int_eq a.2 b.2
 abbrev pub key_of : SectionPos → ℤ × ℤ × ℤ
 key_of s = (s.x, s.y, s.z)
 
--- the place that a map has for each section
+-- the place that a list has for each section
 abbrev pub owner_in : List ((ℤ × ℤ × ℤ) × ℕ) → SectionPos → Option ℕ
 owner_in es s = lookup (same_key (key_of s)) es
 

@@ -1,6 +1,6 @@
 //! The parts of a tick.
 ghost use Rattle.std.specs.Prelude.{◌≡◌, ◌↔◌, ◌<◌, ◌≤◌, ◌+◌, ◌++◌, ◌∷◌, [], None, Some, true, ℕ, IsTrue, OnOk, IfOk, IfErr, IfSome, length, All, map, slice_get, slice_set, slice_index, slice_index_or, vec_len};
-ghost use Rattle.indexmap.specs.IndexMap.{keys};
+ghost use Rattle.std.specs.Map.{keys_of};
 ghost use Rattle.av_types.specs.declared.fault.Fault.TheVariants.{OutOfMemory};
 ghost use Rattle.av_types.specs.declared.tick.Entry.{Entry};
 ghost use Rattle.av_world.specs.Views.{blocks};
@@ -15,82 +15,19 @@ ghost use Rattle.av_cluster.specs.Joining.{key_of, owner_in, IsTouchedIf, IsNote
 
 use crate::cluster_part::Cluster;
 use crate::forest::{find, join};
-use crate::territories::{corners, fourth, meet_same_sections, reach_index};
+use crate::owners::{Owners, of_key};
+use crate::territories::{corners, meet_same_sections, reach_index};
 use av_cells::Cells;
 use av_play::Placed;
 use av_types::{Entry, Fault, Height, Pos, SectionPos};
 use av_world::World;
-use indexmap::IndexMap;
 use std::alloc::{AllocError, Global};
 
 /// The most parts that a plan can have: their numbers fit a `u32`.
 const MOST: usize = 4_294_967_295;
 
-/// For how many sections room is made at once: about 200 KB.
-const LIKELY: usize = 4096;
-
 /// For how many sections of a part room is made at once: those of one turn are at most 8.
 const LIKELY_IN_PART: usize = 16;
-
-/// The first place that touched each section.
-type Owners = IndexMap<(i32, i32, i32), usize>;
-
-/// No sections' owners, with room for as many as some entries are likely to have.
-fn no_owners(alloc: Global, entries: usize) -> Result<Owners, AllocError>
-    ensures { IfOk result (λ owners. owners.entries ≡ []) }
-{
-    IndexMap::with_capacity(alloc, entries.min(LIKELY))
-}
-
-/// What was looked up last. A look-up checks it.
-#[derive(Drop)]
-struct Near {
-    /// Where the owners of sections stand, by `near_index`.
-    owners: [usize; 64],
-
-    /// The last entries, by `reach_index`.
-    entries: [usize; 256],
-}
-
-/// The key of a section.
-fn key(section: SectionPos) -> (i32, i32, i32)
-    ensures { result ≡ key_of section }
-{
-    (section.x, section.y, section.z)
-}
-
-/// Sections that are near each other have each another of these.
-#[inline(always)]
-fn near_index(section: SectionPos) -> usize
-    ensures { result < 64 }
-{
-    fourth(section.x) + 4 * fourth(section.z) + 16 * fourth(section.y)
-}
-
-/// The owner of a section whose key is the one at an index.
-fn owner_at(owners: &Owners, index: usize, section: SectionPos) -> Option<usize>
-    ensures { IfSome result (λ owner. owner_in owners.now.entries section ≡ Some owner) }
-{
-    let (known, owner) = owners.get_index(index)?;
-    if of_key(*known) == section {
-        Some(*owner)
-    } else {
-        None
-    }
-}
-
-/// The owner of a section, if it has one: where one was found last, or else by its hash.
-fn owner_near(owners: &Owners, near: &mut [usize; 64], section: SectionPos) -> Option<usize>
-    ensures { result ≡ owner_in owners.now.entries section }
-{
-    let index = near_index(section);
-    if let Some(owner) = owner_at(owners, near[index], section) {
-        return Some(owner);
-    }
-    let (at, _, owner) = owners.get_full(&key(section))?;
-    near[index] = at;
-    Some(*owner)
-}
 
 /// Whether a section's number is in the height.
 fn is_high(height: Height, section: SectionPos) -> bool
@@ -104,29 +41,28 @@ fn is_high(height: Height, section: SectionPos) -> bool
 fn touch(
     world: &World,
     owners: &mut Owners,
-    near: &mut [usize; 64],
     parents: &mut [usize],
     block: Pos,
     place: usize,
 ) -> Result<(), AllocError>
     requires falling { IsFalling parents.old }
     requires place { place < length parents.old }
-    requires owner { (k : ℕ) → owner_in owners.old.entries (section_of block) ≡ Some k → k < length parents.old }
-    requires loaded { (k : ℕ) → owner_in owners.old.entries (section_of block) ≡ Some k → (blocks world.now).loaded block ≡ true }
-    ensures { OnOk result (IsTouchedIf ((blocks world.now).loaded block) parents.old parents.new (owner_in owners.old.entries) (owner_in owners.new.entries) (section_of block) place) }
+    requires owner { (k : ℕ) → owner_in owners.old.entries.items (section_of block) ≡ Some k → k < length parents.old }
+    requires loaded { (k : ℕ) → owner_in owners.old.entries.items (section_of block) ≡ Some k → (blocks world.now).loaded block ≡ true }
+    ensures { OnOk result (IsTouchedIf ((blocks world.now).loaded block) parents.old parents.new (owner_in owners.old.entries.items) (owner_in owners.new.entries.items) (section_of block) place) }
 {
     let section = block.section();
     if !is_high(world.height(), section) {
         return Ok(());
     }
-    if let Some(owner) = owner_near(owners, near, section) {
+    if let Some(owner) = owners.owner(section) {
         join(parents, owner, place);
         return Ok(());
     }
     if !world.loaded(block) {
         return Ok(());
     }
-    owners.insert(key(section), place)?;
+    owners.add(section, place)?;
     Ok(())
 }
 
@@ -136,44 +72,43 @@ fn touch_all(
     entries: &[Entry],
     place: usize,
     owners: &mut Owners,
-    near: &mut [usize; 64],
     parents: &mut [usize],
 ) -> Result<(), AllocError>
     requires place { place < length entries.now }
     requires loaded { All (λ e. IsTrue ((blocks world.now).loaded e.pos)) entries.now }
-    requires noted { IsNoted (blocks world.now) entries.now parents.old (owner_in owners.old.entries) (IsBefore (blocks world.now) entries.now place) }
-    ensures { OnOk result (IsNoted (blocks world.now) entries.now parents.new (owner_in owners.new.entries) (IsBefore (blocks world.now) entries.now (place + 1))) }
+    requires noted { IsNoted (blocks world.now) entries.now parents.old (owner_in owners.old.entries.items) (IsBefore (blocks world.now) entries.now place) }
+    ensures { OnOk result (IsNoted (blocks world.now) entries.now parents.new (owner_in owners.new.entries.items) (IsBefore (blocks world.now) entries.now (place + 1))) }
 {
     let corners = corners(entries[place].pos);
     for corner in corners.as_slice() {
-        touch(world, owners, near, parents, *corner, place)?;
+        touch(world, owners, parents, *corner, place)?;
     }
     Ok(())
 }
 
 /// Notes that the entry at a place touches the sections of its territory. Where these are the sections of an entry
-/// before it, as was noted, the two are joined, and no section is looked up.
+/// before it, as was noted, the two are joined, and no section is looked up. The last entries stand by `reach_index`.
 fn touch_next(
     world: &World,
     entries: &[Entry],
     place: usize,
     owners: &mut Owners,
-    near: &mut Near,
+    near: &mut [usize; 256],
     parents: &mut [usize],
 ) -> Result<(), AllocError>
     requires place { place < length entries.now }
     requires loaded { All (λ e. IsTrue ((blocks world.now).loaded e.pos)) entries.now }
-    requires noted { IsNoted (blocks world.now) entries.now parents.old (owner_in owners.old.entries) (IsBefore (blocks world.now) entries.now place) }
-    ensures { OnOk result (IsNoted (blocks world.now) entries.now parents.new (owner_in owners.new.entries) (IsBefore (blocks world.now) entries.now (place + 1))) }
+    requires noted { IsNoted (blocks world.now) entries.now parents.old (owner_in owners.old.entries.items) (IsBefore (blocks world.now) entries.now place) }
+    ensures { OnOk result (IsNoted (blocks world.now) entries.now parents.new (owner_in owners.new.entries.items) (IsBefore (blocks world.now) entries.now (place + 1))) }
 {
     let index = reach_index(entries[place].pos);
-    let before = near.entries[index];
-    near.entries[index] = place;
+    let before = near[index];
+    near[index] = place;
     if before >= place {
-        return touch_all(world, entries, place, owners, &mut near.owners, parents);
+        return touch_all(world, entries, place, owners, parents);
     }
     if !meet_same_sections(entries[before].pos, entries[place].pos) {
-        return touch_all(world, entries, place, owners, &mut near.owners, parents);
+        return touch_all(world, entries, place, owners, parents);
     }
     join(parents, before, place);
     Ok(())
@@ -187,13 +122,10 @@ fn connect(
     parents: &mut [usize],
 ) -> Result<(), AllocError>
     requires loaded { All (λ e. IsTrue ((blocks world.now).loaded e.pos)) entries.now }
-    requires noted { IsNoted (blocks world.now) entries.now parents.old (owner_in owners.old.entries) (IsBefore (blocks world.now) entries.now 0) }
-    ensures { OnOk result (IsNoted (blocks world.now) entries.now parents.new (owner_in owners.new.entries) (IsBefore (blocks world.now) entries.now (length entries.now))) }
+    requires noted { IsNoted (blocks world.now) entries.now parents.old (owner_in owners.old.entries.items) (IsBefore (blocks world.now) entries.now 0) }
+    ensures { OnOk result (IsNoted (blocks world.now) entries.now parents.new (owner_in owners.new.entries.items) (IsBefore (blocks world.now) entries.now (length entries.now))) }
 {
-    let mut near = Near {
-        owners: [0; 64],
-        entries: [0; 256],
-    };
+    let mut near = [0; 256];
     for place in 0..entries.len() {
         touch_next(world, entries, place, owners, &mut near, parents)?;
     }
@@ -298,55 +230,33 @@ fn gather(
     Ok(())
 }
 
-/// The owner of a section, if it has one: where its key is the one at an index, without its hash.
-fn owner_of(owners: &Owners, index: usize, section: SectionPos) -> Option<usize>
-    ensures { result ≡ owner_in owners.now.entries section }
-{
-    if let Some(owner) = owner_at(owners, index, section) {
-        return Some(owner);
-    }
-    owners.get(&key(section)).copied()
-}
-
-/// The section of a key.
-fn of_key(key: (i32, i32, i32)) -> SectionPos
-    ensures { key_of result ≡ key }
-{
-    let (x, y, z) = key;
-    SectionPos { x, y, z }
-}
-
-/// Gives the section of the key at an index to the part of its owner.
+/// Gives a section to the part of its owner.
 fn give(
-    owners: &Owners,
-    index: usize,
     numbers: &[usize],
     section: SectionPos,
+    owner: usize,
     clusters: &mut Vec<Cluster>,
 ) -> Result<(), AllocError>
+    requires owner { owner < length numbers.now }
     requires numbers { (k : ℕ) → k < length numbers.now → slice_index numbers.now k < length (parts_of clusters.old.items) }
-    requires owners { (k : ℕ) → owner_in owners.now.entries section ≡ Some k → k < length numbers.now }
     ensures parts { OnOk result (parts_of clusters.new.items ≡ parts_of clusters.old.items) }
-    ensures sections { OnOk result (IsGiven (owner_in owners.now.entries section) numbers.now section (sections_of clusters.old.items) (sections_of clusters.new.items)) }
+    ensures sections { OnOk result (IsGiven (Some owner) numbers.now section (sections_of clusters.old.items) (sections_of clusters.new.items)) }
 {
-    if let Some(owner) = owner_of(owners, index, section) {
-        own(clusters, numbers[owner], section)?;
-    }
-    Ok(())
+    own(clusters, numbers[owner], section)
 }
 
 /// Gives each part its sections.
 fn share(owners: &Owners, numbers: &[usize], clusters: &mut Vec<Cluster>) -> Result<(), AllocError>
     requires numbers { (k : ℕ) → k < length numbers.now → slice_index numbers.now k < length (parts_of clusters.old.items) }
-    requires owners { (s : SectionPos) (k : ℕ) → owner_in owners.now.entries s ≡ Some k → k < length numbers.now }
+    requires owners { (s : SectionPos) (k : ℕ) → owner_in owners.now.entries.items s ≡ Some k → k < length numbers.now }
     requires bare { AreBare (sections_of clusters.old.items) }
     ensures parts { OnOk result (parts_of clusters.new.items ≡ parts_of clusters.old.items) }
-    ensures sections { OnOk result (AreShared (owner_in owners.now.entries) numbers.now (keys owners.now) (sections_of clusters.new.items)) }
+    ensures sections { OnOk result (AreShared (owner_in owners.now.entries.items) numbers.now (keys_of owners.now.entries.items) (sections_of clusters.new.items)) }
     ensures once { OnOk result (AreOnce (sections_of clusters.new.items)) }
 {
-    let keys = owners.keys().as_slice();
-    for (index, key) in keys.iter().enumerate() {
-        give(owners, index, numbers, of_key(*key), clusters)?;
+    for entry in owners.entries() {
+        let (key, owner) = *entry;
+        give(numbers, of_key(key), owner, clusters)?;
     }
     Ok(())
 }
@@ -363,7 +273,7 @@ pub fn plan(alloc: Global, world: &World, entries: &[Entry]) -> Result<Vec<Clust
     ensures count { IfOk result (λ clusters. vec_len clusters ≤ 4294967295) }
     ensures fault { IfErr result (λ e. e ≡ OutOfMemory) }
 {
-    let mut owners = no_owners(alloc, entries.len())?;
+    let mut owners = Owners::with_room(alloc, entries.len())?;
     let mut parents = alone(alloc, entries.len())?;
     let groups = parents.as_mut_slice();
     connect(world, entries, &mut owners, groups)?;

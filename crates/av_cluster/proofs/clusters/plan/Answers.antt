@@ -19,7 +19,7 @@ pub connect-requires-clause-noted : goal.connect-requires-clause-noted
 connect-requires-clause-noted c =
     let es = c.args.entries.now in let ps = c.as_mut_slice-groups.result.now in
     let a : AreAlone ps (length es) = subst (λ l. AreAlone l (length es)) (sym c.as_mut_slice-groups.ensures.value) c.in_ok-parents.ensures in
-    noted_none (blocks c.args.world.now) es ps (owner_in c.in_ok-owners.owners.entries) (alone_falling ps (length es) a) a.count (alone_first ps (length es) a)
+    noted_none (blocks c.args.world.now) es ps (owner_in c.in_ok-owners.owners.entries.items) (alone_falling ps (length es) a) a.count (alone_first ps (length es) a)
     (λ s. ap (λ l. owner_in l s) c.in_ok-owners.ensures)
     (λ k e h. All-contains (λ (e : Entry). IsTrue ((blocks c.args.world.now).loaded e.pos)) es e c.requires.loaded (k, slice_get_within es k e h, get_or_from_slice_get es k e e h))
 
@@ -34,12 +34,12 @@ pub share-requires-clause-owners : goal.share-requires-clause-owners
 share-requires-clause-owners c = λ s k e.
     let es = c.args.entries.now in
     let n = c.in_ok-connect.ensures in
-    let a = owner_inside (blocks c.args.world.now) es c.connect.new.parents (owner_in c.connect.new.owners.entries) _ n s k e in
+    let a = owner_inside (blocks c.args.world.now) es c.connect.new.parents (owner_in c.connect.new.owners.entries.items) _ n s k e in
     let b = n.count in let d = c.in_ok-gather.ensures.gathered.count in let f = ap length c.as_slice.ensures.value in omega arith
 
 pub returns-clause-planned : goal.returns-clause-planned
 returns-clause-planned c =
-    let es = c.args.entries.now in let ps = c.connect.new.parents in let w = blocks c.args.world.now in let own = c.connect.new.owners.entries in
+    let es = c.args.entries.now in let ps = c.connect.new.parents in let w = blocks c.args.world.now in let own = c.connect.new.owners.entries.items in
     let n = c.in_ok-connect.ensures in
     let parts = subst (λ ps. IsGathered es (first c.connect.new.parents) (length es) c.gather.new.numbers.items ps) (sym c.in_ok-share.ensures.parts) c.in_ok-gather.ensures.gathered in
     let shared = subst (λ ns. AreShared (owner_in own) ns (keys_of own) (sections_of c.share.new.clusters.items)) c.as_slice.ensures.value c.in_ok-share.ensures.sections in

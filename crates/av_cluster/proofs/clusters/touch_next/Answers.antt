@@ -9,7 +9,7 @@ reach_index-index-requires c = let w = c.args.world.now in cells_near w.height w
 
 pub meet_same_sections-requires-clause-a : goal.meet_same_sections-requires-clause-a
 meet_same_sections-requires-clause-a c =
-    let w = c.args.world.now in let before = get_or c.args.near.now.entries c.reach_index-index.result 0 in
+    let w = c.args.world.now in let before = get_or c.args.near.now c.reach_index-index.result 0 in
     let l : before < c.args.place = c.if-before-place.false in let m = c.requires.place in
     cells_near w.height w.positions.items w.chunks.items w.lawful _ (c.requires.loaded before _ (omega (arith, l, m)))
 
@@ -18,5 +18,5 @@ meet_same_sections-requires-clause-b c = let w = c.args.world.now in cells_near 
 
 pub returns : goal.returns
 returns c =
-    beside_noted (grid c.args.world.now) c.args.entries.now _ (get_or c.args.near.now.entries c.reach_index-index.result 0) c.args.place _ _ _ c.if-before-place.false c.requires.place
+    beside_noted (grid c.args.world.now) c.args.entries.now _ (get_or c.args.near.now c.reach_index-index.result 0) c.args.place _ _ _ c.if-before-place.false c.requires.place
     (c.meet_same_sections.ensures c.if-not-meet_same_sections.false) (c.requires.loaded c.args.place _ c.requires.place) c.requires.noted c.join.ensures
