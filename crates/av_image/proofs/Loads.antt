@@ -50,11 +50,11 @@ use Rattle.av_image.specs.declared.regions.ReadRegion.{ReadRegion}
 use Rattle.av_image.specs.declared.rest.RegionRest.{RegionRest}
 use Rattle.av_image.specs.declared.splits.Placed.{Placed}
 use Rattle.av_image.specs.Placed.{WasPlaceRead, WasRegionRead, WereRegionsRead}
-use Rattle.av_image.specs.Loading.{file_in, placed_order}
+use Rattle.av_image.specs.Loading.{placed_order}
 use Rattle.av_land.specs.Land.{is_loaded}
 use Rattle.av_world.specs.Views.{grid}
 use Rattle.av_world.specs.Lands.{land_of, IsUncarved}
-use Rattle.av_image.specs.Views.{rest_view, region_found, stamp_in}
+use Rattle.av_image.specs.Views.{rest_view, region_found, stamp_in, file_in}
 use Rattle.av_image.specs.Splits.{placed_in, placed_from, AreSplit, chunk_found, ArePlacedOnce, HasAt, IsWorldOf}
 use Rattle.av_image.proofs.Back.{other_region, found_away, found_before, found_none_of}
 use Rattle.av_image.proofs.Worlds.{not_same}
