@@ -40,7 +40,8 @@ use Rattle.av_world.specs.Inserted.{chunk_grid}
 use Rattle.av_world.specs.Inserted.{IsNewChunk}
 use Rattle.av_world.specs.declared.worlds.World.{World}
 use Rattle.av_ticks.specs.Order.{inserted, ordered}
-use Rattle.av_files.specs.Files.{File, in_order, region_order, same_region, regions_rise, region_after, share_a_region}
+use Rattle.av_files.specs.Files.{File, in_order, regions_rise, region_after, share_a_region}
+use Rattle.av_region.specs.Regions.{region_order, same_region}
 use Rattle.av_files.specs.FirstFault.{AllInLimits}
 use Rattle.av_files.specs.Laws.{StampsFit}
 use Rattle.av_sink.specs.declared.files.RegionFile.{RegionFile}
@@ -50,11 +51,11 @@ use Rattle.av_image.specs.declared.regions.ReadRegion.{ReadRegion}
 use Rattle.av_image.specs.declared.rest.RegionRest.{RegionRest}
 use Rattle.av_image.specs.declared.splits.Placed.{Placed}
 use Rattle.av_image.specs.Placed.{WasPlaceRead, WasRegionRead, WereRegionsRead}
-use Rattle.av_image.specs.Loading.{file_in, placed_order}
+use Rattle.av_image.specs.Loading.{placed_order}
 use Rattle.av_land.specs.Land.{is_loaded}
 use Rattle.av_world.specs.Views.{grid}
 use Rattle.av_world.specs.Lands.{land_of, IsUncarved}
-use Rattle.av_image.specs.Views.{rest_view, region_found, stamp_in}
+use Rattle.av_image.specs.Views.{rest_view, region_found, stamp_in, file_in}
 use Rattle.av_image.specs.Splits.{placed_in, placed_from, AreSplit, chunk_found, ArePlacedOnce, HasAt, IsWorldOf}
 use Rattle.av_image.proofs.Back.{other_region, found_away, found_before, found_none_of}
 use Rattle.av_image.proofs.Worlds.{not_same}

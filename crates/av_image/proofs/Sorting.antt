@@ -16,11 +16,13 @@ use Rattle.av_ticks.specs.Order.{inserted, ordered}
 use Rattle.av_chunk.specs.declared.chunk.Chunk.{Chunk}
 use Rattle.av_cells.specs.Positions.{same_chunk}
 use Rattle.av_world.proofs.Search.{lt_tells, eq_tells}
-use Rattle.av_files.specs.Files.{region_order, regions_rise, in_order}
+use Rattle.av_files.specs.Files.{regions_rise, in_order}
+use Rattle.av_region.specs.Regions.{region_order}
 use Rattle.av_sink.specs.declared.files.RegionFile.{RegionFile}
 use Rattle.av_image.specs.declared.splits.Placed.{Placed}
 use Rattle.av_image.specs.Splits.{chunk_found, HasAt, IsWorldOf}
-use Rattle.av_image.specs.Loading.{file_in, placed_order, region_before, comes_after, rises_from}
+use Rattle.av_image.specs.Loading.{placed_order, region_before, comes_after, rises_from}
+use Rattle.av_image.specs.Views.{file_in}
 
 pub placed_laws : IsStrictWeakOrder (λ x y. is_lt (placed_order x y))
 placed_laws = ranks_by (then_total (on_total (λ (e : Placed). e.at.z) int_cmp_total) (on_total (λ (e : Placed). e.at.x) int_cmp_total)) (λ (e : Placed). e)

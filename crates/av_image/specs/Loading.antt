@@ -1,4 +1,4 @@
--- What is loaded. Working definitions.
+-- What is loaded. Working definitions: no public clause cites them.
 use Rattle.std.specs.Prelude.{◌≡◌, List, ◌∷◌, map, Bool, true, false, int_lt, ◌||◌, ◌&&◌, Option, Some, None}
 use Rattle.std.specs.Ordering.{int_eq}
 use Rattle.av_types.specs.declared.place.RegionPos.{RegionPos}
@@ -7,11 +7,7 @@ use Rattle.av_types.specs.declared.fault.Fault.{Fault}
 use Rattle.av_types.specs.declared.fault.Fault.TheVariants.{RegionRange, RepeatedRegion}
 use Rattle.av_files.specs.Files.{File, in_order, regions_rise, share_a_region, chunk_order}
 use Rattle.av_files.specs.FirstFault.{AllInLimits}
-use Rattle.av_sink.specs.declared.files.RegionFile.{RegionFile}
 use Rattle.av_image.specs.declared.splits.Placed.{Placed}
-
-abbrev pub file_in : RegionFile → File
-file_in f = record { pos = f.pos; bytes = f.bytes.items }
 
 abbrev pub placed_order : Placed → Placed → Ordering
 placed_order a b = chunk_order a.at b.at

@@ -1,16 +1,22 @@
--- What a rest in memory stands for.
+-- What files and a rest in memory stand for.
 use Rattle.std.specs.Prelude.{ℕ, List, [], ◌∷◌, Option, Some, None, map, slice_get, slice_index_or, if◌then◌else◌}
 use Rattle.av_types.specs.Places.{region_of, index_of}
 use Rattle.av_types.specs.declared.place.ChunkPos.{ChunkPos}
 use Rattle.av_types.specs.declared.place.RegionPos.{RegionPos}
 use Rattle.av_document.specs.Chunk.{RestOfChunk}
 use Rattle.av_chunk.specs.Views.{rest_of}
-use Rattle.av_files.specs.Files.{same_region}
+use Rattle.av_files.specs.Files.{File}
+use Rattle.av_region.specs.Regions.{same_region}
 use Rattle.av_files.specs.Denotes as files
+use Rattle.av_sink.specs.declared.files.RegionFile.{RegionFile}
 use Rattle.av_image.specs.declared.rest.Slot.{Slot}
 use Rattle.av_image.specs.declared.rest.Slot.TheVariants as slots
 use Rattle.av_image.specs.declared.rest.RegionRest.{RegionRest}
 use Rattle.av_image.specs.declared.rest.Rest.{Rest}
+
+-- a file as its region and its bytes
+abbrev pub file_in : RegionFile → File
+file_in f = record { pos = f.pos; bytes = f.bytes.items }
 
 -- the first region with a place
 abbrev pub region_found : List RegionRest → RegionPos → Option RegionRest

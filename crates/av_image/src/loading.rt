@@ -12,10 +12,10 @@ ghost use Rattle.av_files.specs.FirstFault.{IsFilesFaultAfter};
 ghost use Rattle.av_files.specs.Layers.{IsLoadAfter};
 ghost use Rattle.av_world.specs.Lands.{land_of, IsUncarved};
 ghost use Rattle.av_world.specs.Views.{positions_of, is_broken};
-ghost use Rattle.av_image.specs.Views.{rest_in};
+ghost use Rattle.av_image.specs.Views.{rest_in, file_in};
 ghost use Rattle.av_image.specs.Placed.{WereFilesRead, AreRegionsRead};
 ghost use Rattle.av_image.specs.Saving.{IsRestOf};
-ghost use Rattle.av_image.specs.Loading.{file_in, placed_order, region_before, comes_after, AreFilesInOrder, IsRegionsFault};
+ghost use Rattle.av_image.specs.Loading.{placed_order, region_before, comes_after, AreFilesInOrder, IsRegionsFault};
 
 use crate::regions::{ReadRegion, read_regions};
 use crate::rest::Rest;

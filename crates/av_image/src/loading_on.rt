@@ -7,9 +7,8 @@ ghost use Rattle.av_files.specs.FirstFault.{IsFilesFaultAfter};
 ghost use Rattle.av_files.specs.Layers.{IsLoadAfter};
 ghost use Rattle.av_world.specs.Lands.{land_of, IsUncarved};
 ghost use Rattle.av_world.specs.Views.{positions_of, is_broken};
-ghost use Rattle.av_image.specs.Views.{rest_in};
+ghost use Rattle.av_image.specs.Views.{rest_in, file_in};
 ghost use Rattle.av_image.specs.Saving.{IsRestOf};
-ghost use Rattle.av_image.specs.Loading.{file_in};
 
 use crate::loading::{judged, world_and_rest};
 use crate::regions_on::read_regions_on;

@@ -7,7 +7,7 @@ ghost use Rattle.av_nbt.specs.Writing.{written_document};
 ghost use Rattle.av_land.specs.Land.{has_chunk};
 ghost use Rattle.av_chunk.specs.Writing.{CanWrite, written};
 ghost use Rattle.av_world.specs.Views.{height_of, positions_of, is_broken};
-ghost use Rattle.av_image.specs.Loading.{file_in};
+ghost use Rattle.av_image.specs.Views.{file_in};
 ghost use Rattle.av_image.specs.Saving.{CanSave, IsSlotOf, IsRegionOf, IsRestOf, IsSaveFault, saved, unsaved};
 ghost use Rattle.av_image.specs.SavingSteps.{payload_items, loaded_bytes, slot_payload, region_payloads, file_with, too_large_among, region_file, region_unsaved};
 

@@ -2,7 +2,7 @@
 ghost use Rattle.std.specs.Prelude.{◌≡◌, ◌≢◌, IfOk, IfErr, OnOk, Err, None, map, option_map, true, false};
 ghost use Rattle.av_types.specs.declared.fault.Fault.TheVariants.{OutOfMemory, Broken, ChunkTooLarge};
 ghost use Rattle.av_world.specs.Views.{height_of, positions_of, is_broken};
-ghost use Rattle.av_image.specs.Loading.{file_in};
+ghost use Rattle.av_image.specs.Views.{file_in};
 ghost use Rattle.av_image.specs.Saving.{CanSave, IsRegionOf, IsRestOf, IsSaveFault, saved, unsaved};
 ghost use Rattle.av_image.specs.SavingSteps.{region_file, region_unsaved};
 

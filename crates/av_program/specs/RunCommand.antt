@@ -6,7 +6,7 @@ use Rattle.av_types.specs.declared.fault.Fault.{Fault}
 use Rattle.av_types.specs.declared.fault.Fault.TheVariants.{OutOfMemory}
 use Rattle.av_sink.specs.Account.{Account, IsDevice, with_files}
 use Rattle.av_sink.specs.Saving.{IsStopped, named_file}
-use Rattle.av_image.specs.Loading.{file_in}
+use Rattle.av_image.specs.Views.{file_in}
 use Rattle.av_run.specs.Answer.{IsRunAnswer}
 use Rattle.av_run.specs.declared.runs.Outcome.{Outcome}
 use Rattle.av_program.specs.declared.running.Inputs.{Inputs}

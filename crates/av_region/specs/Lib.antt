@@ -1,2 +1,3 @@
 pub mod Region
 pub mod Layout
+pub mod Regions

@@ -25,13 +25,12 @@ use Rattle.av_files.specs.Headline.{Headline, IsRunRefused, output}
 use Rattle.av_files.specs.Run.{stated, kinds_in}
 use Rattle.av_files.proofs.Composed.{reaches, headline}
 use Rattle.av_image.specs.declared.rest.Rest.{Rest}
-use Rattle.av_image.specs.Views.{rest_in}
-use Rattle.av_image.specs.Loading.{file_in}
+use Rattle.av_image.specs.Views.{rest_in, file_in}
 use Rattle.av_image.specs.Saving.{IsRestOf}
 use Rattle.av_headline.proofs.Alike.{one_refusal, answer_or_refusal}
 use Rattle.av_run.specs.Answer.{IsRunAnswer}
-use Rattle.av_run.specs.Written.{AreKindsBy, AreFilesOf, IsNotWritten}
-use Rattle.av_run.specs.Input.{IsInput, CanRun}
+use Rattle.av_run.specs.Written.{AreFilesOf, IsNotWritten}
+use Rattle.av_run.specs.Input.{IsInput, CanRun, AreKindsBy}
 use Rattle.av_run.specs.Finished.{reached_from, IsFinished}
 use Rattle.av_run.specs.declared.input.Input.{Input}
 use Rattle.av_run.specs.declared.runs.Outcome.{Outcome}

@@ -32,8 +32,7 @@ use Rattle.av_files.proofs.Composed.{stated_grows}
 use Rattle.av_files.proofs.Lawfuls.{read_is_good, read_has_ints}
 use Rattle.av_image.specs.Views.{rest_in}
 use Rattle.av_image.specs.Saving.{IsRestOf}
-use Rattle.av_run.specs.Written.{AreKindsBy}
-use Rattle.av_run.specs.Input.{IsInput, IsInputFault, CanRun}
+use Rattle.av_run.specs.Input.{IsInput, IsInputFault, CanRun, AreKindsBy}
 use Rattle.av_run.specs.declared.input.Input.{Input}
 
 -- ---- the kinds of a table's states

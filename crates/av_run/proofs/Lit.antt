@@ -42,7 +42,8 @@ use Rattle.av_image.specs.Saving.{states_in, dark, section_light, lights_in, sav
 use Rattle.av_image.proofs.Ready.{can_save, sources_are}
 use Rattle.av_section_light.specs.Light.{terrain_of, IsChunkLight}
 use Rattle.av_section_light.specs.Sections.{half_byte}
-use Rattle.av_run.specs.Written.{AreKindsBy, AreFilesOf, IsNotWritten}
+use Rattle.av_run.specs.Written.{AreFilesOf, IsNotWritten}
+use Rattle.av_run.specs.Input.{AreKindsBy}
 
 -- ---- the bytes of a section
 

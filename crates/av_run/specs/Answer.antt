@@ -4,7 +4,7 @@ use Rattle.av_types.specs.declared.fault.Fault.{Fault}
 use Rattle.av_types.specs.declared.fault.Fault.TheVariants.{OutOfMemory}
 use Rattle.av_files.specs.Files.{File}
 use Rattle.av_files.specs.Headline.{Headline, IsRunRefused}
-use Rattle.av_image.specs.Loading.{file_in}
+use Rattle.av_image.specs.Views.{file_in}
 use Rattle.av_run.specs.declared.runs.Outcome.{Outcome}
 
 -- Files that decode to the world that the rule reaches from the input, with the light of its brightest paths and the rest that was read;

@@ -11,9 +11,9 @@ use Rattle.av_edits.specs.Numbered.{number_sets}
 use Rattle.av_world.specs.Lands.{land_of}
 use Rattle.av_world.specs.Views.{positions_of}
 use Rattle.av_files.specs.Run.{stated}
-use Rattle.av_image.specs.Loading.{file_in}
-use Rattle.av_image.specs.Views.{rest_in}
-use Rattle.av_run.specs.Written.{AreKindsBy, AreFilesOf}
+use Rattle.av_image.specs.Views.{rest_in, file_in}
+use Rattle.av_run.specs.Written.{AreFilesOf}
+use Rattle.av_run.specs.Input.{AreKindsBy}
 use Rattle.av_run.specs.declared.input.Input.{Input}
 use Rattle.av_run.specs.declared.runs.Outcome.{Outcome}
 

@@ -1,12 +1,13 @@
 -- What a run begins with: its world, the rest, the kinds of states, and its edits.
-use Rattle.std.specs.Prelude.{◌≡◌, ℕ, ◌≤◌, List, false}
+use Rattle.std.specs.Prelude.{◌≡◌, ℕ, ◌≤◌, List, map, false}
 use Rattle.std.specs.List.{AllByRecursion}
 use Rattle.av_types.specs.declared.place.Height.{Height}
 use Rattle.av_types.specs.declared.fault.Fault.{Fault}
 use Rattle.av_state.specs.BlockState.{BlockState}
 use Rattle.av_state.specs.Table.{states}
-use Rattle.av_rules.specs.Rows.{BlockTable}
-use Rattle.av_rules.specs.Kinds.{table_in, kind_count}
+use Rattle.av_rules.specs.Rows.{BlockTable, row_of, wet_in}
+use Rattle.av_rules.specs.Kinds.{rows_in, wets_in, table_in, kind_count}
+use Rattle.av_rules.specs.declared.kinds.Kinds.{Kinds}
 use Rattle.av_land.specs.Land.{is_loaded}
 use Rattle.av_land.specs.Good.{Good, IsTimely, HasIntCoordinates, IsSetOf}
 use Rattle.av_edits.specs.Numbered.{number_sets}
@@ -17,9 +18,13 @@ use Rattle.av_files.specs.FirstFault.{AreCountsGood, IsTable, IsFirstFault}
 use Rattle.av_files.specs.Layers.{IsLoad, AreEdits}
 use Rattle.av_image.specs.Views.{rest_in}
 use Rattle.av_image.specs.Saving.{IsRestOf}
-use Rattle.av_run.specs.Written.{AreKindsBy}
 use Rattle.av_run.specs.declared.input.Loaded.{Loaded}
 use Rattle.av_run.specs.declared.input.Input.{Input}
+
+-- the kinds are those that a block table says
+pub record AreKindsBy (t : BlockTable) (k : Kinds) : Type 0 where
+  pub rows : rows_in k ≡ map (row_of t) (states (table_in k))
+  pub wets : wets_in k ≡ map (wet_in t) (states (table_in k))
 
 -- the world and the rest of files, by a new table of states
 pub record IsLoadedFrom (h : Height) (files : List File) (l : Loaded) : Type 0 where

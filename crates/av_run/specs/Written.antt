@@ -1,23 +1,15 @@
--- Files that a world is written as, with its light. Working definitions.
-use Rattle.std.specs.Prelude.{◌≡◌, ℕ, List, Some, None, map}
+-- Files that a world is written as, with its light. Working definitions: no public clause cites them.
+use Rattle.std.specs.Prelude.{◌≡◌, ℕ, List, Some, None}
 use Rattle.av_types.specs.declared.place.ChunkPos.{ChunkPos}
 use Rattle.av_types.specs.declared.fault.Fault.{Fault}
 use Rattle.av_types.specs.declared.fault.Fault.TheVariants.{ChunkTooLarge}
 use Rattle.av_state.specs.BlockState.{BlockState}
-use Rattle.av_state.specs.Table.{states}
-use Rattle.av_rules.specs.Rows.{BlockTable, row_of, wet_in}
-use Rattle.av_rules.specs.Kinds.{rows_in, wets_in, table_in}
-use Rattle.av_rules.specs.declared.kinds.Kinds.{Kinds}
+use Rattle.av_rules.specs.Rows.{BlockTable}
 use Rattle.av_land.specs.Land.{Land}
 use Rattle.av_files.specs.Files.{File}
 use Rattle.av_files.specs.Denotes.{Rest}
 use Rattle.av_files.specs.Layout.{Lights, layout, too_large}
 use Rattle.av_files.specs.Light.{IsLit}
-
--- the kinds are those that a block table says
-pub record AreKindsBy (t : BlockTable) (k : Kinds) : Type 0 where
-  pub rows : rows_in k ≡ map (row_of t) (states (table_in k))
-  pub wets : wets_in k ≡ map (wet_in t) (states (table_in k))
 
 -- with the light of its brightest paths
 pub record AreFilesOf (t : BlockTable) (v : Land BlockState) (r : Rest) (n : ℕ) (out : List File) : Type 0 where

@@ -1,7 +1,7 @@
 //! How much a run may be given.
 ghost use Rattle.std.specs.Prelude.{IsTrue, ◌↔◌, map};
 ghost use Rattle.av_files.specs.FirstFault.{AreCountsGood};
-ghost use Rattle.av_image.specs.Loading.{file_in};
+ghost use Rattle.av_image.specs.Views.{file_in};
 
 use av_sink::RegionFile;
 

@@ -10,7 +10,7 @@ ghost use Rattle.av_world.specs.Lands.{land_of, IsUncarved};
 ghost use Rattle.av_files.specs.Files.{File};
 ghost use Rattle.av_files.specs.FirstFault.{IsTable, IsBadTable, IsFilesFault};
 ghost use Rattle.av_files.specs.Layers.{AreEdits};
-ghost use Rattle.av_image.specs.Loading.{file_in};
+ghost use Rattle.av_image.specs.Views.{file_in};
 ghost use Rattle.av_run.specs.Input.{IsLoadedFrom, IsInput, IsInputFault};
 
 use av_edits::Edit;

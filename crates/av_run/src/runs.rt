@@ -3,11 +3,10 @@ ghost use Rattle.std.specs.Prelude.{◌≡◌, ◌≢◌, true, IfOk, IfErr, map
 ghost use Rattle.av_types.specs.declared.fault.Fault.TheVariants.{OutOfMemory};
 ghost use Rattle.av_rules.specs.Rows.{BlockTable};
 ghost use Rattle.av_crew.specs.Counts.{is_count_of_workers};
-ghost use Rattle.av_image.specs.Loading.{file_in};
-ghost use Rattle.av_image.specs.Views.{rest_in};
+ghost use Rattle.av_image.specs.Views.{rest_in, file_in};
 ghost use Rattle.av_run.specs.Answer.{IsRunAnswer};
-ghost use Rattle.av_run.specs.Written.{AreKindsBy, IsNotWritten};
-ghost use Rattle.av_run.specs.Input.{CanRun};
+ghost use Rattle.av_run.specs.Written.{IsNotWritten};
+ghost use Rattle.av_run.specs.Input.{CanRun, AreKindsBy};
 ghost use Rattle.av_run.specs.Finished.{reached_from, IsFinished};
 
 use crate::counts::are_counts_good;
@@ -70,9 +69,11 @@ fn finish<R: Threads + Wait + Sync, G: Gate + Sync>(
 }
 
 /// Runs edits and water over the world of region files, lights it, and answers the files that it is written as. `table`
-/// is a block table, `edits` are lines of edits, and `workers` is how many threads turn blocks, the calling one among them;
-/// the answer is the same for each number of them. `gate`, if it watches, is told of each part of a tick before and after its
-/// turns. A refused run hands out nothing.
+/// is a block table, `edits` are lines of edits, and `workers` is how many threads turn blocks at most, the calling one
+/// among them; the answer is the same for each number of them. One worker's blocks, and in a tick those of few entries or
+/// of one large part, are turned by the calling thread on the world itself; else the workers turn the tick's parts. Where
+/// `gate` watches, all ticks are turned in parts. It is told of each part before and after its turns. A refused run hands
+/// out nothing.
 ///
 /// # Errors
 /// The first of these: `BadCount` where there are not 1 to 8 workers, or more than 1,000,000 ticks or 1,024 files;

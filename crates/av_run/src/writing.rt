@@ -6,10 +6,10 @@ ghost use Rattle.av_rules.specs.Kinds.{kind_count};
 ghost use Rattle.av_land.specs.Good.{Good, IsTimely};
 ghost use Rattle.av_world.specs.Lands.{land_of, IsUncarved};
 ghost use Rattle.av_world.specs.Views.{height_of, positions_of, is_broken};
-ghost use Rattle.av_image.specs.Loading.{file_in};
-ghost use Rattle.av_image.specs.Views.{rest_in};
+ghost use Rattle.av_image.specs.Views.{rest_in, file_in};
 ghost use Rattle.av_image.specs.Saving.{IsRestOf, states_in};
-ghost use Rattle.av_run.specs.Written.{AreKindsBy, AreFilesOf, IsNotWritten};
+ghost use Rattle.av_run.specs.Written.{AreFilesOf, IsNotWritten};
+ghost use Rattle.av_run.specs.Input.{AreKindsBy};
 
 use av_image::{Rest, save_on};
 use av_light::light_all;

@@ -1,29 +1,20 @@
 -- A list of region files, and its faults.
-use Rattle.std.specs.Prelude.{◌≡◌, ◌<◌, ◌≤◌, List, [], ◌∷◌, length, Bool, true, false, ◌||◌, ◌&&◌}
-use Rattle.std.specs.Ordering.{int_eq, int_cmp, ordering_then}
-use Rattle.std.specs.declared.cmp.Ordering.{Ordering}
-use Rattle.std.specs.List.{All, list_any}
+use Rattle.std.specs.Prelude.{◌≡◌, ◌<◌, ◌≤◌, List, length, Bool, true, false}
+use Rattle.std.specs.List.{All}
 use Rattle.av_types.specs.Places.{IsInLimits}
-use Rattle.av_types.specs.declared.place.RegionPos.{RegionPos}
 use Rattle.av_types.specs.declared.fault.Fault.{Fault}
 use Rattle.av_types.specs.declared.fault.Fault.TheVariants.{BadCount, RegionRange, RepeatedRegion}
+use Rattle.av_region.specs.Regions.{region_order, repeats_a_region}
 use Rattle.av_ticks.specs.Order.{ordered}
 use Rattle.av_sink.specs.declared.files.RegionFile.{RegionFile}
-
-abbrev pub region_order : RegionPos → RegionPos → Ordering
-region_order a b = ordering_then (int_cmp a.z b.z) (int_cmp a.x b.x)
 
 -- by (z, x) of their regions
 abbrev pub in_order : List RegionFile → List RegionFile
 in_order files = ordered (λ f g. region_order f.pos g.pos) files
 
-abbrev pub same_region : RegionPos → RegionPos → Bool
-same_region a b = int_eq a.x b.x && int_eq a.z b.z
-
 -- two files are of one region
 abbrev pub share_a_region : List RegionFile → Bool
-share_a_region [] = false
-share_a_region (f ∷ fs) = list_any (λ g. same_region f.pos g.pos) fs || share_a_region fs
+share_a_region files = repeats_a_region (λ (f : RegionFile). f.pos) files
 
 -- A list without a fault: at most 1,024 files, of regions within the limits, each region once.
 pub record IsList (files : List RegionFile) : Type 0 where

@@ -3,7 +3,8 @@ ghost use Rattle.std.specs.Prelude.{◌≡◌, ◌≢◌, IfOk, IfErr, IsPermuta
 ghost use Rattle.std.specs.List.{All, list_any};
 ghost use Rattle.av_types.specs.declared.fault.Fault.TheVariants.{OutOfMemory};
 ghost use Rattle.av_types.specs.Places.{IsInLimits};
-ghost use Rattle.av_survey.specs.Listing.{IsListInOrder, IsListFault, in_order, same_region, share_a_region};
+ghost use Rattle.av_survey.specs.Listing.{IsListInOrder, IsListFault, in_order, share_a_region};
+ghost use Rattle.av_region.specs.Regions.{same_region};
 
 use av_sink::RegionFile;
 use av_types::{Fault, RegionPos};

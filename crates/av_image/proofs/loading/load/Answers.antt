@@ -7,8 +7,7 @@ use Rattle.av_world.specs.Lands.{land_of}
 use Rattle.av_world.specs.Views.{positions_of}
 use Rattle.av_files.specs.FirstFault.{IsFilesFaultAfter}
 use Rattle.av_files.specs.Layers.{IsLoadAfter}
-use Rattle.av_image.specs.Loading.{file_in}
-use Rattle.av_image.specs.Views.{rest_in}
+use Rattle.av_image.specs.Views.{rest_in, file_in}
 use Rattle.av_image.specs.Saving.{IsRestOf}
 use Rattle.av_image.proofs.loading.load.Goals as goal
 

@@ -4,7 +4,7 @@ use Rattle.std.proofs.lemmas.List.{map-append}
 use Rattle.av_types.specs.declared.fault.Fault.TheVariants.{OutOfMemory, ChunkTooLarge}
 use Rattle.av_chunk.proofs.Found.{err_from}
 use Rattle.av_image.specs.declared.rest.RegionRest.{RegionRest}
-use Rattle.av_image.specs.Loading.{file_in}
+use Rattle.av_image.specs.Views.{file_in}
 use Rattle.av_image.specs.Saving.{unsaved}
 use Rattle.av_image.proofs.Written.{saved_more, saved_all, saved_fits, saved_stop}
 use Rattle.av_image.proofs.saving.saved_regions.Goals as goal

@@ -1,5 +1,5 @@
 use Rattle.std.proofs.Common.{map}
-use Rattle.av_image.specs.Loading.{file_in}
+use Rattle.av_image.specs.Views.{file_in}
 use Rattle.av_image.specs.SavingSteps.{SavedSoFar}
 use Rattle.av_image.proofs.saving.saved_regions.Given as goal
 

@@ -7,9 +7,8 @@ use Rattle.av_land.specs.Good.{Good, IsTimely}
 use Rattle.av_world.specs.Lands.{land_of}
 use Rattle.av_world.specs.Views.{positions_of}
 use Rattle.av_files.proofs.Lawfuls.{read_is_good}
-use Rattle.av_image.specs.Loading.{file_in}
 use Rattle.av_image.specs.Saving.{IsRestOf}
-use Rattle.av_image.specs.Views.{rest_in}
+use Rattle.av_image.specs.Views.{rest_in, file_in}
 use Rattle.av_image_tests.proofs.saves.read_on.Goals as goal
 
 pub returns-clause-good : goal.returns-clause-good

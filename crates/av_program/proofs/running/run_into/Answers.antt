@@ -5,7 +5,7 @@ use Rattle.av_sink.specs.Account.{with_files}
 use Rattle.av_sink.specs.Saving.{IsStopped, named_file}
 use Rattle.av_sink.specs.declared.files.RegionFile.{RegionFile}
 use Rattle.av_files.specs.Files.{File}
-use Rattle.av_image.specs.Loading.{file_in}
+use Rattle.av_image.specs.Views.{file_in}
 use Rattle.av_run.specs.Answer.{IsRunAnswer}
 use Rattle.av_run.specs.declared.runs.Outcome.{Outcome}
 use Rattle.av_program.specs.RunCommand.{HasRunInto, ran, refused, stopped}

@@ -3,7 +3,7 @@ use Rattle.std.proofs.lemmas.Result.{err_from_is_err_and}
 use Rattle.av_types.specs.declared.fault.Fault.TheVariants.{OutOfMemory}
 use Rattle.av_state.specs.BlockState.{BlockState}
 use Rattle.av_files.specs.FirstFault.{IsFilesFault, IsFilesFaultAfter}
-use Rattle.av_image.specs.Loading.{file_in}
+use Rattle.av_image.specs.Views.{file_in}
 use Rattle.av_run.proofs.input.load_new_on.Goals as goal
 
 pub returns-in_err-world-clause-err : goal.returns-in_err-world-clause-err

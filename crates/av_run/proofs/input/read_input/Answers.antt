@@ -3,7 +3,7 @@ use Rattle.std.proofs.lemmas.Result.{err_from_is_err_and}
 use Rattle.av_types.specs.declared.fault.Fault.TheVariants.{OutOfMemory}
 use Rattle.av_rules.specs.Tables.{table_of}
 use Rattle.av_chunk.proofs.Found.{if_ok_then, if_err_then}
-use Rattle.av_image.specs.Loading.{file_in}
+use Rattle.av_image.specs.Views.{file_in}
 use Rattle.av_run.specs.Input.{IsInputFault}
 use Rattle.av_run.proofs.Inputs.{files_fault}
 use Rattle.av_run.proofs.input.read_input.Goals as goal

@@ -10,8 +10,7 @@ use Rattle.av_edits.specs.Numbered.{number_sets}
 use Rattle.av_world.specs.Lands.{land_of}
 use Rattle.av_serial.specs.Ready.{CanApply}
 use Rattle.av_files.specs.Run.{stated}
-use Rattle.av_image.specs.Loading.{file_in}
-use Rattle.av_image.specs.Views.{rest_in}
+use Rattle.av_image.specs.Views.{rest_in, file_in}
 use Rattle.av_run.specs.Written.{AreFilesOf}
 use Rattle.av_run.proofs.Inputs.{can_apply_all}
 use Rattle.av_run.proofs.Answered.{good_after, same_positions}

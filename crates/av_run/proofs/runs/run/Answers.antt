@@ -2,7 +2,7 @@ use Rattle.std.proofs.Common.{Err, map, rules}
 use Rattle.std.proofs.lemmas.Result.{err_from_is_err_and}
 use Rattle.av_files.specs.FirstFault.{AreCountsGood}
 use Rattle.av_files.specs.Headline.{input}
-use Rattle.av_image.specs.Loading.{file_in}
+use Rattle.av_image.specs.Views.{file_in}
 use Rattle.av_run.specs.Answer.{IsRunAnswer}
 use Rattle.av_run.proofs.Inputs.{can_run}
 use Rattle.av_run.proofs.Answered.{is_refusal, is_answer}

@@ -4,7 +4,7 @@ use Rattle.av_chunk.specs.declared.light.ChunkLight.{ChunkLight}
 use Rattle.av_chunk.proofs.Found.{if_err_then}
 use Rattle.av_world.specs.Views.{blocks, height_of, positions_of}
 use Rattle.av_section_light.specs.Light.{IsChunkLight}
-use Rattle.av_image.specs.Loading.{file_in}
+use Rattle.av_image.specs.Views.{file_in}
 use Rattle.av_run.proofs.Lit.{can_be_saved, is_written, is_not_written}
 use Rattle.av_run.proofs.writing.written.Goals as goal
 
