@@ -41,7 +41,7 @@ use Rattle.av_world.specs.Inserted.{IsNewChunk}
 use Rattle.av_world.specs.declared.worlds.World.{World}
 use Rattle.av_ticks.specs.Order.{inserted, ordered}
 use Rattle.av_files.specs.Files.{File, in_order, regions_rise, region_after, share_a_region}
-use Rattle.av_region.specs.Regions.{region_order, same_region}
+use Rattle.av_sink.specs.Regions.{region_order, same_region}
 use Rattle.av_files.specs.FirstFault.{AllInLimits}
 use Rattle.av_files.specs.Laws.{StampsFit}
 use Rattle.av_sink.specs.declared.files.RegionFile.{RegionFile}

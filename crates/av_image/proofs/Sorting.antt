@@ -17,7 +17,7 @@ use Rattle.av_chunk.specs.declared.chunk.Chunk.{Chunk}
 use Rattle.av_cells.specs.Positions.{same_chunk}
 use Rattle.av_world.proofs.Search.{lt_tells, eq_tells}
 use Rattle.av_files.specs.Files.{regions_rise, in_order}
-use Rattle.av_region.specs.Regions.{region_order}
+use Rattle.av_sink.specs.Regions.{region_order}
 use Rattle.av_sink.specs.declared.files.RegionFile.{RegionFile}
 use Rattle.av_image.specs.declared.splits.Placed.{Placed}
 use Rattle.av_image.specs.Splits.{chunk_found, HasAt, IsWorldOf}

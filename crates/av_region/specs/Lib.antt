@@ -1,3 +1,2 @@
 pub mod Region
 pub mod Layout
-pub mod Regions

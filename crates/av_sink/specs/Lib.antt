@@ -1,3 +1,4 @@
 pub mod Names
 pub mod Account
 pub mod Saving
+pub mod Regions
