@@ -1,11 +1,12 @@
 //! How a table finds its states.
-ghost use Rattle.std.specs.Prelude.{◌≡◌, ◌<◌, ◌++◌, ◌∷◌, [], length, map, Some, OnOk, OnErr, MatchResult, slice_get};
+ghost use Rattle.std.specs.Prelude.{◌≡◌, ◌<◌, ◌++◌, ◌∷◌, [], length, map, Some, OnOk, OnErr, IfSome, MatchResult, slice_get};
 ghost use Rattle.av_state.specs.States.{state_of};
 ghost use Rattle.av_state.specs.BlockState.{BlockState};
 ghost use Rattle.av_state.specs.StateList.{with_state, number_in};
 ghost use Rattle.av_state.specs.Order.{hash_of, fingerprint_of, texts_cmp};
 ghost use Rattle.av_state.specs.Index.{compared, IsIndex, IsPlaceOf};
 
+use crate::hints::Hints;
 use crate::state::State;
 use std::alloc::{AllocError, Global};
 use std::cmp::Ordering;
@@ -47,14 +48,15 @@ pub(crate) fn fingerprint<T: Hash>(texts: &T) -> u64
 
 /// The numbers of states in the order of their fingerprints, and of their texts where these are equal.
 ///
-/// A look-up halves the numbers, so no names that a file brings make it long. It is fast since nearly each of its
-/// steps compares two integers: only states of one fingerprint have their texts read.
+/// A look-up halves the numbers, so no names that a file brings make it long. It is fast since a hint nearly always
+/// tells the number at once, and since only states of one fingerprint have their texts read.
 #[derive(Drop)]
 pub(crate) struct Index {
     /// The fingerprints by number.
     pub(crate) fingerprints: Vec<u64>,
     /// All numbers, by rising states.
     pub(crate) order: Vec<u16>,
+    hints: Hints,
 }
 
 impl Index {
@@ -65,6 +67,7 @@ impl Index {
         Index {
             fingerprints: Vec::new(alloc),
             order: Vec::new(alloc),
+            hints: Hints::new(alloc),
         }
     }
 
@@ -74,12 +77,27 @@ impl Index {
         ensures { MatchResult result (λ n. slice_get (map state_of states.now) n ≡ Some (T.sought sought.now)) (IsPlaceOf (map state_of states.now) (T.sought sought.now) self.now.order.items) }
     {
         let fingerprint = sought.fingerprint();
+        if let Some(number) = self.hinted(states, fingerprint, sought) {
+            return Ok(number);
+        }
         let found = self.order.as_slice().binary_search_by(|number| {
             self.stands(states, *number, fingerprint, sought)
         });
         match found {
             Ok(place) => Ok(self.order[place]),
             Err(place) => Err(place),
+        }
+    }
+
+    /// The number of a state, where the hint of its fingerprint is right.
+    fn hinted<T: Sought>(&self, states: &[State], fingerprint: u64, sought: &T) -> Option<u16>
+        ensures { IfSome result (λ n. slice_get (map state_of states.now) n ≡ Some (T.sought sought.now)) }
+    {
+        match self.hints.get(fingerprint) {
+            Some(number) if self.stands(states, number, fingerprint, sought).is_eq() => Some(
+                number,
+            ),
+            _ => None,
         }
     }
 
@@ -121,10 +139,14 @@ impl Index {
         ensures ok { OnOk result (map state_of states.new.items ≡ map state_of states.old.items ++ state_of state ∷ []) }
         ensures unchanged { OnErr result (map state_of states.new.items ≡ map state_of states.old.items) }
     {
+        let number = states.len() as u16;
+        let fingerprint = state.fingerprint();
         states.reserve(1)?;
         self.fingerprints.reserve(1)?;
-        self.order.insert(place, states.len() as u16)?;
-        self.fingerprints.push_reserved(state.fingerprint());
+        self.hints.reserve(self.fingerprints.as_slice())?;
+        self.order.insert(place, number)?;
+        self.hints.set(fingerprint, number);
+        self.fingerprints.push_reserved(fingerprint);
         states.push_reserved(state);
         Ok(())
     }

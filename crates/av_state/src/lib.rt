@@ -1,6 +1,7 @@
 //! Block states and their numbers.
 #![tactic(auto)]
 
+mod hints;
 mod index;
 pub mod state;
 pub mod table;
