@@ -1,5 +1,5 @@
 -- The order of states is total and tells all states apart.
-use Rattle.std.proofs.Common.{◌≡◌, ℕ, zero, suc, ◌<◌, ◌≤◌, List, [], ◌∷◌, map, length, drop, Option, Some, None, slice_get, refl, ap, ◌∙◌, sym, arith}
+use Rattle.std.proofs.Common.{◌≡◌, ℕ, zero, suc, ◌<◌, ◌≤◌, List, [], ◌∷◌, map, length, drop, refl, ap, ◌∙◌, sym, arith}
 use Rattle.std.specs.Cmp.{IsTotalOrder}
 use Rattle.std.specs.Cmp.Lexicographic.{slice_cmp}
 use Rattle.std.specs.Ordering.{MatchOrdering, nat_cmp, ordering_then}
@@ -10,7 +10,6 @@ use Rattle.std.proofs.lemmas.Map.Lookups.{exact_bytes}
 use Rattle.av_state.specs.BlockState.{Property, BlockState}
 use Rattle.av_state.specs.declared.state.Property.{Property as PropertyValue}
 use Rattle.av_state.specs.declared.text.PropertyText.{PropertyText}
-use Rattle.av_state.specs.Index.{matched, compared}
 use Rattle.av_state.specs.Hashing.{properties_texts, all_told_texts}
 use Rattle.av_state.specs.Views.{properties_of}
 use Rattle.av_state.specs.Texts.{properties_told}
@@ -45,25 +44,14 @@ same_properties (p ∷ ps) (q ∷ qs) e =
     let k = both_equal (property_cmp p q) (slice_cmp property_cmp ps qs) e in
     ap (λ t. t ∷ ps) (same_property p q k.0) ∙ ap (λ ts. q ∷ ts) (same_properties ps qs k.1)
 
--- states whose texts stand as equal are the same
-same_texts : (s t : BlockState) → texts_cmp s t ≡ Equal → s ≡ t
-same_texts s t e =
-    let k = both_equal (slice_cmp nat_cmp s.name t.name) (slice_cmp property_cmp s.properties t.properties) e in
+-- states that stand as equal are the same
+pub same_state : (s t : BlockState) → state_cmp s t ≡ Equal → s ≡ t
+same_state s t e =
+    let texts = (both_equal (nat_cmp (fingerprint_of s) (fingerprint_of t)) (texts_cmp s t) e).1 in
+    let k = both_equal (slice_cmp nat_cmp s.name t.name) (slice_cmp property_cmp s.properties t.properties) texts in
     let f : s.name ≡ t.name = exact_bytes s.name t.name k.0 in
     let g : s.properties ≡ t.properties = same_properties s.properties t.properties k.1 in
     λ i. record { name = f i; properties = g i }
-
-pub same_state : (s t : BlockState) → state_cmp s t ≡ Equal → s ≡ t
-same_state s t e = same_texts s t (both_equal (nat_cmp (fingerprint_of s) (fingerprint_of t)) (texts_cmp s t) e).1
-
-matched-same : (o : Option ℕ) (p : Option BlockState) (f : ℕ) (s : BlockState) → matched o p f s ≡ Equal → p ≡ Some s
-matched-same None p f s e = absurd cc
-matched-same (Some g) None f s e = absurd cc
-matched-same (Some g) (Some t) f s e = ap Some (same_texts t s (both_equal (nat_cmp g f) (texts_cmp t s) e).1)
-
--- a number that stands as equal is the state's
-pub compared-same : (prints : List ℕ) (states : List BlockState) (f : ℕ) (s : BlockState) (n : ℕ) → compared prints states f s n ≡ Equal → slice_get states n ≡ Some s
-compared-same prints states f s n e = matched-same (slice_get prints n) (slice_get states n) f s e
 
 -- a comparison of values is one of what they stand for
 pub slice_cmp-views : {A B C : Type 0} (R : C → C → Ordering) (f : A → C) (g : B → C) (xs : List A) (ys : List B) → slice_cmp (λ x y. R (f x) (g y)) xs ys ≡ slice_cmp R (map f xs) (map g ys)

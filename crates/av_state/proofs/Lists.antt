@@ -1,8 +1,15 @@
--- Lists: the first place that passes, clones.
-use Rattle.std.proofs.Common.{◌≡◌, ℕ, suc, ◌+◌, List, [], ◌∷◌, map, Bool, true, false, Option, Some, None, option_map, cond, refl, ap, ◌∙◌, sym, arith}
+-- Lists: equal places, the first place that passes, clones.
+use Rattle.std.proofs.Common.{◌≡◌, ℕ, suc, ◌+◌, List, [], ◌∷◌, map, Bool, true, false, ◌&&◌, Option, Some, None, option_map, cond, refl, ap, ◌∙◌, sym, arith}
 use Rattle.std.specs.List.{position, position_from, list_any, AllZip}
 use Rattle.std.proofs.lemmas.Iterator.Adapters.{position_from-zero}
+use Rattle.std.specs.Cmp.Lexicographic.{pointwise}
 use Rattle.av_state.specs.BlockState.{index_where}
+
+pub pointwise-map : {A B : Type 0} (E : B → B → Bool) (f : A → B) (xs ys : List A) → pointwise E (map f xs) (map f ys) ≡ pointwise (λ x y. E (f x) (f y)) xs ys
+pointwise-map E f [] [] = refl
+pointwise-map E f [] (y ∷ ys) = refl
+pointwise-map E f (x ∷ xs) [] = refl
+pointwise-map E f (x ∷ xs) (y ∷ ys) = ap (λ b. E (f x) (f y) && b) (pointwise-map E f xs ys)
 
 shifted : (i : ℕ) (o : Option ℕ) → option_map (λ k. i + k) (option_map suc o) ≡ option_map (λ k. (i + 1) + k) o
 shifted i None = refl

@@ -2,7 +2,7 @@
 ghost use Rattle.std.specs.Prelude.{◌≡◌, ◌<◌, ◌++◌, ◌∷◌, [], length, map, Some, OnOk, OnErr, IfSome, MatchResult, slice_get};
 ghost use Rattle.av_state.specs.States.{state_of};
 ghost use Rattle.av_state.specs.BlockState.{BlockState};
-ghost use Rattle.av_state.specs.StateList.{with_state, number_in};
+ghost use Rattle.av_state.specs.StateList.{same_state, with_state};
 ghost use Rattle.av_state.specs.Order.{hash_of, fingerprint_of, texts_cmp};
 ghost use Rattle.av_state.specs.Index.{compared, IsIndex, IsPlaceOf};
 
@@ -20,6 +20,10 @@ pub(crate) trait Sought {
     fn fingerprint(&self) -> u64
         ensures { result ≡ fingerprint_of (sought self.now) };
 
+    /// Whether a stored state is it. This is faster than to see that neither is below the other.
+    fn is(&self, stored: &State) -> bool
+        ensures { result ≡ same_state (sought self.now) (state_of stored.now) };
+
     /// How a stored state stands to it, by their texts.
     fn order_of(&self, stored: &State) -> Ordering
         ensures { result ≡ texts_cmp (state_of stored.now) (sought self.now) };
@@ -30,6 +34,10 @@ impl Sought for State {
 
     fn fingerprint(&self) -> u64 {
         fingerprint(self)
+    }
+
+    fn is(&self, stored: &State) -> bool {
+        self == stored
     }
 
     fn order_of(&self, stored: &State) -> Ordering {
@@ -93,10 +101,9 @@ impl Index {
     fn hinted<T: Sought>(&self, states: &[State], fingerprint: u64, sought: &T) -> Option<u16>
         ensures { IfSome result (λ n. slice_get (map state_of states.now) n ≡ Some (T.sought sought.now)) }
     {
-        match self.hints.get(fingerprint) {
-            Some(number) if self.stands(states, number, fingerprint, sought).is_eq() => Some(
-                number,
-            ),
+        let number = self.hints.get(fingerprint)?;
+        match states.get(number as usize) {
+            Some(state) if sought.is(state) => Some(number),
             _ => None,
         }
     }

@@ -1,9 +1,10 @@
 //! Names and properties whose texts stand elsewhere, as in a file's tags: a table is asked by them without a copy.
 ghost use Rattle.std.specs.Prelude.{◌≡◌, IfSome, option_map, length, true};
 ghost use Rattle.std.specs.List.{list_all};
-ghost use Rattle.std.specs.Cmp.Lexicographic.{slice_cmp};
+ghost use Rattle.std.specs.Cmp.Lexicographic.{pointwise, slice_cmp};
 ghost use Rattle.av_state.specs.BlockState.{is_short_property, starts_above, keys_rise, is_storable, value_of, level_of};
 ghost use Rattle.av_state.specs.Order.{property_cmp};
+ghost use Rattle.av_state.specs.StateList.{same_property};
 ghost use Rattle.av_state.specs.Texts.{property_told, properties_told, state_told};
 ghost use Rattle.av_state.specs.Views.{property_of, properties_of};
 
@@ -57,6 +58,28 @@ impl Hash for StateText<'_> {
     }
 }
 
+/// Whether the texts are those of a property.
+fn tells(text: PropertyText<'_>, property: &Property) -> bool
+    ensures { result ≡ same_property (property_told text.entry) (property_of property.now) }
+{
+    text.key == property.key.as_slice() && text.value == property.value.as_slice()
+}
+
+/// Whether the texts are those of properties, one by one.
+fn all_tell(texts: &[PropertyText<'_>], properties: &[Property]) -> bool
+    ensures { result ≡ pointwise same_property (properties_told texts.now) (properties_of properties.now) }
+{
+    if texts.len() != properties.len() {
+        return false;
+    }
+    for index in 0..texts.len() {
+        if !tells(texts[index], &properties[index]) {
+            return false;
+        }
+    }
+    true
+}
+
 /// How a property stands to one whose texts stand elsewhere.
 fn order_of_property(stored: &Property, sought: PropertyText<'_>) -> Ordering
     ensures { result ≡ property_cmp (property_of stored.now) (property_told sought.entry) }
@@ -88,6 +111,11 @@ impl Sought for StateText<'_> {
 
     fn fingerprint(&self) -> u64 {
         fingerprint(self)
+    }
+
+    fn is(&self, stored: &State) -> bool {
+        self.name == stored.name.as_slice()
+            && all_tell(self.properties, stored.properties.as_slice())
     }
 
     fn order_of(&self, stored: &State) -> Ordering {
