@@ -15,8 +15,6 @@ use std::sync::Wait;
 use std::thread::Threads;
 use std::time::Instant;
 
-const MOST_TICKS: u32 = 1_000_000;
-
 /// What a file of the region (0, 0), a block table and edits say.
 fn read(
     alloc: Global,
@@ -27,9 +25,6 @@ fn read(
 ) -> Result<Input, Fault>
     ensures { IfOk result (CanRun ticks) }
 {
-    if ticks > MOST_TICKS {
-        return Err(Fault::BadCount);
-    }
     let pos = RegionPos { x: 0, z: 0 };
     let mut files = Vec::new(alloc);
     files.push(RegionFile { pos, bytes })?;

@@ -3,13 +3,13 @@ ghost use Rattle.std.specs.Prelude.{IfOk};
 ghost use Rattle.av_world_tests.specs.Flat.{IsPlain};
 
 use crate::crews::{contents, crew_ran, flat_crew_ran};
-use crate::gates::{Counting, Holding, Meeting, Watching};
+use crate::gates::{Counting, Holding, Meeting, Untold, Watching};
 use av_crew::{Gate, NoGate};
 use av_serial_tests::runs::{edits_and_kinds, world_of};
 use av_types::{ChunkPos, Entry, Fault, Pos};
 use av_world::World;
 use av_world_tests::reads::entries_in;
-use std::alloc::Global;
+use std::alloc::{AllocError, Global};
 use std::process::Abort;
 use std::sync::Wait;
 use std::test::Fail;
@@ -88,28 +88,30 @@ fn entries_go_by_their_makers(rt: HostRuntime) -> Result<(), Fail> {
     Ok(())
 }
 
-/// A source at z 8 that waits for tick 1.
-fn waiting(x: i32) -> Entry {
-    Entry {
-        pos: Pos { x, y: 64, z: 8 },
-        due: 1,
-        priority: 0,
-    }
-}
-
-/// The row of chunks with sources that wait for tick 1, at each x of some ranges.
-fn rows_of(alloc: Global, ranges: &[(i32, i32)]) -> Result<World, Fault>
-    ensures { IfOk result IsPlain }
-{
-    let mut sources = Vec::new(alloc);
+/// Sources that wait for tick 1, at this z and at each x of some ranges.
+fn waiting(alloc: Global, ranges: &[(i32, i32)], z: i32) -> Result<Vec<Entry>, AllocError> {
     let mut entries = Vec::new(alloc);
     for (from, to) in ranges {
         for x in *from..*to {
-            sources.push(waiting(x).pos)?;
-            entries.push(waiting(x))?;
+            entries.push(Entry {
+                pos: Pos { x, y: 64, z },
+                due: 1,
+                priority: 0,
+            })?;
         }
     }
-    world_of(alloc, &ROW, sources.as_slice(), entries.as_slice())
+    Ok(entries)
+}
+
+/// The row of chunks with a source at each of these entries.
+fn with_sources(alloc: Global, entries: &[Entry]) -> Result<World, Fault>
+    ensures { IfOk result IsPlain }
+{
+    let mut sources = Vec::new(alloc);
+    for entry in entries {
+        sources.push(entry.pos)?;
+    }
+    world_of(alloc, &ROW, sources.as_slice(), entries)
 }
 
 /// How many of some numbers are those of water.
@@ -141,7 +143,8 @@ fn told<R: Threads + Wait + Sync + Abort>(
     row: RowTick<'_>,
 ) -> Result<u64, Fault> {
     let gate = Counting::of(watching);
-    let world = rows_of(alloc, row.ranges)?;
+    let entries = waiting(alloc, row.ranges, 8)?;
+    let world = with_sources(alloc, entries.as_slice())?;
     let (_, kinds) = edits_and_kinds(alloc, 1, &world, "", 0)?;
     let after = crew_ran(rt, alloc, world, &kinds, &[], 1, row.workers, &gate)?;
     assert_eq!(rt; after.count, row.count);
@@ -231,10 +234,57 @@ fn another_gate_is_told_of_parts_of_many_entries(rt: HostRuntime) -> Result<(), 
     Ok(())
 }
 
+/// The columns of x of four squares, one in the middle of each chunk of the row. No part of one meets another one's.
+const SQUARES: [(i32, i32); 4] = [(7, 10), (23, 26), (39, 42), (55, 58)];
+
+/// One tick of four squares of three by three sources, at z 7 to 9: thirty-six entries, in four parts of nine. Water comes
+/// to the three blocks along each side of a square, so that it is twenty-one blocks then.
+fn turn_squares<R: Threads + Wait + Sync + Abort, G: Gate + Sync>(
+    rt: &R,
+    alloc: Global,
+    workers: u32,
+    gate: &G,
+) -> Result<(), Fault> {
+    let mut entries = Vec::new(alloc);
+    for z in 7..10 {
+        entries.append(&mut waiting(alloc, &SQUARES, z)?)?;
+    }
+    let world = with_sources(alloc, entries.as_slice())?;
+    let (_, kinds) = edits_and_kinds(alloc, 1, &world, "", 0)?;
+    let after = crew_ran(rt, alloc, world, &kinds, &[], 1, workers, gate)?;
+    assert_eq!(rt; after.count, 36);
+    let (numbers, _) = contents(alloc, &after.world)?;
+    assert_eq!(rt; wet_of(numbers.as_slice()), 84);
+    Ok(())
+}
+
+/// Four workers have four jobs at once, also for a gate that doesn't watch.
+#[test]
+fn four_jobs_meet_unwatched(rt: HostRuntime) -> Result<(), Fail> {
+    let gate = Untold::of(Meeting::of(4));
+    turn_squares(&rt, rt.alloc(), 4, &gate)?;
+    assert_eq!(rt; gate.told().counts(), (4, 0));
+    Ok(())
+}
+
+/// While one worker is held at any of four jobs, the others do the three others, also for a gate that doesn't watch.
+#[test]
+fn three_jobs_are_done_unwatched(rt: HostRuntime) -> Result<(), Fail> {
+    for job in 0..4 {
+        for workers in [2, 4] {
+            let gate = Untold::of(Holding::of(job, 3));
+            turn_squares(&rt, rt.alloc(), workers, &gate)?;
+            assert_eq!(rt; gate.told().counts(), (3, 0), "job {job} of {workers} workers");
+        }
+    }
+    Ok(())
+}
+
 /// A gate watches if it does not say otherwise, and the one that does nothing does not.
 #[test]
 fn a_gate_watches_if_it_says_no_other(rt: HostRuntime) -> Result<(), Fail> {
     assert!(rt; Meeting::of(1).watches());
     assert!(rt; !NoGate.watches());
+    assert!(rt; !Untold::of(Meeting::of(1)).watches());
     Ok(())
 }

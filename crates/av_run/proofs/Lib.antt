@@ -1,5 +1,6 @@
 pub mod Edited
 pub mod Lit
 pub mod Inputs
+pub mod InputAnswers
 pub mod Answered
 pub mod Crossings

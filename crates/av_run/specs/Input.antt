@@ -1,8 +1,9 @@
 -- What a run begins with: its world, the rest, the kinds of states, and its edits.
-use Rattle.std.specs.Prelude.{◌≡◌, ℕ, ◌≤◌, List, map, false}
+use Rattle.std.specs.Prelude.{◌≡◌, ◌≢◌, ◌↔◌, ℕ, ◌≤◌, List, map, false, Result, Err, IfOk, IfErr, OnOk}
 use Rattle.std.specs.List.{AllByRecursion}
 use Rattle.av_types.specs.declared.place.Height.{Height}
 use Rattle.av_types.specs.declared.fault.Fault.{Fault}
+use Rattle.av_types.specs.declared.fault.Fault.TheVariants.{OutOfMemory, BadCount}
 use Rattle.av_state.specs.BlockState.{BlockState}
 use Rattle.av_state.specs.Table.{states}
 use Rattle.av_rules.specs.Rows.{BlockTable, row_of, wet_in}
@@ -49,6 +50,17 @@ pub record IsInput (files : List File) (table edits : List ℕ) (n : ℕ) (i : I
 -- the first fault of an input, where its counts are good
 abbrev pub IsInputFault : List File → List ℕ → List ℕ → ℕ → Fault → Type 0
 IsInputFault files table edits n e = (k : ℕ) → AreCountsGood files n k → IsFirstFault files table edits n k e
+
+-- no more ticks and files than a run may have: with one worker, its counts are good
+abbrev pub AreFew : List File → ℕ → Type 0
+AreFew files n = AreCountsGood files n 1
+
+-- `BadCount`, and nothing else, exactly where there are more; else what a run begins with, or its first fault, or want of memory
+pub record IsInputAnswer (files : List File) (table edits : List ℕ) (n : ℕ) (answer : Result Input Fault) : Type 0 where
+  pub counts : (answer ≡ Err BadCount) ↔ (¬ AreFew files n)
+  pub few : OnOk answer (AreFew files n)
+  pub ok : IfOk answer (IsInput files table edits n)
+  pub err : IfErr answer (λ e. e ≢ OutOfMemory → IsInputFault files table edits n e)
 
 -- what ticks and writing ask of it
 pub record CanRun (n : ℕ) (i : Input) : Type 0 where

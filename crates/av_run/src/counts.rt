@@ -2,6 +2,7 @@
 ghost use Rattle.std.specs.Prelude.{IsTrue, ◌↔◌, map};
 ghost use Rattle.av_files.specs.FirstFault.{AreCountsGood};
 ghost use Rattle.av_image.specs.Views.{file_in};
+ghost use Rattle.av_run.specs.Input.{AreFew};
 
 use av_sink::RegionFile;
 
@@ -16,4 +17,11 @@ pub fn are_counts_good(files: &[RegionFile], ticks: u32, workers: u32) -> bool
     ensures { IsTrue result ↔ AreCountsGood (map file_in files.now) ticks workers }
 {
     1 <= workers && workers <= MOST_WORKERS && ticks <= MOST_TICKS && files.len() <= MOST_FILES
+}
+
+/// Whether there are at most 1,000,000 ticks and at most 1,024 files.
+pub fn are_few(files: &[RegionFile], ticks: u32) -> bool
+    ensures { IsTrue result ↔ AreFew (map file_in files.now) ticks }
+{
+    are_counts_good(files, ticks, 1)
 }

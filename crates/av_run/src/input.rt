@@ -11,8 +11,9 @@ ghost use Rattle.av_files.specs.Files.{File};
 ghost use Rattle.av_files.specs.FirstFault.{IsTable, IsBadTable, IsFilesFault};
 ghost use Rattle.av_files.specs.Layers.{AreEdits};
 ghost use Rattle.av_image.specs.Views.{file_in};
-ghost use Rattle.av_run.specs.Input.{IsLoadedFrom, IsInput, IsInputFault};
+ghost use Rattle.av_run.specs.Input.{IsLoadedFrom, IsInput, IsInputFault, IsInputAnswer};
 
+use crate::counts::are_few;
 use av_edits::Edit;
 use av_image::{Rest, load, load_on};
 use av_rules::{Kinds, Rules};
@@ -115,9 +116,8 @@ fn with_edits(
     })
 }
 
-/// What a run begins with, from its files, its block table and its edits, in this order. Want of memory aside, the fault
-/// is the first of an input whose counts are good.
-pub fn read_input(
+/// What a run of few ticks and files begins with.
+fn read_few(
     alloc: Global,
     files: Vec<RegionFile>,
     table: &[u8],
@@ -132,8 +132,8 @@ pub fn read_input(
     with_edits(alloc, loaded, &rules, edits, ticks)
 }
 
-/// What `read_input` answers, of the same. Several threads read the files.
-pub(crate) fn read_input_on(
+/// The same. Several threads read the files.
+fn read_few_on(
     rt: &(impl Threads + Sync),
     alloc: Global,
     files: Vec<RegionFile>,
@@ -147,4 +147,41 @@ pub(crate) fn read_input_on(
     let rules = read_rules(alloc, table)?;
     let loaded = load_new_on(rt, alloc, files, &rules)?;
     with_edits(alloc, loaded, &rules, edits, ticks)
+}
+
+/// What a run begins with, from its files, its block table and its edits, in this order.
+///
+/// # Errors
+/// `BadCount` where there are more than 1,000,000 ticks or 1,024 files, and then no other. Else the first of the faults of
+/// the table, the files and the edits, as `run` has them; `OutOfMemory` may stand in place of any.
+pub fn read_input(
+    alloc: Global,
+    files: Vec<RegionFile>,
+    table: &[u8],
+    edits: &[u8],
+    ticks: u32,
+) -> Result<Input, Fault>
+    ensures { IsInputAnswer (map file_in files.items) table.now edits.now ticks result }
+{
+    if !are_few(files.as_slice(), ticks) {
+        return Err(Fault::BadCount);
+    }
+    read_few(alloc, files, table, edits, ticks)
+}
+
+/// What `read_input` answers, of the same. Several threads read the files.
+pub(crate) fn read_input_on(
+    rt: &(impl Threads + Sync),
+    alloc: Global,
+    files: Vec<RegionFile>,
+    table: &[u8],
+    edits: &[u8],
+    ticks: u32,
+) -> Result<Input, Fault>
+    ensures { IsInputAnswer (map file_in files.items) table.now edits.now ticks result }
+{
+    if !are_few(files.as_slice(), ticks) {
+        return Err(Fault::BadCount);
+    }
+    read_few_on(rt, alloc, files, table, edits, ticks)
 }

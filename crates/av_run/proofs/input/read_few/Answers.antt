@@ -1,0 +1,26 @@
+use Rattle.std.proofs.Common.{◌≢◌, map}
+use Rattle.std.proofs.lemmas.Result.{err_from_is_err_and}
+use Rattle.av_types.specs.declared.fault.Fault.TheVariants.{OutOfMemory}
+use Rattle.av_rules.specs.Tables.{table_of}
+use Rattle.av_chunk.proofs.Found.{if_ok_then, if_err_then}
+use Rattle.av_image.specs.Views.{file_in}
+use Rattle.av_run.specs.Input.{IsInputFault}
+use Rattle.av_run.proofs.Inputs.{files_fault}
+use Rattle.av_run.proofs.input.read_few.Goals as goal
+
+pub returns-in_err-loaded-clause-err : goal.returns-in_err-loaded-clause-err
+returns-in_err-loaded-clause-err c =
+    let e = c.in_err-loaded.field-0.0 in
+    let files = map file_in c.args.files.items in
+    let r = c.in_ok-rules.rules in
+    let h : e ≢ OutOfMemory → IsInputFault files c.args.table.now c.args.edits.now c.args.ticks e =
+    λ other. files_fault files c.args.table.now c.args.edits.now c.args.ticks (table_of r) r.height e c.in_ok-rules.ensures.ok (c.in_err-loaded.ensures.err other) in
+    let p = err_from_is_err_and c.from_residual-in_err-loaded.result c.from_residual-in_err-loaded.ensures.1 in rw (p.1, p.2) h
+
+pub returns-clause-ok : goal.returns-clause-ok
+returns-clause-ok c =
+    if_ok_then c.with_edits.result c.with_edits.ensures.ok (λ i is. is (map file_in c.args.files.items) c.args.table.now c.in_ok-rules.ensures.ok c.in_ok-loaded.ensures.ok)
+
+pub returns-clause-err : goal.returns-clause-err
+returns-clause-err c =
+    if_err_then c.with_edits.result c.with_edits.ensures.err (λ e is other. is other (map file_in c.args.files.items) c.args.table.now c.in_ok-rules.ensures.ok c.in_ok-loaded.ensures.ok)
