@@ -274,7 +274,11 @@ fn three_jobs_are_done_unwatched(rt: HostRuntime) -> Result<(), Fail> {
         for workers in [2, 4] {
             let gate = Untold::of(Holding::of(job, 3));
             turn_squares(&rt, rt.alloc(), workers, &gate)?;
-            assert_eq!(rt; gate.told().counts(), (3, 0), "job {job} of {workers} workers");
+            assert_eq!(rt;
+                gate.told().counts(),
+                (3, 0),
+                "job {job} of {workers} workers"
+            );
         }
     }
     Ok(())
