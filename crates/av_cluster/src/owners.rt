@@ -15,13 +15,13 @@ use std::collections::BTreeMap;
 /// For how many sections room is made at once: about 100 KB.
 const LIKELY: usize = 4096;
 
-/// For how many entries there are slots at the most: 1 MB of them.
-const MOST_SLOTTED: usize = 32_768;
+/// For how many entries there are slots at the most: 2 MB of them.
+const MOST_SLOTTED: usize = 65_536;
 
 /// The first place that touched each section, in the order in which the sections were first touched.
 ///
-/// A slot leads to the first section that fell there, and a tree to the others. So most are found at once, and sections
-/// that a file chooses to share a slot cost a search among as many.
+/// A slot leads to the first section that fell there, and a tree to the others. So most are found at once, and one of many
+/// that a file chooses to share a slot by a search of the tree.
 #[derive(Drop)]
 pub(crate) struct Owners {
     entries: Vec<((i32, i32, i32), usize)>,
@@ -49,7 +49,7 @@ pub(crate) fn of_key(key: (i32, i32, i32)) -> SectionPos
     SectionPos { x, y, z }
 }
 
-/// The slot of a section, among so many. Sections that are near each other have each another one.
+/// The slot of a section, among so many. Sections near each other mostly have each another one.
 fn slot(count: usize, section: SectionPos) -> usize
     requires { 0 < count }
     ensures value { result ≡ slot_of count (key_of section) }
