@@ -23,21 +23,26 @@ worker_gives now kinds s w p i g =
 
 -- ---- seats that came back
 
+pub record IsBack (r : TableId) (n : ℕ) (js : List Job) (s : SeatShown Job) : Type 0 where
+  pub ring : s.ring ≡ r
+  pub seats : s.seats ≡ n
+  pub jobs : s.jobs ≡ js
+
 abbrev pub first : Part → SeatShown Job
 first p = p.0
 
 abbrev pub answers : Part → List Done
 answers p = p.1.items
 
-each_back : (k : ℕ → Kind) (now : ℕ) (ring : RingShown Job) (ss : List (SeatShown Job)) (ps : List Part) → AllByRecursion (IsSeatOf ring) ss → AllZip (WorkedPart k now) ss ps → AllByRecursion (IsSeatOf ring) (map first ps)
-each_back k now ring [] [] h z = tt
-each_back k now ring [] (p ∷ ps) h z = absurd z
-each_back k now ring (s ∷ ss) [] h z = absurd z
-each_back k now ring (s ∷ ss) (p ∷ ps) h z =
-    (record { ring = z.0.ring ∙ h.0.ring; seats = z.0.seats ∙ h.0.seats; jobs = z.0.jobs ∙ h.0.jobs }, each_back k now ring ss ps h.1 z.1)
+each_back : (k : ℕ → Kind) (now : ℕ) (r : TableId) (n : ℕ) (js : List Job) (ss : List (SeatShown Job)) (ps : List Part) → AllByRecursion (λ s. s ≡ seat_shown r n js [] false) ss → AllZip (WorkedPart k now) ss ps → AllByRecursion (IsBack r n js) (map first ps)
+each_back k now r n js [] [] h z = tt
+each_back k now r n js [] (p ∷ ps) h z = absurd z
+each_back k now r n js (s ∷ ss) [] h z = absurd z
+each_back k now r n js (s ∷ ss) (p ∷ ps) h z =
+    (record { ring = z.0.ring ∙ ap (λ s. s.ring) h.0; seats = z.0.seats ∙ ap (λ s. s.seats) h.0; jobs = z.0.jobs ∙ ap (λ s. s.jobs) h.0 }, each_back k now r n js ss ps h.1 z.1)
 
-pub all_back : (k : ℕ → Kind) (now : ℕ) (ring : RingShown Job) (ss : List (SeatShown Job)) (ps : List Part) → All (IsSeatOf ring) ss → AllZip (WorkedPart k now) ss ps → All (IsSeatOf ring) (map first ps)
-all_back k now ring ss ps h z = All-from_recursion (IsSeatOf ring) (map first ps) (each_back k now ring ss ps (recursion_from_All (IsSeatOf ring) ss h) z)
+pub all_back : (k : ℕ → Kind) (now : ℕ) (r : TableId) (n : ℕ) (js : List Job) (ss : List (SeatShown Job)) (ps : List Part) → All (λ s. s ≡ seat_shown r n js [] false) ss → AllZip (WorkedPart k now) ss ps → All (IsBack r n js) (map first ps)
+all_back k now r n js ss ps h z = All-from_recursion (IsBack r n js) (map first ps) (each_back k now r n js ss ps (recursion_from_All (λ s. s ≡ seat_shown r n js [] false) ss h) z)
 
 pub back_count : (k : ℕ → Kind) (now : ℕ) (ss : List (SeatShown Job)) (ps : List Part) → AllZip (WorkedPart k now) ss ps → length (map first ps) ≡ length ss
 back_count k now [] [] z = refl
@@ -51,11 +56,14 @@ all_answered k now [] (p ∷ ps) z = absurd z
 all_answered k now (s ∷ ss) [] z = absurd z
 all_answered k now (s ∷ ss) (p ∷ ps) z = zip_append (IsDoneOf k now) p.0.taken (flat_map (λ s. s.taken) (map first ps)) p.1.items (flat_map answers ps) z.0.answered (all_answered k now ss ps z.1)
 
-pub seats_new : (ring : RingShown Job) (n : ℕ) (js : List Job) (ss : List (SeatShown Job)) → All (λ s. s ≡ seat_shown ring.ring n js [] false) ss → All (IsNewSeat ring) ss
+pub seats_new : (ring : RingShown) (n : ℕ) (js : List Job) (ss : List (SeatShown Job)) → All (λ s. s ≡ seat_shown ring.ring n js [] false) ss → All (IsNewSeat ring) ss
 seats_new ring n js ss h = λ i d u. record { ring = ap (λ s. s.ring) (h i d u); none = ap (λ s. s.taken) (h i d u) }
 
 pub seats_able : (kinds : Kinds) (r : TableId) (n : ℕ) (js : List Job) (ss : List (SeatShown Job)) → All (λ s. s ≡ seat_shown r n js [] false) ss → All (CanWork kinds) js → All (λ s. All (CanWork kinds) s.jobs) ss
 seats_able kinds r n js ss h able = λ i d u. subst (λ xs. All (CanWork kinds) xs) (sym (ap (λ s. s.jobs) (h i d u))) able
+
+pub seats_of : (ring : RingShown) (js : List Job) (ss : List (SeatShown Job)) → All (IsBack ring.ring ring.seats js) ss → length js ≡ ring.jobs → All (IsSeatOf ring) ss
+seats_of ring js ss h n = λ i d u. record { ring = (h i d u).ring; seats = (h i d u).seats; count = ap length (h i d u).jobs ∙ n }
 
 -- where no job is left, all are answered
 pub answers_all : (k : ℕ → Kind) (now : ℕ) (jobs : List Job) (ss : List (SeatShown Job)) (ps : List Part) (left : List Job) → AllZip (WorkedPart k now) ss ps → IsPermutation jobs (flat_map (λ s. s.taken) (map first ps) ++ left) → left ≡ [] → AnswersAll k now jobs (flat_map answers ps)

@@ -13,7 +13,7 @@ use Rattle.av_crew.specs.declared.workers.AnswersTaken.{AnswersTaken}
 use Rattle.av_crew.specs.Work.{IsDoneOf}
 
 -- a seat of the ring that has taken nothing
-pub record IsNewSeat (r : RingShown Job) (s : SeatShown Job) : Type 0 where
+pub record IsNewSeat (r : RingShown) (s : SeatShown Job) : Type 0 where
   pub ring : s.ring ≡ r.ring
   pub none : s.taken ≡ []
 

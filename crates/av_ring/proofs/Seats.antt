@@ -79,9 +79,9 @@ module _ {J : Type 0} where
       )
 
   -- new seats are their ring's
-  pub seats-of_ring : (r : RingShown J) (ss : List (SeatShown J)) → All (λ s. s ≡ seat_shown r.ring r.seats r.jobs [] false) ss → All (IsSeatOf r) ss
-  seats-of_ring r ss h = λ i d lt. let is = h i d lt in
-      record { ring = ap (λ s. s.ring) is; seats = ap (λ s. s.seats) is; jobs = ap (λ s. s.jobs) is }
+  pub seats-of_ring : (r : RingShown) (jobs : List J) (ss : List (SeatShown J)) → length jobs ≡ r.jobs → All (λ s. s ≡ seat_shown r.ring r.seats jobs [] false) ss → All (IsSeatOf r) ss
+  seats-of_ring r jobs ss n h = λ i d lt. let is = h i d lt in
+      record { ring = ap (λ s. s.ring) is; seats = ap (λ s. s.seats) is; count = ap (λ s. length s.jobs) is ∙ n }
 
   -- a job that a step took is one of those filled
   pub took_part : (v w : View J) (item : Option J) (x : J) → item ≡ Some x → Took v item w → IsPart v.told (v.taken ++ x ∷ [])

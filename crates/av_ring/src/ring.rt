@@ -1,5 +1,5 @@
 //! The ring and its seats.
-ghost use Rattle.std.specs.Prelude.{◌≡◌, ◌≢◌, ◌+◌, ◌-◌, ◌<◌, ◌≤◌, ◌++◌, ◌||◌, [], ◌∷◌, ℕ, length, true, false, All, IfOk, IfErr, IfSome, IfNone, None, vec_len, vec_capacity};
+ghost use Rattle.std.specs.Prelude.{◌≡◌, ◌≢◌, ◌+◌, ◌-◌, ◌<◌, ◌≤◌, ◌++◌, ◌||◌, [], ◌∷◌, ℕ, length, true, false, All, IfOk, IfErr, IfSome, IfNone, None, vec_len, vec_capacity, List};
 ghost use Rattle.std.specs.List.{flat_map, list_any};
 ghost use Rattle.std.specs.List.Sorted.{IsPermutation};
 ghost use Rattle.crossbeam_queue.specs.Passes.{view as known, IsPassOf, ruled_capacity};
@@ -14,7 +14,6 @@ use av_types::Fault;
 use crossbeam_queue::{Pass, RuledArrayQueue};
 use std::alloc::Global;
 use std::marker::Model;
-use std::snapshot::Snapshot;
 use std::sync::Wait;
 
 type Queue<J> = RuledArrayQueue<Option<J>, View<J>, Law>;
@@ -23,18 +22,16 @@ type Queue<J> = RuledArrayQueue<Option<J>, View<J>, Law>;
 #[derive(Drop)]
 pub struct JobRing<J: Numbered> {
     queue: Queue<J>,
-    count: usize,
+    jobs: usize,
     seats: usize,
-    // has no bytes: the jobs that were filled, for clauses
-    filled: Snapshot<Vec<J>>,
 }
 
 impl<J: Numbered> Model for JobRing<J> {
-    ghost Value = { RingShown J };
+    ghost Value = { RingShown };
 
-    ghost view = { λ r. ring_shown r.queue.table.shared.table_id r.filled.value.items r.seats };
+    ghost view = { λ r. ring_shown r.queue.table.shared.table_id r.jobs r.seats };
 
-    ghost invariant = { λ r. (0 < r.seats) × (r.count ≡ length r.filled.value.items) };
+    ghost invariant = { λ r. 0 < r.seats };
 }
 
 /// The right of one worker to take jobs of one ring. In proofs it knows which jobs were filled and which were taken here.
@@ -66,7 +63,7 @@ impl<J: Numbered + Drop + Send> JobRing<J> {
     ) -> Result<(JobRing<J>, Vec<Seat<J>>), (Fault, Vec<J>)>
         requires seats { (0 < seats) × (seats ≤ 8) }
         requires numbers { HaveDistinctNumbers J.number_of jobs.items }
-        ensures ring { IfOk result (λ r. (r.0.jobs ≡ jobs.items) × (r.0.seats ≡ seats)) }
+        ensures ring { IfOk result (λ r. (r.0.jobs ≡ vec_len jobs) × (r.0.seats ≡ seats)) }
         ensures seats { IfOk result (λ r. (vec_len r.1 ≡ seats) × All (λ s. s ≡ seat_shown r.0.ring seats jobs.items [] false) r.1.items) }
         ensures of_ring { IfOk result (λ r. All (IsSeatOf r.0) r.1.items) }
         ensures err { IfErr result (λ e. (e.0 ≡ OutOfMemory) × (e.1.items ≡ jobs.items)) }
@@ -81,15 +78,13 @@ impl<J: Numbered + Drop + Send> JobRing<J> {
         let Ok((queue, mut pass)) = Queue::ruled(alloc, room) else {
             return Err((Fault::OutOfMemory, jobs));
         };
-        let filled = Snapshot::of(&jobs);
         put_jobs(rt, &queue, &mut pass, jobs);
         put_ends(rt, &queue, &mut pass, seats);
         let handed = hand_out(&queue, pass, seats, handed);
         let ring = JobRing {
             queue,
-            count,
+            jobs: count,
             seats,
-            filled,
         };
         Ok((ring, handed))
     }
@@ -107,11 +102,11 @@ impl<J: Numbered + Drop + Send> JobRing<J> {
     ) -> Result<Vec<J>, (Fault, JobRing<J>, Vec<Seat<J>>)>
         requires all { vec_len seats ≡ self.seats }
         requires seats { All (IsSeatOf self) seats.items }
-        ensures whole { IfOk result (λ left. IsPermutation self.jobs (flat_map (λ s. s.taken) seats.items ++ left.items)) }
+        ensures whole { IfOk result (λ left. (jobs : List J) → All (λ s. s.jobs ≡ jobs) seats.items → IsPermutation jobs (flat_map (λ s. s.taken) seats.items ++ left.items)) }
         ensures dry { IfOk result (λ left. list_any (λ s. s.dry) seats.items ≡ true → left.items ≡ []) }
         ensures err { IfErr result (λ e. (e.0 ≡ OutOfMemory) × (e.1 ≡ self) × (e.2 ≡ seats)) }
     {
-        let Ok(left) = Vec::with_capacity(alloc, self.count) else {
+        let Ok(left) = Vec::with_capacity(alloc, self.jobs) else {
             return Err((Fault::OutOfMemory, self, seats));
         };
         let Some(first) = seats.pop() else {
@@ -119,9 +114,8 @@ impl<J: Numbered + Drop + Send> JobRing<J> {
         };
         let JobRing {
             queue,
-            count: _,
+            jobs: _,
             seats: _,
-            filled: _,
         } = self;
         let Seat { mut pass, dry: _ } = first;
         take_back(&queue, &mut pass, seats);

@@ -17,11 +17,11 @@ take_back-requires-clause-seats g c κs within =
     λ k d lt. (both.0 k d lt).ring ∙ sym (ap (λ r. r.ring) c.self.view_is)
 
 pub returns-clause-whole : goal.returns-clause-whole
-returns-clause-whole g c =
-    let both = All-pop (IsSeatOf c.args.self) c.args.seats.items c.pop.new.self.items (Some c.in-Some.first) c.in-Some.ensures.items c.requires.seats in
-    let told = c.take_back.ensures.told.0 ∙ ap (λ s. s.jobs) c.first.view_is ∙ both.1.jobs in
+returns-clause-whole g c = λ jobs same.
+    let both = All-pop (λ s. s.jobs ≡ jobs) c.args.seats.items c.pop.new.self.items (Some c.in-Some.first) c.in-Some.ensures.items same in
+    let told = c.take_back.ensures.told.0 ∙ ap (λ s. s.jobs) c.first.view_is ∙ both.1 in
     let taken = c.take_back.ensures.taken ∙ ap (λ s. s.taken ++ flat_map (λ r. r.taken) c.pop.new.self.items) c.first.view_is in
-    all-taken c.args.self.jobs c.drain.result.items c.args.seats.items c.pop.new.self.items c.in-Some.first c.in-Some.ensures.items (rw (told, taken) at c.drain.ensures.whole)
+    all-taken jobs c.drain.result.items c.args.seats.items c.pop.new.self.items c.in-Some.first c.in-Some.ensures.items (rw (told, taken) at c.drain.ensures.whole)
 
 pub returns-clause-dry : goal.returns-clause-dry
 returns-clause-dry g c = λ some.
