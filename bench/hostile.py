@@ -52,7 +52,7 @@ def cases():
         lambda chosen=chosen: files.entries_in_chunks([at for x in range(16) for at in chosen(files.blocks_of(x, 0))], in_turn)
         for chosen in (lambda keys: files.spread(keys, 5_000), lambda keys: files.crowded(keys, 5_000, BUCKETS)))
     yield "6,000 sections of a plan", run(1, 4), *(
-        lambda chosen=chosen: files.entries_in_sections(chosen(files.sections_of(32)))
+        lambda chosen=chosen: files.entries_in_sections(chosen(files.sections_of(32)), 32)
         for chosen in (lambda keys: files.spread(keys, 6_000), lambda keys: files.crowded(keys, 6_000, BUCKETS)))
 
 

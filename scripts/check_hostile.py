@@ -58,10 +58,9 @@ def of_positions(ask):
 def of_sections(ask):
     """All entries are due at once, and are put into parts by their sections."""
     sections = files.crowded(files.sections_of(8), 400, 1 << 9)
-    chunks = len({(x, z) for x, _, z in sections})
     for workers in (1, 4):
-        run = ask(files.entries_in_sections(sections), 1, workers)
-        yield "400 sections in few buckets", "chunks %d turns 400" % chunks, run.line
+        run = ask(files.entries_in_sections(sections, 8), 1, workers)
+        yield "400 sections in few buckets", "chunks 64 turns 400", run.line
         yield "none is left", [], [entry for at in run.chunks for entry in entries_of(run, at)]
 
 

@@ -162,14 +162,15 @@ def names_by_chunks(names, in_one):
     return region(payloads)
 
 
-def entries_in_chunks(positions, due):
-    """Chunks of air with an entry at each position, due in turn in some ticks."""
-    by_chunk = {}
+def entries_in_chunks(positions, due, chunks=()):
+    """Chunks of air, these at least, with an entry at each position, due in turn in some ticks."""
+    by_chunk = {at: [] for at in chunks}
     for number, (x, y, z) in enumerate(positions):
         by_chunk.setdefault((x >> 4, z >> 4), []).append(entry(x, y, z, due(number)))
     return region({at: chunk(*at, [], entries) for at, entries in by_chunk.items()})
 
 
-def entries_in_sections(sections):
-    """Chunks of air with an entry in the middle of each section, all due in the first tick."""
-    return entries_in_chunks([(16 * x + 8, 16 * y + 8, 16 * z + 8) for x, y, z in sections], lambda number: 1)
+def entries_in_sections(sections, side):
+    """A square of chunks of air with an entry in the middle of each of some sections, all due in the first tick."""
+    chunks = [(x, z) for z in range(side) for x in range(side)]
+    return entries_in_chunks([(16 * x + 8, 16 * y + 8, 16 * z + 8) for x, y, z in sections], lambda number: 1, chunks)
