@@ -1,17 +1,19 @@
 #!/usr/bin/env python3
-"""Proves a crate and all that it stands on, side by side.
+"""Proves all that a crate stands on, side by side, and then the crate.
 
-    scripts/prove.py NAME [--jobs N]
+    scripts/prove.py NAME [--jobs N] [-- COMMAND ..]
 
 Each job is an `rt check`, in a copy of the tree of its own, since two checks in one tree wait for each other where they stand on the
-same crates. A crate is begun when those that it stands on are proved, first the one that most is left to prove above. What `rt check`
-proved is kept beside the kit, so that an `rt run` or `rt ci` in any checkout of the same text does not prove it again.
+same crates. A crate is begun when those that it stands on are proved, first the one that most is left to prove above. COMMAND is run
+in the crate's own folder when they all are; without one, `rt check`. It begins with what the checks in the copies kept, and then the
+copies go.
 
-Lines on standard error say which crates are being proved, how many are done and about how long it will still take. Status 0: all is
-proved; 1: a check failed, and what it printed is told; 2: other words are needed.
+Lines on standard error say which crates are being proved, how many are done and about how long it will still take. Status: that of
+the command; 1 where a check failed before, which then tells what it printed; 2 where other words are needed.
 """
 import argparse
 import concurrent.futures
+import functools
 import os
 import pathlib
 import shutil
@@ -128,8 +130,8 @@ def say(done, size, running, begun):
     print("%d of %d crates are proved%s%s" % (len(done), len(size), left, names), file=sys.stderr, flush=True)
 
 
-def prove(names, below, jobs):
-    """Proves crates, each after those that it stands on."""
+def prove(names, below, jobs, last):
+    """Proves crates, each after those that it stands on, and then answers the last step."""
     size = sizes(names)
     height = heights(names, below, size)
     done, running, begun = set(), {}, time.monotonic()
@@ -148,7 +150,14 @@ def prove(names, below, jobs):
         except BaseException:
             trees.stop()
             raise
-    say(done, size, (), begun)
+        say(done, size, (), begun)
+        return last()
+
+
+def split_at(words, mark):
+    """The words before a mark, and those behind it."""
+    where = words.index(mark) if mark in words else len(words)
+    return words[:where], words[where + 1:]
 
 
 def jobs_here():
@@ -159,12 +168,16 @@ def jobs_here():
 
 def main():
     below = crates()
-    words = argparse.ArgumentParser(description=__doc__.split("\n")[0])
+    words = argparse.ArgumentParser(
+        description=__doc__.split("\n")[0], usage="%(prog)s NAME [--jobs N] [-- COMMAND ..]",
+        epilog="COMMAND is run last, in the crate's folder; without one, rt check.")
     words.add_argument("name", choices=below, metavar="NAME", help="a crate of crates.txt")
     words.add_argument("--jobs", type=int, default=jobs_here(), help="how many checks at once; %(default)s here")
-    asked = words.parse_args()
+    given, last = split_at(sys.argv[1:], "--")
+    asked = words.parse_args(given)
+    command = functools.partial(subprocess.call, last or ["rt", "check"], cwd=TOP / "crates" / asked.name, stdin=subprocess.DEVNULL)
     try:
-        prove(closure(asked.name, below), below, max(1, asked.jobs))
+        return prove(closure(asked.name, below) - {asked.name}, below, max(1, asked.jobs), command)
     except Failed as failed:
         name, printed = failed.args
         print(printed, end="", file=sys.stderr)
@@ -172,7 +185,6 @@ def main():
         return 1
     except KeyboardInterrupt:
         return 130
-    return 0
 
 
 if __name__ == "__main__":
