@@ -16,8 +16,8 @@ of_file : (folder : List ℕ) (l : Listed) (e : Fault) → IsListed l → (e ≡
 of_file folder l e named (inl is) = memory is
 of_file folder l e named (inr device) = file l.region (subst (λ (name : List ℕ). IsDevice name e) named device)
 
-pub returns-in_err-read_region : goal.returns-in_err-read_region
-returns-in_err-read_region g c =
+pub returns-in_err-read_region-clause-unread : goal.returns-in_err-read_region-clause-unread
+returns-in_err-read_region-clause-unread g c =
     let l = c.file-item.result in
     let items = c.deref-file-items.result.now in
     let all : All IsListed items = subst (λ (xs : List Listed). All IsListed xs) (sym c.deref-file-items.ensures.value) c.in-Ok.ensures.named in
@@ -25,3 +25,6 @@ returns-in_err-read_region g c =
     let named : IsListed l = subst (λ (x : Listed). IsListed x) (sym c.file-item.is) (all c.loop-file.file-index l within) in
     if_err c.from_residual.result c.in_err-read_region.field-0.0 (IsUnreadFolder c.args.folder.now) c.from_residual.ensures.1
     (of_file c.args.folder.now l c.in_err-read_region.field-0.0 named c.in_err-read_region.ensures.unread)
+
+pub returns-clause-read : goal.returns-clause-read
+returns-clause-read g c = ?
