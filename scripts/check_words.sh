@@ -57,6 +57,9 @@ region() {
   sector "$1" "\\0\\0$(printf '\\%03o\\%03o' $((size / 256)) $((size % 256)))\\3$2"
 }
 
+# What follows the fault of a compressed chunk.
+advice='  scripts/worlds.py plain IN OUT makes such files readable; anvilwater-world WORLD does the whole way\n'
+
 not_a_region="the file's name is not r.X.Z.mca, with X and Z the region's coordinates"
 
 expect 0 minecraft:stone block samples/r.0.0.mca 4 67 15
@@ -156,7 +159,7 @@ two_chunks() {
   truncate -s 16384 "$1"
 }
 two_chunks "$folder/r.0.0.mca"
-expect_all 1 "r.0.0.mca 0 0 fault 09: Compression 2\nr.0.0.mca 1 1 fault 07: BadLength\n" "" check --in "$folder"
+expect_all 1 "r.0.0.mca 0 0 fault 09: Compression 2\nr.0.0.mca 1 1 fault 07: BadLength\n" "$advice" check --in "$folder"
 two_chunks "$folder/r.-1.1.mca"
 head -c 100 /dev/zero > "$folder/r.3.0.mca"
 : > "$folder/r.-2.2.mca"
@@ -165,7 +168,7 @@ r.0.0.mca 1 1 fault 07: BadLength
 r.3.0.mca fault 04: ShortHeader
 r.-1.1.mca -32 32 fault 09: Compression 2
 r.-1.1.mca -31 33 fault 07: BadLength
-" "" check --in "$folder/"
+" "$advice" check --in "$folder/"
 
 # A run of a folder. The words are judged before the table, the table before the edits, these before the folder, and only
 # when all files were read is anything judged or written: a table that can't be read comes before 9 workers, and these
@@ -249,6 +252,11 @@ if [ "$(ls "$output")" != $'r.-1.0.mca\nr.0.0.mca' ]; then
   echo "folder after a write that failed: $(ls "$output")"
 fi
 
+# A run of a compressed chunk.
+rm -r "$output"/* "$input"/*
+sector "$input/r.0.0.mca" '\0\0\0\5\2\12\0\0\0'
+expect_run 1 "" "fault 09: Compression 2\n$advice" "$blocks" "$edits" "$input" "$output" 1
+
 # Regions without chunks, and one that ends in its header.
 one="$work/r.0.0.mca"
 for size in 0 8192; do
@@ -288,11 +296,12 @@ while read -r bytes line; do
   expect 1 "$line" block "$one" 0 900 0
 done << 'END'
 \0\0\0\5\3\12\0\0\0 fault 12: BadChunk
-\0\0\0\5\2\12\0\0\0 fault 09: Compression 2
 \0\0\0\1\203 fault 08: ExternalChunk
 \0\0\0\0 fault 07: BadLength
 \0\0\20\0\3 fault 06: TruncatedChunk
 END
+sector "$one" '\0\0\0\5\2\12\0\0\0'
+expect_all 1 "" "fault 09: Compression 2\n$advice" block "$one" 0 900 0
 
 # Payloads that spell no root: a negative length, elements of no kind, a name twice, a byte after the root, each proper
 # beginning of a root, and a chain of 512 Lists one in another. That root and a chain of 511 are read, but are no chunk.

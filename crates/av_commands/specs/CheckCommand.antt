@@ -1,12 +1,13 @@
 -- What `check` prints.
-use Rattle.std.specs.Prelude.{◌≡◌, ◌≢◌, ℕ, List, [], ◌∷◌, ◌++◌, Option, Some, None, codes}
+use Rattle.std.specs.Prelude.{◌≡◌, ◌≢◌, ℕ, List, [], ◌∷◌, ◌++◌, Option, Some, None, codes, cond}
+use Rattle.std.specs.List.{list_any}
 use Rattle.std.specs.Fmt.{signed_decimal}
 use Rattle.av_types.specs.Faults.{fault_text}
 use Rattle.av_types.specs.declared.place.ChunkPos.{ChunkPos}
 use Rattle.av_types.specs.declared.place.RegionPos.{RegionPos}
 use Rattle.av_sink.specs.Names.{region_name_of}
 use Rattle.av_survey.specs.declared.finding.Finding.{Finding}
-use Rattle.av_commands.specs.Output.{line}
+use Rattle.av_commands.specs.Output.{is_compression, line, packed_advice}
 
 -- `CX CZ `, the chunk's coordinates in the world, or nothing where a whole file is meant
 abbrev pub chunk_text : Option ChunkPos → List ℕ
@@ -21,6 +22,10 @@ finding_text f = region_name_of f.region ++ (codes " " ++ (chunk_text f.chunk ++
 abbrev pub finding_lines : List Finding → List ℕ
 finding_lines [] = []
 finding_lines (f ∷ fs) = line (finding_text f) ++ finding_lines fs
+
+-- how to go on, where a chunk has another compression: once, for all of them
+abbrev pub advice_on : List Finding → List ℕ
+advice_on found = cond (list_any (λ f. is_compression f.fault) found) packed_advice []
 
 -- what a call leaves on its output for findings, and its status: nothing and 0 for none, 1 where there are some
 pub data HasFindings (found : List Finding) (before after : Option (List ℕ)) (status : ℕ) : Type 0 where

@@ -1,6 +1,9 @@
 -- The lines that are printed.
-use Rattle.std.specs.Prelude.{◌≡◌, List, ℕ, Option, Some, None, ◌++◌, [], ◌∷◌, codes}
+use Rattle.std.specs.Prelude.{◌≡◌, List, ℕ, Bool, true, false, cond, Option, Some, None, ◌++◌, [], ◌∷◌, codes}
 use Rattle.std.specs.Io.KnownBytes.{Appends}
+use Rattle.av_types.specs.Faults.{fault_text}
+use Rattle.av_types.specs.declared.fault.Fault.{Fault}
+use Rattle.av_types.specs.declared.fault.Fault.TheVariants.{Compression}
 use Rattle.av_state.specs.BlockState.{BlockState}
 use Rattle.av_state.specs.Words.{state_text}
 
@@ -11,6 +14,23 @@ line text = text ++ 10 ∷ []
 abbrev pub answer_line : Option BlockState → List ℕ
 answer_line None = line (codes "unloaded")
 answer_line (Some s) = line (state_text s)
+
+-- the fault of a chunk of another compression than the program reads
+abbrev pub is_compression : Fault → Bool
+is_compression (Compression kind) = true
+is_compression e = false
+
+-- how such files are made readable: a line that two spaces begin
+abbrev pub packed_advice : List ℕ
+packed_advice = line (codes "  scripts/worlds.py plain IN OUT makes such files readable; anvilwater-world WORLD does the whole way")
+
+-- how to go on after a fault, where its line does not say it
+abbrev pub advice : Fault → List ℕ
+advice e = cond (is_compression e) packed_advice []
+
+-- what is said of a fault: its line first
+abbrev pub fault_lines : Fault → List ℕ
+fault_lines e = line (fault_text e) ++ advice e
 
 -- what was written of a text where a write was refused: its first bytes, perhaps none
 pub record HasBegun (before after : Option (List ℕ)) (text : List ℕ) : Type 0 where

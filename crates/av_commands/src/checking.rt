@@ -2,9 +2,9 @@
 ghost use Rattle.std.specs.Prelude.{◌≡◌, MatchResult, OnOk};
 ghost use Rattle.std.specs.Io.KnownBytes.{Appends};
 ghost use Rattle.av_types.specs.Faults.{fault_text};
-ghost use Rattle.av_commands.specs.CheckCommand.{HasFindings, finding_lines, written_at};
+ghost use Rattle.av_commands.specs.CheckCommand.{HasFindings, advice_on, finding_lines, written_at};
 
-use crate::output::{FAULT, report_fault};
+use crate::output::{FAULT, is_compression, report_fault, write_packed_advice};
 use av_survey::Finding;
 use av_types::{ChunkPos, Fault, RegionPos};
 use std::io::{self, Write};
@@ -36,19 +36,32 @@ pub fn write_findings<O: Write>(out: &mut O, found: &[Finding]) -> io::Result<()
     Ok(())
 }
 
+/// Writes, once, how files of other compressions are made readable, where a finding is of one.
+pub fn write_advice<E: Write>(err: &mut E, found: &[Finding]) -> io::Result<()>
+    ensures { OnOk result (Appends (E.contents err.old) (E.contents err.new) (advice_on found.now)) }
+{
+    for finding in found {
+        if is_compression(&finding.fault) {
+            return write_packed_advice(err);
+        }
+    }
+    Ok(())
+}
+
 /// Lists findings on the program's output, and answers its status.
-fn list<O: Write>(found: &[Finding], out: &mut O) -> u8
+fn list<O: Write, E: Write>(found: &[Finding], out: &mut O, err: &mut E) -> u8
     ensures { HasFindings found.now (O.contents out.old) (O.contents out.new) result }
 {
     if found.is_empty() {
         return 0;
     }
     let _ = write_findings(out, found);
+    let _ = write_advice(err, found);
     FAULT
 }
 
 /// Lists what was found wrong with region files, a line for each finding, or writes the fault for which nothing was looked
-/// for. The answer is the program's status: 0 where nothing was found; 1 where something was, and after a fault.
+/// for. Where a finding is of a chunk of another compression, how to go on is said once on standard error. The answer is the program's status: 0 where nothing was found; 1 where something was, and after a fault.
 pub fn findings<O: Write, E: Write>(
     surveyed: &Result<Vec<Finding>, Fault>,
     out: &mut O,
@@ -58,7 +71,7 @@ pub fn findings<O: Write, E: Write>(
         (λ _. (O.contents out.new ≡ O.contents out.old) × (result ≡ FAULT)) }
 {
     match surveyed {
-        Ok(found) => list(found.as_slice(), out),
+        Ok(found) => list(found.as_slice(), out, err),
         Err(fault) => report_fault(err, fault),
     }
 }

@@ -5,7 +5,7 @@ ghost use Rattle.std.specs.Io.KnownBytes.{Appends, WriteAppends};
 ghost use Rattle.av_state.specs.States.{state_of};
 ghost use Rattle.av_types.specs.Faults.{fault_text};
 ghost use Rattle.av_types.specs.declared.fault.Fault.TheVariants.{OutOfMemory};
-ghost use Rattle.av_commands.specs.Output.{HasBegun, answer_line, line};
+ghost use Rattle.av_commands.specs.Output.{HasBegun, advice, answer_line, fault_lines, is_compression, line, packed_advice};
 
 use av_state::State;
 use av_types::Fault;
@@ -65,11 +65,47 @@ pub(crate) fn write_first<O: Write>(out: &mut O, bytes: &[u8]) -> io::Result<()>
     Ok(())
 }
 
-/// Writes a fault's line. What was written is not said where writing fails.
-pub fn write_fault<E: Write>(err: &mut E, fault: &Fault) -> io::Result<()>
+/// Whether a fault is that of a chunk of another compression.
+pub(crate) fn is_compression(fault: &Fault) -> bool
+    ensures { result ≡ is_compression fault.now }
+{
+    matches!(fault, Fault::Compression(_))
+}
+
+/// Writes how files of other compressions are made readable.
+pub(crate) fn write_packed_advice<E: Write>(err: &mut E) -> io::Result<()>
+    ensures { OnOk result (Appends (E.contents err.old) (E.contents err.new) packed_advice) }
+{
+    writeln!(
+        err,
+        "  scripts/worlds.py plain IN OUT makes such files readable; anvilwater-world WORLD does the whole way"
+    )
+}
+
+/// Writes how to go on after a fault, where its line does not say it.
+fn write_advice<E: Write>(err: &mut E, fault: &Fault) -> io::Result<()>
+    ensures { OnOk result (Appends (E.contents err.old) (E.contents err.new) (advice fault.now)) }
+{
+    if is_compression(fault) {
+        return write_packed_advice(err);
+    }
+    Ok(())
+}
+
+/// Writes a fault's line.
+fn write_line<E: Write>(err: &mut E, fault: &Fault) -> io::Result<()>
     ensures { OnOk result (Appends (E.contents err.old) (E.contents err.new) (line (fault_text fault.now))) }
 {
     writeln!(err, "{fault}")
+}
+
+/// Writes a fault's line, and how to go on behind that of a chunk of another compression. What was written is not said where
+/// writing fails.
+pub fn write_fault<E: Write>(err: &mut E, fault: &Fault) -> io::Result<()>
+    ensures { OnOk result (Appends (E.contents err.old) (E.contents err.new) (fault_lines fault.now)) }
+{
+    write_line(err, fault)?;
+    write_advice(err, fault)
 }
 
 /// Writes a fault, as well as that can be written, and answers the status.

@@ -3,10 +3,15 @@ use crate::expecting::expect_equal;
 use av_commands::block::block_text;
 use av_commands::checking::findings;
 use av_commands::names::{file_name, region_of_name};
+use av_commands::output::report_fault;
 use av_survey::Finding;
 use av_types::{ChunkPos, Fault, Height, Pos, RegionPos};
 use std::io::Cursor;
 use std::test::Fail;
+
+/// How files of other compressions are made readable.
+const ADVICE: &[u8] =
+    b"  scripts/worlds.py plain IN OUT makes such files readable; anvilwater-world WORLD does the whole way\n";
 
 #[test]
 fn names_of_regions(rt: HostRuntime) -> Result<(), Fail> {
@@ -69,7 +74,22 @@ fn a_line_for_each_finding(rt: HostRuntime) -> Result<(), Fail> {
         out.as_slice(),
         b"r.-1.2.mca -31 64 fault 09: Compression 2\nr.3.4.mca fault 04: ShortHeader\n".as_slice(),
     );
-    expect_equal(&rt, err.len(), 0);
+    expect_equal(&rt, err.as_slice(), ADVICE);
+    Ok(())
+}
+
+/// The fault's own line comes first, and only that of a compressed chunk has another behind it.
+#[test]
+fn lines_of_a_fault(rt: HostRuntime) -> Result<(), Fail> {
+    let alloc = rt.alloc();
+    let mut err = Vec::new(alloc);
+    expect_equal(&rt, report_fault(&mut err, &Fault::Compression(2)), 1);
+    let line = b"fault 09: Compression 2\n";
+    expect_equal(&rt, &err[..line.len()], line.as_slice());
+    expect_equal(&rt, &err[line.len()..], ADVICE);
+    let mut err = Vec::new(alloc);
+    expect_equal(&rt, report_fault(&mut err, &Fault::ExternalChunk), 1);
+    expect_equal(&rt, err.as_slice(), b"fault 08: ExternalChunk\n".as_slice());
     Ok(())
 }
 

@@ -1,5 +1,5 @@
 //! Files handed to a sink that keeps them.
-ghost use Rattle.std.specs.Prelude.{◌≡◌, [], ◌∷◌, ◌++◌, OnOk, OnErr, Some, map, string_bytes};
+ghost use Rattle.std.specs.Prelude.{◌≡◌, [], ◌∷◌, ◌++◌, OnOk, OnErr, None, Some, map, string_bytes};
 ghost use Rattle.av_sink.specs.Account.{Account, file_named};
 
 use crate::expecting::expect_equal;
@@ -38,7 +38,7 @@ struct Memory {
 }
 
 impl Sink for Memory {
-    ghost account = { λ s. record { failures = s.failures; handed = s.handed; kept = Some (map (λ f. file_named (string_bytes f.name) f.bytes.items) s.files.items) } };
+    ghost account = { λ s. record { folder = None; failures = s.failures; handed = s.handed; kept = Some (map (λ f. file_named (string_bytes f.name) f.bytes.items) s.files.items) } };
 
     fn failures(&self) -> u64 {
         self.failures

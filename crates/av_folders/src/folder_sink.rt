@@ -1,8 +1,10 @@
 //! A folder that files are written to.
-ghost use Rattle.std.specs.Prelude.{◌≡◌};
+ghost use Rattle.std.specs.Prelude.{option_map, string_bytes};
+ghost use Rattle.av_sink.specs.Account.{IsFresh};
 ghost use Rattle.av_folders.specs.Folders.{folder_account};
 
-use av_sink::{Sink, SinkFailed};
+use av_sink::{OutputFolder, Sink, SinkFailed};
+use std::alloc::AllocError;
 use std::fs::{self, OpenFile};
 use std::io::{self, Write};
 use std::path::Path;
@@ -37,32 +39,40 @@ fn write_whole<R: Files + AllocGlobal>(
 }
 
 /// A folder that files are written to, each whole or not at all as far as a folder allows: under another name first, so
-/// that a write that fails leaves the file that was there. Want of memory for a file's path is a failed write too.
+/// that a write that fails leaves the file that was there. Want of memory for a file's path is a failed write too, as is each
+/// write before the folder is opened.
 #[derive(Drop)]
 pub struct FolderSink<'a, R> {
     rt: &'a R,
-    folder: &'a str,
+    folder: Option<String>,
     failures: u64,
     handed: u64,
 }
 
-impl<'a, R> FolderSink<'a, R> {
-    /// The folder of that name, which has to be there.
-    pub fn new(rt: &'a R, folder: &'a str) -> FolderSink<'a, R>
-        ensures failures { result.failures ≡ 0 }
-        ensures handed { result.handed ≡ 0 }
+impl<'a, R: Files + AllocGlobal> FolderSink<'a, R> {
+    /// A folder that is not opened yet.
+    pub fn new(rt: &'a R) -> FolderSink<'a, R>
+        ensures { IsFresh (⟦<FolderSink<'a, R> as Sink>⟧.account result) }
     {
         FolderSink {
             rt,
-            folder,
+            folder: None,
             failures: 0,
             handed: 0,
+        }
+    }
+
+    /// Writes a file of the folder.
+    fn write(&self, name: &str, bytes: &[u8]) -> io::Result<()> {
+        match &self.folder {
+            Some(folder) => write_whole(self.rt, folder.as_str(), name, bytes),
+            None => Err(io::ErrorKind::NotFound.into()),
         }
     }
 }
 
 impl<'a, R: Files + AllocGlobal> Sink for FolderSink<'a, R> {
-    ghost account = { λ s. folder_account s.failures s.handed };
+    ghost account = { λ s. folder_account (option_map string_bytes s.folder) s.failures s.handed };
 
     fn failures(&self) -> u64 {
         self.failures
@@ -73,11 +83,18 @@ impl<'a, R: Files + AllocGlobal> Sink for FolderSink<'a, R> {
     }
 
     fn write_file(&mut self, name: &str, bytes: &[u8]) -> Result<(), SinkFailed> {
-        if write_whole(self.rt, self.folder, name, bytes).is_ok() {
+        if self.write(name, bytes).is_ok() {
             self.handed += 1;
             return Ok(());
         }
         self.failures += 1;
         Err(SinkFailed)
+    }
+}
+
+impl<'a, R: Files + AllocGlobal> OutputFolder for FolderSink<'a, R> {
+    fn open(&mut self, folder: &str) -> Result<(), AllocError> {
+        self.folder = Some(String::from_str(self.rt.alloc(), folder)?);
+        Ok(())
     }
 }

@@ -1,11 +1,10 @@
 //! Folders that are read.
-ghost use Rattle.std.specs.Prelude.{◌≡◌, ◌⊎◌, IfErr, IfOk, IfSome, string_bytes, string_cmp};
+ghost use Rattle.std.specs.Prelude.{◌≡◌, ◌⊎◌, IfErr, IfOk, IfSome, map, string_bytes, string_cmp};
 ghost use Rattle.std.specs.List.{All};
-ghost use Rattle.std.specs.List.Sorted.{IsSortedBy};
-ghost use Rattle.std.specs.Ordering.{is_lt};
+ghost use Rattle.std.specs.List.Sorted.{IsStrictlySortedBy};
 ghost use Rattle.av_types.specs.declared.fault.Fault.TheVariants.{OutOfMemory};
 ghost use Rattle.av_sink.specs.Account.{IsDevice};
-ghost use Rattle.av_folders.specs.Folders.{IsListed, IsUnreadFolder};
+ghost use Rattle.av_folders.specs.Folders.{AreInNameOrder, IsListed, IsUnreadFolder};
 
 use crate::progress::note_read;
 use av_commands::device::device_fault;
@@ -48,13 +47,14 @@ fn region_entry<R: Files + Drop>(
     }
 }
 
-/// The region files of a folder, in the byte order of their names.
+/// The region files of a folder, in the byte order of their names, each once. A folder that changes meanwhile may give a name
+/// twice.
 fn list_folder<R: Files + AllocGlobal + Clone + Drop>(
     rt: &R,
     folder: &str,
 ) -> io::Result<Vec<Listed>>
     ensures named { IfOk result (λ files. All IsListed files.items) }
-    ensures order { IfOk result (λ files. IsSortedBy (λ a b. is_lt (string_cmp a.name b.name)) files.items) }
+    ensures order { IfOk result (λ files. IsStrictlySortedBy (λ a b. string_cmp a.name b.name) files.items) }
 {
     let mut files = Vec::new(rt.alloc());
     for entry in fs::read_dir(rt, folder)? {
@@ -63,6 +63,7 @@ fn list_folder<R: Files + AllocGlobal + Clone + Drop>(
         }
     }
     files.sort_by(|a, b| a.name.cmp(&b.name))?;
+    files.dedup_by(|a, b| a.name == b.name);
     Ok(files)
 }
 
@@ -85,7 +86,7 @@ fn read_region<R: Files + AllocGlobal>(
     }
 }
 
-/// The region files of a folder, read in the byte order of their names. All other files are passed over.
+/// The region files of a folder, each once, read in the byte order of their names. All other files are passed over.
 ///
 /// # Errors
 /// `Device` with the folder's name as it was given, where it can't be listed, or with the name of the first file
@@ -96,7 +97,8 @@ pub fn read_folder<R: Files + AllocGlobal + Clone + Drop, E: Write>(
     progress: bool,
     err: &mut E,
 ) -> Result<Vec<RegionFile>, Fault>
-    ensures { IfErr result (IsUnreadFolder folder.now) }
+    ensures read { IfOk result (λ files. AreInNameOrder (map (λ f. f.pos) files.items)) }
+    ensures unread { IfErr result (IsUnreadFolder folder.now) }
 {
     let listed = match list_folder(rt, folder) {
         Ok(listed) => listed,

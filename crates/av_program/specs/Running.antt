@@ -1,4 +1,5 @@
--- What a run of the program leaves behind. Which words it was called with and which bytes a file has, no clause can say.
+-- What a run of the program leaves behind: in the account of the sink that its files are handed to, before and after; on its output,
+-- before and after; and its status. Which words it was called with and which bytes a file has, no clause can say.
 use Rattle.std.specs.Prelude.{◌≡◌, ◌≢◌, ◌⊎◌, ℕ, List, Option, option_map}
 use Rattle.clap.specs.Words.{Text, kind_of}
 use Rattle.clap.specs.declared.error.Error.{Error}
@@ -6,7 +7,7 @@ use Rattle.clap.specs.declared.error.kind.ErrorKind.TheVariants as kind
 use Rattle.av_types.specs.declared.place.Pos.{Pos}
 use Rattle.av_types.specs.declared.place.Height.{Height}
 use Rattle.av_types.specs.declared.fault.Fault.{Fault}
-use Rattle.av_sink.specs.Account.{IsDevice}
+use Rattle.av_sink.specs.Account.{Account, IsDevice, in_folder}
 use Rattle.av_sink.specs.declared.files.RegionFile.{RegionFile}
 use Rattle.av_survey.specs.Survey.{IsSurvey}
 use Rattle.av_survey.specs.declared.finding.Finding.{Finding}
@@ -16,8 +17,7 @@ use Rattle.av_commands.specs.BlockCommand.{HasAnswered}
 use Rattle.av_words.specs.CommandLine.{IsReadFrom, IsWordsRefusal}
 use Rattle.av_commands.specs.CheckCommand.{HasFindings}
 use Rattle.av_program.specs.RunCommand.{HasRunRegions}
-use Rattle.av_sink.specs.Account.{Account}
-use Rattle.av_folders.specs.Folders.{IsUnreadFolder, folder_account}
+use Rattle.av_folders.specs.Folders.{IsUnreadFolder}
 use Rattle.av_commands.specs.Tables.{IsHeightBy, IsUnreadTable}
 
 -- why the table and the file of `block` were not read
@@ -45,19 +45,25 @@ pub data HasChecked (table : Option (List ℕ)) (before after : Option (List ℕ
   surveyed : (found : List Finding) → IsSurveyBy table found → HasFindings found before after status → HasChecked table before after status
   refused : after ≡ before → status ≡ 1 → HasChecked table before after status
 
--- the same of a command
-abbrev pub HasRunCommand : Words → Option (List ℕ) → Option (List ℕ) → ℕ → Type 0
-HasRunCommand (Block file at table) before after status = HasRun file.now at (option_map (λ t. t.now) table) before after status
-HasRunCommand (Check input table progress) before after status = HasChecked (option_map (λ t. t.now) table) before after status
-HasRunCommand (Run input output table edits ticks workers progress) before after status =
-    (new : Account) × HasRunRegions ticks workers (folder_account 0 0) new before after status
+-- the same of `run`: what its files leave in the folder of that name, or nothing and 1 where memory for the name runs out
+pub data HasRunInFolder (folder : List ℕ) (ticks workers : ℕ) (old new : Account) (before after : Option (List ℕ)) (status : ℕ) : Type 0 where
+  opened : HasRunRegions ticks workers (in_folder folder old) new before after status → HasRunInFolder folder ticks workers old new before after status
+  unopened : new ≡ old → after ≡ before → status ≡ 1 → HasRunInFolder folder ticks workers old new before after status
+
+-- the same of a command: `run` hands its files to the folder that its words name, and no other command hands any to a sink
+abbrev pub HasRunCommand : Words → Account → Account → Option (List ℕ) → Option (List ℕ) → ℕ → Type 0
+HasRunCommand (Block file at table) old new before after status = (new ≡ old) × HasRun file.now at (option_map (λ t. t.now) table) before after status
+HasRunCommand (Check input table progress) old new before after status = (new ≡ old) × HasChecked (option_map (λ t. t.now) table) before after status
+HasRunCommand (Run input output table edits ticks workers progress) old new before after status =
+    HasRunInFolder output.now ticks workers old new before after status
 
 -- the same of words: the run of the command that they name, or a refusal, which may print help
-pub data HasRunWords (words : List Text) (before after : Option (List ℕ)) (status : ℕ) : Type 0 where
-  ran : (command : Words) → IsReadFrom words command → HasRunCommand command before after status → HasRunWords words before after status
-  refused : (e : Error) → IsWordsRefusal words e → (kind_of e ≡ kind.OutOfMemory → status ≡ 1) → (kind_of e ≢ kind.OutOfMemory → status ≡ 2) → HasRunWords words before after status
+pub data HasRunWords (words : List Text) (old new : Account) (before after : Option (List ℕ)) (status : ℕ) : Type 0 where
+  ran : (command : Words) → IsReadFrom words command → HasRunCommand command old new before after status → HasRunWords words old new before after status
+  refused : (e : Error) → IsWordsRefusal words e → new ≡ old → (kind_of e ≡ kind.OutOfMemory → status ≡ 1) → (kind_of e ≢ kind.OutOfMemory → status ≡ 2)
+      → HasRunWords words old new before after status
 
 -- the same of the program: the run of the words that it was called with, or nothing and a status where it can't have them
-pub data HasRunProgram (before after : Option (List ℕ)) (status : ℕ) : Type 0 where
-  called : (words : List Text) → HasRunWords words before after status → HasRunProgram before after status
-  uncalled : after ≡ before → (status ≡ 1) ⊎ (status ≡ 2) → HasRunProgram before after status
+pub data HasRunProgram (old new : Account) (before after : Option (List ℕ)) (status : ℕ) : Type 0 where
+  called : (words : List Text) → HasRunWords words old new before after status → HasRunProgram old new before after status
+  uncalled : new ≡ old → after ≡ before → (status ≡ 1) ⊎ (status ≡ 2) → HasRunProgram old new before after status

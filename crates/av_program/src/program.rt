@@ -2,7 +2,8 @@
 ghost use Rattle.std.specs.Prelude.{◌≡◌, ◌≢◌, ◌≤◌, IfErr, IfOk, map, option_map};
 ghost use Rattle.clap.specs.Words.{kind_of};
 ghost use Rattle.av_program.specs.RunCommand.{HasRunRegions};
-ghost use Rattle.av_program.specs.Running.{HasChecked, HasRun, HasRunCommand, HasRunProgram, HasRunWords, IsSurveyBy, IsUnread, IsUnreadCheck};
+ghost use Rattle.av_program.specs.Running.{HasChecked, HasRun, HasRunCommand, HasRunInFolder, HasRunProgram, HasRunWords, IsSurveyBy, IsUnread, IsUnreadCheck};
+ghost use Rattle.av_sink.specs.Account.{IsFresh};
 ghost use Rattle.av_commands.specs.Tables.{IsHeightBy};
 
 use crate::running::{Request, report, run_over};
@@ -11,8 +12,8 @@ use av_commands::checking::findings;
 use av_commands::device::read_file;
 use av_commands::output::{FAULT, REFUSED, report_fault};
 use av_commands::tables::read_height;
-use av_folders::{FolderSink, read_folder};
-use av_sink::{RegionFile, Sink};
+use av_folders::read_folder;
+use av_sink::{OutputFolder, RegionFile, Sink};
 use av_survey::{Finding, survey};
 use av_types::{Fault, Height, Pos};
 use av_words::{Words, words};
@@ -141,16 +142,41 @@ fn run_regions<
     report(&ran, out, err)
 }
 
-/// Runs a command. Where standard error is a terminal, it says how far long work is.
-fn run_command<R: Files + AllocGlobal + Clone + Drop + Threads + Wait + Sync, O: Write, E: Write>(
+/// Runs `run`, and hands its files to the folder of that name.
+fn run_in_folder<
+    R: Files + AllocGlobal + Clone + Drop + Threads + Wait + Sync,
+    S: OutputFolder,
+    O: Write,
+    E: Write,
+>(
     rt: &R,
-    is_terminal: bool,
-    command: Words<'_>,
+    request: Request<'_>,
+    folder: &str,
+    sink: &mut S,
+    progress: bool,
     out: &mut O,
     err: &mut E,
 ) -> u8
+    requires fresh { IsFresh (S.account sink.old) }
     ensures status { result ≤ REFUSED }
-    ensures ran { HasRunCommand command.entry (O.contents out.old) (O.contents out.new) result }
+    ensures ran { HasRunInFolder folder.now request.entry.ticks request.entry.workers (S.account sink.old) (S.account sink.new) (O.contents out.old) (O.contents out.new) result }
+{
+    match sink.open(folder) {
+        Ok(()) => run_regions(rt, request, sink, progress, out, err),
+        Err(_) => report_fault(err, &Fault::OutOfMemory),
+    }
+}
+
+/// Runs a command. Where standard error is a terminal, it says how far long work is.
+fn run_command<
+    R: Files + AllocGlobal + Clone + Drop + Threads + Wait + Sync,
+    S: OutputFolder,
+    O: Write,
+    E: Write,
+>(rt: &R, is_terminal: bool, command: Words<'_>, sink: &mut S, out: &mut O, err: &mut E) -> u8
+    requires fresh { IsFresh (S.account sink.old) }
+    ensures status { result ≤ REFUSED }
+    ensures ran { HasRunCommand command.entry (S.account sink.old) (S.account sink.new) (O.contents out.old) (O.contents out.new) result }
 {
     match command {
         Words::Block { file, pos, table } => run_block(rt, file, pos, table, out, err),
@@ -175,25 +201,24 @@ fn run_command<R: Files + AllocGlobal + Clone + Drop + Threads + Wait + Sync, O:
                 ticks,
                 workers,
             };
-            let mut sink = FolderSink::new(rt, output);
-            run_regions(rt, request, &mut sink, progress || is_terminal, out, err)
+            run_in_folder(rt, request, output, sink, progress || is_terminal, out, err)
         }
     }
 }
 
 /// Runs the command that the words name.
-fn run_words<R: Files + AllocGlobal + Clone + Drop + Threads + Wait + Sync, O: Write, E: Write>(
-    rt: &R,
-    is_terminal: bool,
-    given: &[&str],
-    out: &mut O,
-    err: &mut E,
-) -> u8
+fn run_words<
+    R: Files + AllocGlobal + Clone + Drop + Threads + Wait + Sync,
+    S: OutputFolder,
+    O: Write,
+    E: Write,
+>(rt: &R, is_terminal: bool, given: &[&str], sink: &mut S, out: &mut O, err: &mut E) -> u8
+    requires fresh { IsFresh (S.account sink.old) }
     ensures status { result ≤ REFUSED }
-    ensures ran { HasRunWords (map (λ s. s.now) given.now) (O.contents out.old) (O.contents out.new) result }
+    ensures ran { HasRunWords (map (λ s. s.now) given.now) (S.account sink.old) (S.account sink.new) (O.contents out.old) (O.contents out.new) result }
 {
     match words(rt.alloc(), given) {
-        Ok(command) => run_command(rt, is_terminal, command, out, err),
+        Ok(command) => run_command(rt, is_terminal, command, sink, out, err),
         Err(error) => explain_words(out, err, &error),
     }
 }
@@ -209,16 +234,18 @@ fn as_texts(alloc: Global, words: &[String]) -> Result<Vec<&str>, AllocError> {
 }
 
 /// Reads the words that the program was called with and does what they say. Where standard error is a terminal, long work
-/// says there how far it is. The answer is the program's status: 0; 1 after a fault, and where `check` found something; 2
-/// after words that are refused or call for help.
-pub fn run<R: Env + Files + AllocGlobal + Clone + Drop + Threads + Wait + Sync, O: Write, E: Write>(
-    rt: &R,
-    is_terminal: bool,
-    out: &mut O,
-    err: &mut E,
-) -> u8
+/// says there how far it is. The region files of `run` go to the folder that its words name, which is opened of a sink that has
+/// opened none; each other command leaves the sink as it is. The answer is the program's status: 0; 1 after a fault, and where
+/// `check` found something; 2 after words that are refused or call for help.
+pub fn run<
+    R: Env + Files + AllocGlobal + Clone + Drop + Threads + Wait + Sync,
+    S: OutputFolder,
+    O: Write,
+    E: Write,
+>(rt: &R, is_terminal: bool, sink: &mut S, out: &mut O, err: &mut E) -> u8
+    requires fresh { IsFresh (S.account sink.old) }
     ensures status { result ≤ REFUSED }
-    ensures ran { HasRunProgram (O.contents out.old) (O.contents out.new) result }
+    ensures ran { HasRunProgram (S.account sink.old) (S.account sink.new) (O.contents out.old) (O.contents out.new) result }
 {
     let given = match given_words(rt) {
         Ok(given) => given,
@@ -232,7 +259,7 @@ pub fn run<R: Env + Files + AllocGlobal + Clone + Drop + Threads + Wait + Sync, 
         }
     };
     match as_texts(rt.alloc(), given.as_slice()) {
-        Ok(given) => run_words(rt, is_terminal, given.as_slice(), out, err),
+        Ok(given) => run_words(rt, is_terminal, given.as_slice(), sink, out, err),
         Err(_) => report_fault(err, &Fault::OutOfMemory),
     }
 }

@@ -1,3 +1,4 @@
+use Rattle.std.proofs.Common.{refl}
 use Rattle.av_program.specs.Running.{ran, refused}
 use Rattle.av_program.proofs.program.run_words.Goals as goal
 
@@ -5,4 +6,4 @@ pub returns-in-Ok-clause-ran : goal.returns-in-Ok-clause-ran
 returns-in-Ok-clause-ran g c = ran c.in-Ok.command c.in-Ok.ensures.read c.run_command.ensures.ran
 
 pub returns-in-Err-clause-ran : goal.returns-in-Err-clause-ran
-returns-in-Err-clause-ran g c = refused c.in-Err.error c.in-Err.ensures.refused c.explain_words.ensures.memory c.explain_words.ensures.refused
+returns-in-Err-clause-ran g c = refused c.in-Err.error c.in-Err.ensures.refused refl c.explain_words.ensures.memory c.explain_words.ensures.refused
