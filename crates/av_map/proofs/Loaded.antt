@@ -34,7 +34,7 @@ use Rattle.av_map.specs.Sections.{AreLights, AreLightsFor, air_look, level_at, l
 use Rattle.av_map.specs.declared.look.Look.{Look}
 use Rattle.av_map.specs.declared.view.View.{View}
 use Rattle.av_map.specs.declared.view.View.TheVariants.{Blocks, Light}
-use Rattle.av_map.proofs.Columns.{block_sight_same, light_sight_same, same_range}
+use Rattle.av_map.proofs.Alike.{block_sight_same, light_sight_same, same_range}
 
 -- ---- where a block of a section lies
 

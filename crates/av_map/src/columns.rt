@@ -1,6 +1,6 @@
 //! The columns of a chunk, seen from above. A column's blocks are counted from the lowest of the height, and the columns of a
 //! chunk from the north-west, row by row.
-ghost use Rattle.std.specs.Prelude.{◌≡◌, ◌≤◌, ◌<◌, ◌+◌, ◌*◌, ℕ, get_or, length, map, option_map, IfOk, IfSome, true, suc};
+ghost use Rattle.std.specs.Prelude.{◌≡◌, ◌≤◌, ◌<◌, ◌+◌, ◌*◌, ℕ, get_or, length, map, slice_index, IfOk, IfSome, Some, true};
 ghost use Rattle.std.specs.List.{range_with_len};
 ghost use Rattle.av_map.specs.Columns.{block_sight, depth_in, light_sight, sight_at, top_in};
 ghost use Rattle.av_map.specs.Sections.{air_look, level_at, look_at, section_look, sight_by};
@@ -53,17 +53,24 @@ fn section_look(looks: &[Look], section: &Option<Section>, place: Place) -> Look
     }
 }
 
+/// Whether all numbers of a palette are air.
+fn are_air(looks: &[Look], palette: &[u16]) -> bool
+    ensures { result ≡ true → (k : ℕ) → k < length palette.now → (get_or looks.now (slice_index palette.now k) air_look).is_air ≡ true }
+{
+    for number in palette {
+        if !look_of_number(looks, *number).is_air {
+            return false;
+        }
+    }
+    true
+}
+
 /// Whether a section has nothing but air, by its palette alone.
 fn is_all_air(looks: &[Look], section: &Option<Section>) -> bool
     ensures { result ≡ true → (place : ℕ) → place < 4096 → (section_look looks.now section.now place).is_air ≡ true }
 {
     match section {
-        Some(section) => {
-            let (palette, _, _) = section.parts();
-            palette
-                .iter()
-                .all(|number| look_of_number(looks, *number).is_air)
-        }
+        Some(section) => are_air(looks, section.parts().0),
         None => true,
     }
 }
