@@ -1,5 +1,5 @@
 -- Columns that look alike show the same.
-use Rattle.std.proofs.Common.{◌≡◌, ◌⊎◌, ℕ, zero, suc, ◌+◌, ◌*◌, ◌/◌, ◌<◌, ◌≤◌, List, [], ◌∷◌, ◌++◌, map, length, Option, Some, None, option_map, Bool, true, false, cond, refl, sym, ap, ◌∙◌, arith}
+use Rattle.std.proofs.Common.{◌-◌, subst, ◌≡◌, ◌⊎◌, ℕ, zero, suc, ◌+◌, ◌*◌, ◌/◌, ◌<◌, ◌≤◌, List, [], ◌∷◌, ◌++◌, map, length, Option, Some, None, option_map, Bool, true, false, cond, refl, sym, ap, ◌∙◌, arith}
 use Rattle.std.specs.List.{range_with_len}
 use Rattle.std.proofs.Math.Nat.{eq-or-lt_of_le}
 use Rattle.av_map.specs.Columns.{top_in, depth_in, sight_at, block_sight, light_sight, deepened, grey}
@@ -62,3 +62,21 @@ same_range f g a zero e = refl
 same_range f g a (suc n) e =
     let rest : (i : ℕ) → i < a + 1 + n → f i ≡ g i = λ i h. e i (omega arith) in
     ap (λ x. x ∷ map f (range_with_len (a + 1) n)) (e a (omega arith)) ∙ ap (λ xs. g a ∷ xs) (same_range f g (a + 1) n rest)
+
+-- ---- a block further down
+
+pub top_step : (f : ℕ → Look) (blocks block : ℕ) → 0 < block → (f (block - 1)).is_air ≡ true → top_in f block ≡ top_in f blocks → top_in f (block - 1) ≡ top_in f blocks
+top_step f blocks zero low air e = absurd (omega arith)
+top_step f blocks (suc m) low air e =
+    let back : suc m - 1 ≡ m = omega arith in
+    let here : (f m).is_air ≡ true = subst (λ k. (f k).is_air ≡ true) back air in
+    ap (top_in f) back ∙ sym (ap (λ b. cond b (top_in f m) (Some m)) here) ∙ e
+
+pub depth_step : (f : ℕ → Look) (blocks block : ℕ) → 0 < block → block ≤ blocks → (f (block - 1)).is_water ≡ true → (blocks - block) + depth_in f block ≡ depth_in f blocks
+    → (blocks - (block - 1)) + depth_in f (block - 1) ≡ depth_in f blocks
+depth_step f blocks zero low within water e = absurd (omega arith)
+depth_step f blocks (suc m) low within water e =
+    let back : suc m - 1 ≡ m = omega arith in
+    let here : (f m).is_water ≡ true = subst (λ k. (f k).is_water ≡ true) back water in
+    let deeper : depth_in f (suc m) ≡ suc (depth_in f m) = ap (λ b. cond b (suc (depth_in f m)) 0) here in
+    ap (λ k. (blocks - k) + depth_in f k) back ∙ omega (arith, deeper, within, e)

@@ -5,3 +5,4 @@ pub mod Loaded
 pub mod Denoted
 pub mod Grown
 pub mod Lit
+pub mod Bounded

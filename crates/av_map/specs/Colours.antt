@@ -12,10 +12,6 @@ pub record NamedColour : Type 0 where
   pub name : List ℕ
   pub colour : Colour
 
-infixl 10 ◌>>=◌
-abbrev pub ◌>>=◌ : {A B : Type 0} → Option A → (A → Option B) → Option B
-o >>= f = option_and_then f o
-
 -- ---- a table of colours
 
 -- red, green and blue
@@ -31,11 +27,12 @@ colour_spelled (first ∷ digits) = if first == 35 then colour_of_bytes (decode_
 -- each member is a name with a colour
 abbrev pub colours_in : Members → Option (List NamedColour)
 colours_in no_members = Some []
-colours_in (member k d ms) = (as_str d >>= colour_spelled) >>= (λ colour. colours_in ms >>= (λ more. Some (record { name = k; colour = colour } ∷ more)))
+colours_in (member k d ms) =
+    option_and_then (λ colour. option_and_then (λ more. Some (record { name = k; colour = colour } ∷ more)) (colours_in ms)) (option_and_then colour_spelled (as_str d))
 
 -- the colours that a text spells
 unfoldable pub colours_spelled : List ℕ → Option (List NamedColour)
-colours_spelled text = parse_document text >>= colours_in
+colours_spelled text = option_and_then colours_in (parse_document text)
 
 -- ---- the colour of a name
 

@@ -15,9 +15,16 @@ bytes_of _ = None
 abbrev pub array_of : List NamedTag → Option (List ℕ)
 array_of ms = tag_of (codes "BlockLight") ms >>= bytes_of
 
+-- the List `sections`
+abbrev pub sections_in : List NamedTag → List Nbt
+sections_in root = or_else [] (tag_of (codes "sections") root >>= items_of_list)
+
 -- the array `BlockLight` of the section of a number
+abbrev pub array_at : List Nbt → ℤ → Option (List ℕ)
+array_at sections y = numbered y (opened sections) >>= array_of
+
 abbrev pub light_array : List NamedTag → ℤ → Option (List ℕ)
-light_array root y = numbered y (opened (or_else [] (tag_of (codes "sections") root >>= items_of_list))) >>= array_of
+light_array root y = array_at (sections_in root) y
 
 -- the level at a place; an array of another length than 2,048 bytes holds no light
 abbrev pub level_in : Option (List ℕ) → ℕ → ℕ

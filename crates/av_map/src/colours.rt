@@ -1,11 +1,11 @@
 //! The colours of blocks, by their names.
-ghost use Rattle.std.specs.Prelude.{◌≡◌, ◌≢◌, ◌≤◌, ◌<◌, ◌^◌, IfOk, IfErr, IsUtf8, Some, None, [], codes, map};
+ghost use Rattle.std.specs.Prelude.{◌≡◌, ◌≢◌, ◌≤◌, ◌<◌, ◌^◌, IfOk, IfErr, IsUtf8, Some, None, [], ◌+◌, ◌%◌, map, option_and_then};
 ghost use Rattle.av_types.specs.declared.fault.Fault.TheVariants.{OutOfMemory, BadTable};
 ghost use Rattle.av_state.specs.States.{state_of};
 ghost use Rattle.av_state.specs.Table.{states};
 ghost use Rattle.toml.specs.Data.{as_str};
 ghost use Rattle.toml.specs.View.{view, table_view};
-ghost use Rattle.av_map.specs.Colours.{◌>>=◌, block_colour, colour_named, colour_of_bytes, colour_or, colour_spelled, colours_in, colours_spelled, letters_colour, letters_number, water_blue, water_colour};
+ghost use Rattle.av_map.specs.Colours.{block_colour, colour_named, colour_of_bytes, colour_or, colour_spelled, colours_in, colours_spelled, letters_colour, letters_number, water_blue, water_colour};
 ghost use Rattle.av_map.specs.Looks.{look_of};
 ghost use Rattle.av_map.specs.Sections.{Reads};
 ghost use Rattle.av_map.specs.Views.{all_named, colours_of, named_of};
@@ -46,7 +46,11 @@ fn colour_of_digits(digits: &[u8]) -> Option<Colour>
     ensures { result ≡ colour_of_bytes (decode_sized digits.now 3) }
 {
     match <[u8; 3] as FromHex>::from_hex(digits) {
-        Ok([red, green, blue]) => Some(Colour { red, green, blue }),
+        Ok(rgb) => Some(Colour {
+            red: rgb[0],
+            green: rgb[1],
+            blue: rgb[2],
+        }),
         Err(_) => None,
     }
 }
@@ -63,7 +67,7 @@ fn colour_of_text(text: &[u8]) -> Option<Colour>
 
 /// The colour that a value is.
 fn colour_in(value: &Value) -> Option<Colour>
-    ensures { result ≡ (as_str (view value.now) >>= colour_spelled) }
+    ensures { result ≡ option_and_then colour_spelled (as_str (view value.now)) }
 {
     match value.as_str() {
         Some(text) => colour_of_text(text.as_bytes()),

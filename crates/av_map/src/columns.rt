@@ -1,6 +1,6 @@
 //! The columns of a chunk, seen from above. A column's blocks are counted from the lowest of the height, and the columns of a
 //! chunk from the north-west, row by row.
-ghost use Rattle.std.specs.Prelude.{◌≡◌, ◌≤◌, ◌<◌, ◌+◌, ◌*◌, ℕ, get_or, length, map, slice_index, IfOk, IfSome, Some, true};
+ghost use Rattle.std.specs.Prelude.{◌≡◌, ◌≤◌, ◌<◌, ◌+◌, ◌*◌, ◌%◌, ℕ, get_or, length, map, slice_index, IfOk, IfSome, Some, true};
 ghost use Rattle.std.specs.List.{range_with_len};
 ghost use Rattle.av_map.specs.Columns.{block_sight, depth_in, light_sight, sight_at, top_in};
 ghost use Rattle.av_map.specs.Sections.{air_look, level_at, look_at, section_look, sight_by};

@@ -1,13 +1,12 @@
 //! The block light of a chunk's document.
 ghost use Rattle.std.specs.Prelude.{◌≡◌, ◌+ℤ◌, pos, [], codes, option_map, IfOk};
 ghost use Rattle.std.specs.Option.{option_copied};
-ghost use Rattle.av_nbt.specs.Place.{tag_of};
-ghost use Rattle.av_nbt.specs.Shape.{◌>>=◌, compound_of, items_of_list, or_else};
+ghost use Rattle.av_nbt.specs.Shape.{compound_of, or_else};
 ghost use Rattle.av_nbt.specs.View.{document, named_views, view, views};
 ghost use Rattle.av_document.specs.Chunk.{is_number, numbered, root_tags, section_number};
 ghost use Rattle.av_chunk.specs.Rest.{opened};
 ghost use Rattle.av_map.specs.Arrays.{arrays_of, bytes_in};
-ghost use Rattle.av_map.specs.Light.{array_of, bytes_of, light_array};
+ghost use Rattle.av_map.specs.Light.{array_at, array_of, bytes_of, sections_in};
 ghost use Rattle.av_map.specs.Sections.{AreLights};
 
 use av_nbt::{Named, Root, Tag, find};
@@ -70,7 +69,7 @@ fn section_of(sections: &[Tag], y: i32) -> Option<&[Named]>
 
 /// The tags of the List `sections`, or none.
 fn sections_of(tags: &[Named]) -> &[Tag]
-    ensures { views result.now ≡ or_else [] (tag_of (codes "sections") (named_views tags.now) >>= items_of_list) }
+    ensures { views result.now ≡ sections_in (named_views tags.now) }
 {
     match find(tags, b"sections") {
         Some(tag) => tag.as_items().unwrap_or(&[]),
@@ -80,7 +79,7 @@ fn sections_of(tags: &[Named]) -> &[Tag]
 
 /// The array of light of the section of a number.
 fn light_array(sections: &[Tag], y: i32) -> Option<&[u8]>
-    ensures { option_copied result ≡ (numbered y (opened (views sections.now)) >>= array_of) }
+    ensures { option_copied result ≡ array_at (views sections.now) y }
 {
     array_of(section_of(sections, y)?)
 }

@@ -19,5 +19,5 @@ loop-index-preserved c =
       count = ap length is ∙ length-push old (bytes_in copy) c.loop-index.index c.loop-index.invariant.count;
       each = subst (λ (l : List (Option (List ℕ))). (i : ℕ) → i < c.loop-index.index + 1 → get_or l i None ≡ light_array root (min +ℤ pos i)) (sym is)
           (each_push None (λ i o. o ≡ light_array root (min +ℤ pos i)) old (bytes_in copy) c.loop-index.index c.loop-index.invariant.count c.loop-index.invariant.each
-          (c.in_ok-copied.ensures ∙ c.light_array.ensures ∙ light_from (named_views c.args.root.now.tags.items) _ _ c.sections_of.ensures));
+          (c.in_ok-copied.ensures ∙ c.light_array.ensures ∙ light_from (named_views c.args.root.now.tags.items) _ _ c.sections_of-sections.ensures));
     }

@@ -1,8 +1,9 @@
 use Rattle.std.proofs.Common.{◌≡◌, Option, Some, None, Result, Ok, Err, IfOk, IfErr, List, ap, sym, ◌∙◌}
+use Rattle.std.specs.Prelude.{option_and_then}
 use Rattle.std.proofs.lemmas.Bool.{false≢true}
 use Rattle.av_types.specs.declared.fault.Fault.{Fault}
 use Rattle.av_types.specs.declared.fault.Fault.TheVariants.{BadTable}
-use Rattle.av_map.specs.Colours.{◌>>=◌, NamedColour, colours_in, colours_spelled}
+use Rattle.av_map.specs.Colours.{NamedColour, colours_in, colours_spelled}
 use Rattle.av_map.specs.Sections.{Reads}
 use Rattle.av_map.specs.Views.{colours_of}
 use Rattle.av_map.specs.declared.colours.Colours.{Colours}
@@ -18,13 +19,13 @@ spelled_refused U (Err x) o spelled e h = λ b u. e ∙ h.at_cause b
 
 pub returns-in-Ok-clause-ok : goal.returns-in-Ok-clause-ok
 unfolding colours_spelled
-returns-in-Ok-clause-ok c = spelled_ok c.colours_of.result _ _ (ap (λ o. o >>= colours_in) c.in-Ok.ensures.ok.1) c.colours_of.ensures
+returns-in-Ok-clause-ok c = spelled_ok c.colours_of.result _ _ (ap (option_and_then colours_in) c.in-Ok.ensures.ok.1) c.colours_of.ensures
 
 pub returns-in-Ok-clause-refused : goal.returns-in-Ok-clause-refused
 unfolding colours_spelled
-returns-in-Ok-clause-refused c = spelled_refused _ c.colours_of.result _ _ (ap (λ o. o >>= colours_in) c.in-Ok.ensures.ok.1) c.colours_of.ensures
+returns-in-Ok-clause-refused c = spelled_refused _ c.colours_of.result _ _ (ap (option_and_then colours_in) c.in-Ok.ensures.ok.1) c.colours_of.ensures
 
 pub returns-else-is_memory-clause-refused : goal.returns-else-is_memory-clause-refused
 unfolding colours_spelled
 returns-else-is_memory-clause-refused c =
-    λ b u. ap (λ o. o >>= colours_in) (c.in-Err.ensures.refused (λ m. false≢true (sym c.if-is_memory.false ∙ c.is_memory.ensures.1 m)) u)
+    λ b u. ap (option_and_then colours_in) (c.in-Err.ensures.refused (λ m. false≢true (sym c.if-is_memory.false ∙ c.is_memory.ensures.1 m)) u)

@@ -1,0 +1,30 @@
+use Rattle.std.proofs.Common.{◌≡◌, ◌≤ℤ◌, ℤ, pos, negsuc, arith, sym, subst}
+use Rattle.std.proofs.lemmas.Int.{ints}
+use Rattle.av_map.specs.Maps.{bounds_with}
+use Rattle.av_map.specs.Within.{AreWithin}
+use Rattle.av_map.specs.declared.bounds.Bounds.{Bounds}
+use Rattle.av_map.proofs.Bounded.{greater_below, greater_within, lesser_above, lesser_within}
+use Rattle.av_map.proofs.bounds.Bounds.with.Goals as goal
+
+pub returns-clause-value : goal.returns-clause-value
+returns-clause-value c = λ i. record { west = c.lesser.ensures i; east = c.greater.ensures i; north = c.lesser-2.ensures i; south = c.greater-2.ensures i }
+
+pub returns-clause-within : goal.returns-clause-within
+returns-clause-within c =
+    let s = c.args.self in
+    let at = c.args.file.now.pos in
+    let w = c.requires.within in
+    let l = c.requires.limits in
+    let x0 = lesser_within s.west at.x in
+    let x1 = greater_within s.east at.x in
+    let z0 = lesser_within s.north at.z in
+    let z1 = greater_within s.south at.z in
+    subst AreWithin (sym (returns-clause-value c))
+    (record {
+      west = lesser_above (negsuc 59999) s.west at.x w.west l.west;
+      east = greater_below (pos 60000) s.east at.x w.east l.east;
+      north = lesser_above (negsuc 59999) s.north at.z w.north l.north;
+      south = greater_below (pos 60000) s.south at.z w.south l.south;
+      across = omega (arith, ints, x0, x1);
+      down = omega (arith, ints, z0, z1);
+    })
