@@ -1,6 +1,8 @@
 -- Columns that look alike show the same.
-use Rattle.std.proofs.Common.{◌-◌, subst, ◌≡◌, ◌⊎◌, ℕ, zero, suc, ◌+◌, ◌*◌, ◌/◌, ◌<◌, ◌≤◌, List, [], ◌∷◌, ◌++◌, map, length, Option, Some, None, option_map, Bool, true, false, cond, refl, sym, ap, ◌∙◌, arith}
+use Rattle.std.proofs.Common.{inl, inr, ◌-◌, subst, ◌≡◌, ◌⊎◌, ℕ, zero, suc, ◌+◌, ◌*◌, ◌/◌, ◌<◌, ◌≤◌, List, [], ◌∷◌, ◌++◌, map, length, Option, Some, None, option_map, Bool, true, false, cond, refl, sym, ap, ◌∙◌, arith}
 use Rattle.std.specs.List.{range_with_len}
+use Rattle.std.specs.Prelude.{not}
+use Rattle.std.proofs.lemmas.Option.{same_Some}
 use Rattle.std.proofs.Math.Nat.{eq-or-lt_of_le}
 use Rattle.av_map.specs.Columns.{top_in, depth_in, sight_at, block_sight, light_sight, deepened, grey}
 use Rattle.av_map.specs.declared.look.Look.{Look}
@@ -17,11 +19,11 @@ top_above f low (suc n) h air = elim (eq-or-lt_of_le h) [
 -- the top is one of the blocks
 pub top_below : (f : ℕ → Look) (n k : ℕ) → top_in f n ≡ Some k → k < n
 top_below f zero k e = cc
-top_below f (suc n) k e = step (f n).is_air e
+top_below f (suc n) k e = step (f n).is_air (λ q. top_below f n k q) e
   where
-    step : (b : Bool) → cond b (top_in f n) (Some n) ≡ Some k → k < suc n
-    step true q = let lt = top_below f n k q in omega arith
-    step false q = let same : n ≡ k = cc in omega arith
+    step : (b : Bool) → (top_in f n ≡ Some k → k < n) → cond b (top_in f n) (Some n) ≡ Some k → k < suc n
+    step true below q = let lt = below q in omega (arith, lt)
+    step false below q = let same : n ≡ k = same_Some n k q in omega (arith, same)
 
 pub top_same : (f g : ℕ → Look) (n : ℕ) → ((k : ℕ) → k < n → f k ≡ g k) → top_in f n ≡ top_in g n
 top_same f g zero e = refl
@@ -44,7 +46,7 @@ sight_same f g k e =
     ap (λ (x : Look). shown x (depth_in f (suc k))) (e k (omega arith)) ∙ ap (shown (g k)) (depth_same f g (suc k) e)
   where
     shown : Look → ℕ → Sight
-    shown x depth = record { top = k; colour = cond x.is_water (deepened depth x.colour) x.colour; is_sloped = cond x.is_water false true }
+    shown x depth = record { top = k; colour = cond x.is_water (deepened depth x.colour) x.colour; is_sloped = not x.is_water }
 
 pub block_sight_same : (f g : ℕ → Look) (n : ℕ) → ((k : ℕ) → k < n → f k ≡ g k) → block_sight f n ≡ block_sight g n
 block_sight_same f g n e =

@@ -32,10 +32,10 @@ pub rows_short : (view : View) (named : List NamedColour) (h : Height) (files : 
     → width ≤ 1024 → All (λ row. length row.items ≤ 1024) rows
 rows_short view named h files b width n rows are narrow k d low =
     let here : get_or (patches_of rows) k [] ≡ (get_or rows k d).items = get_or-map (λ (row : Vec Patch Global). row.items) rows k d [] low in
-    let within : k < n = omega (arith, low, sym (length-map (λ (row : Vec Patch Global). row.items) rows) ∙ are.count_is) in
+    let within : k < n = omega (arith, low, sym (length-map rows (λ (row : Vec Patch Global). row.items)) ∙ are.count_is) in
     let long : length (get_or rows k d).items ≡ width = ap length (sym here) ∙ (are.each_row k within).count_is in
     omega (arith, long, narrow)
 
 pub rows_few : (view : View) (named : List NamedColour) (h : Height) (files : List RegionFile) (b : Bounds) (width n : ℕ) (rows : List (Vec Patch Global)) → ArePatches view named h files b width n (patches_of rows)
     → length rows ≡ n
-rows_few view named h files b width n rows are = sym (length-map (λ (row : Vec Patch Global). row.items) rows) ∙ are.count_is
+rows_few view named h files b width n rows are = sym (length-map rows (λ (row : Vec Patch Global). row.items)) ∙ are.count_is

@@ -1,5 +1,5 @@
 -- A chunk in memory shows what its document denotes.
-use Rattle.std.proofs.Common.{◌≡◌, ℕ, ◌+◌, ◌*◌, ◌/◌, ◌%◌, ◌<◌, ◌≤◌, ℤ, pos, ◌+ℤ◌, List, map, length, get_or, Option, Some, None, option_map, Bool, true, false, true≢false, nat_lt, cond, refl, sym, ap, ◌∙◌, subst, arith}
+use Rattle.std.proofs.Common.{zero, suc, [], ◌∷◌, ◌≡◌, ℕ, ◌+◌, ◌*◌, ◌/◌, ◌%◌, ◌<◌, ◌≤◌, ℤ, pos, ◌+ℤ◌, List, map, length, get_or, Option, Some, None, option_map, Bool, true, false, true≢false, nat_lt, cond, refl, sym, ap, ◌∙◌, subst, arith}
 use Rattle.std.specs.Prelude.{slice_get, slice_index_or, IsSome}
 use Rattle.std.specs.List.{range_with_len}
 use Rattle.std.proofs.lemmas.Int.{ints}
@@ -90,7 +90,9 @@ look_is named c h d new chunk rest l column k narrow low =
 -- ---- light
 
 past_lights : (lights : List (Option (List ℕ))) (n : ℕ) → length lights ≤ n → get_or lights n None ≡ None
-past_lights lights n h = search
+past_lights [] n h = refl
+past_lights (o ∷ lights) zero h = absurd (omega arith)
+past_lights (o ∷ lights) (suc n) h = past_lights lights n (omega arith)
 
 level_is : (root : List NamedTag) (h : Height) (lights : List (Option (List ℕ))) → AreLights root h lights → (column k : ℕ) → level_at lights column k ≡ level_of root h column k
 level_is root h lights are column k = by_test (nat_lt k (16 * h.sections)) refl

@@ -1,13 +1,18 @@
-use Rattle.std.proofs.Common.{◌≡◌, ◌≤ℤ◌, ℤ, pos, negsuc, arith, sym, subst}
+use Rattle.std.proofs.Common.{◌≡◌, ◌≤ℤ◌, ℤ, pos, negsuc, arith, rules, sym, subst, to_z, of_z, to_z-of_z, w32, FitsSigned}
 use Rattle.std.proofs.lemmas.Int.{ints}
 use Rattle.av_map.specs.Maps.{bounds_with}
 use Rattle.av_map.specs.Within.{AreWithin}
-use Rattle.av_map.specs.declared.bounds.Bounds.{Bounds}
 use Rattle.av_map.proofs.Bounded.{greater_below, greater_within, lesser_above, lesser_within}
 use Rattle.av_map.proofs.bounds.Bounds.with.Goals as goal
 
 pub returns-clause-value : goal.returns-clause-value
-returns-clause-value c = λ i. record { west = c.lesser.ensures i; east = c.greater.ensures i; north = c.lesser-2.ensures i; south = c.greater-2.ensures i }
+returns-clause-value c =
+    let f0 : FitsSigned w32 c.lesser.result = search rules in
+    let f1 : FitsSigned w32 c.greater.result = search rules in
+    let f2 : FitsSigned w32 c.lesser-2.result = search rules in
+    let f3 : FitsSigned w32 c.greater-2.result = search rules in
+    rw (to_z-of_z f0, to_z-of_z f1, to_z-of_z f2, to_z-of_z f3)
+    (λ i. record { west = c.lesser.ensures i; east = c.greater.ensures i; north = c.lesser-2.ensures i; south = c.greater-2.ensures i })
 
 pub returns-clause-within : goal.returns-clause-within
 returns-clause-within c =

@@ -3,7 +3,7 @@ use Rattle.av_map.specs.Maps.{IsPatchRow}
 use Rattle.av_map.specs.Views.{colours_of}
 use Rattle.av_map.specs.declared.patch.Patch.{Patch}
 use Rattle.av_map.proofs.Grown.{row_more}
-use Rattle.av_map.proofs.rows.Scene.patch_row.Goals as goal
+use Rattle.av_map.proofs.reading.Scene.patch_row.Goals as goal
 
 pub loop-x-preserved : goal.loop-x-preserved
 loop-x-preserved c =

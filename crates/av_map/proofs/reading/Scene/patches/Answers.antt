@@ -5,7 +5,7 @@ use Rattle.av_map.specs.Rows.{patches_of}
 use Rattle.av_map.specs.Views.{colours_of}
 use Rattle.av_map.specs.declared.patch.Patch.{Patch}
 use Rattle.av_map.proofs.Grown.{rows_more}
-use Rattle.av_map.proofs.rows.Scene.patches.Goals as goal
+use Rattle.av_map.proofs.reading.Scene.patches.Goals as goal
 
 pub loop-z-preserved : goal.loop-z-preserved
 loop-z-preserved c =
