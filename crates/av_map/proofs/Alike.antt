@@ -82,3 +82,7 @@ depth_step f blocks (suc m) low within water e =
     let here : (f m).is_water ≡ true = subst (λ k. (f k).is_water ≡ true) back water in
     let deeper : depth_in f (suc m) ≡ suc (depth_in f m) = ap (λ b. cond b (suc (depth_in f m)) 0) here in
     ap (λ k. (blocks - k) + depth_in f k) back ∙ omega (arith, deeper, within, e)
+
+pub of_not : (b : Bool) → not b ≡ false → b ≡ true
+of_not true e = refl
+of_not false e = cc

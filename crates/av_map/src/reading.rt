@@ -15,6 +15,7 @@ ghost use Rattle.av_map.specs.Looks.{look_of};
 ghost use Rattle.av_map.specs.Patches.{IsPatch, IsShown};
 ghost use Rattle.av_map.specs.Payloads.{IsDocumentPatch, IsPayloadPatch, IsReadPatch};
 ghost use Rattle.av_map.specs.Sections.{AreLightsFor, sight_by};
+ghost use Rattle.av_map.specs.declared.patch.Patch.TheVariants.{Unread};
 ghost use Rattle.av_map.specs.Views.{colours_of};
 
 use crate::colours::Colours;
@@ -35,6 +36,16 @@ pub(crate) struct Scene<'a> {
     pub view: View,
     pub colours: &'a Colours,
     pub height: Height,
+}
+
+/// What a chunk shows that has a fault, or want of memory, which is no fault of a chunk.
+fn unread(fault: Fault) -> Result<Patch, AllocError>
+    ensures { IfOk result (λ patch. (fault ≢ OutOfMemory) × (patch ≡ Unread)) }
+{
+    if fault.number() == 1 {
+        return Err(AllocError);
+    }
+    Ok(Patch::Unread)
 }
 
 impl Scene<'_> {
@@ -101,8 +112,7 @@ impl Scene<'_> {
     {
         match self.payload_patch(alloc, payload, at) {
             Ok(patch) => Ok(patch),
-            Err(Fault::OutOfMemory) => Err(AllocError),
-            Err(_) => Ok(Patch::Unread),
+            Err(fault) => unread(fault),
         }
     }
 
@@ -119,7 +129,7 @@ impl Scene<'_> {
         ensures { IfOk result (IsPatch self.now.view (colours_of self.now.colours.now) self.now.height region.now.bytes.now (chunk_at pos index) index) }
     {
         match region.payload(index) {
-            Err(_) => Ok(Patch::Unread),
+            Err(fault) => unread(fault),
             Ok(None) => Ok(Patch::Clear),
             Ok(Some(payload)) => self.read_patch(alloc, payload, pos.chunk_at(index)),
         }

@@ -53,10 +53,10 @@ impl Scene<'_> {
         let Some(file) = file_of(files, region) else {
             return Ok(Patch::Clear);
         };
-        match Region::read(file.bytes.as_slice()) {
-            Err(_) => Ok(Patch::Clear),
-            Ok(region) => self.patch_at(alloc, &region, file.pos, index),
-        }
+        let Ok(region) = Region::read(file.bytes.as_slice()) else {
+            return Ok(Patch::Clear);
+        };
+        self.patch_at(alloc, &region, file.pos, index)
     }
 
     /// What a row of chunks shows.

@@ -11,8 +11,18 @@ returns-clause-value c =
     let f1 : FitsSigned w32 c.greater.result = search rules in
     let f2 : FitsSigned w32 c.lesser-2.result = search rules in
     let f3 : FitsSigned w32 c.greater-2.result = search rules in
+    let west : FitsSigned w32 c.args.self.west = search rules in
+    let east : FitsSigned w32 c.args.self.east = search rules in
+    let north : FitsSigned w32 c.args.self.north = search rules in
+    let south : FitsSigned w32 c.args.self.south = search rules in
+    let x : FitsSigned w32 c.args.file.now.pos.x = search rules in
+    let z : FitsSigned w32 c.args.file.now.pos.z = search rules in
+    let e0 = rw (to_z-of_z west, to_z-of_z x) at c.lesser.ensures in
+    let e1 = rw (to_z-of_z east, to_z-of_z x) at c.greater.ensures in
+    let e2 = rw (to_z-of_z north, to_z-of_z z) at c.lesser-2.ensures in
+    let e3 = rw (to_z-of_z south, to_z-of_z z) at c.greater-2.ensures in
     rw (to_z-of_z f0, to_z-of_z f1, to_z-of_z f2, to_z-of_z f3)
-    (λ i. record { west = c.lesser.ensures i; east = c.greater.ensures i; north = c.lesser-2.ensures i; south = c.greater-2.ensures i })
+    (λ i. record { west = e0 i; east = e1 i; north = e2 i; south = e3 i })
 
 pub returns-clause-within : goal.returns-clause-within
 returns-clause-within c =

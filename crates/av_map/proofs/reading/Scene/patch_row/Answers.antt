@@ -12,4 +12,4 @@ loop-x-preserved c =
     let files = c.args.files.now in
     let P : List Patch → Type 0 = λ row. IsPatchRow s.view named s.height files c.args.bounds c.args.z (c.loop-x.x + 1) row in
     subst P (sym c.in_ok-push.ensures.items)
-    (row_more s.view named s.height files c.args.bounds c.args.z c.loop-x.x c.loop-x.row.items c.in_ok-patch.field-0 c.loop-x.invariant (rw c.region_at.ensures at c.in_ok-patch.ensures))
+    (row_more s.view named s.height files c.args.bounds c.args.z c.loop-x.x c.loop-x.row.items c.in_ok-patch.field-0 c.loop-x.invariant (rw c.region_at-region.ensures at c.in_ok-patch.ensures))
