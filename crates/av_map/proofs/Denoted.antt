@@ -1,5 +1,5 @@
 -- From a document to what stands at an index of a file.
-use Rattle.std.proofs.Common.{◌≡◌, ℕ, List, map, Option, Some, subst}
+use Rattle.std.proofs.Common.{ℕ, List, map, Option, Some, subst}
 use Rattle.std.specs.List.{range_with_len}
 use Rattle.av_types.specs.declared.place.ChunkPos.{ChunkPos}
 use Rattle.av_types.specs.declared.place.Height.{Height}

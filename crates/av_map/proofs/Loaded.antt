@@ -1,6 +1,6 @@
 -- A chunk in memory shows what its document denotes.
 use Rattle.std.proofs.Common.{zero, suc, [], ◌∷◌, ◌≡◌, ℕ, ◌+◌, ◌*◌, ◌/◌, ◌%◌, ◌<◌, ◌≤◌, ℤ, pos, ◌+ℤ◌, List, map, length, get_or, Option, Some, None, option_map, Bool, true, false, true≢false, nat_lt, cond, refl, sym, ap, ◌∙◌, subst, arith}
-use Rattle.std.specs.Prelude.{slice_get, slice_index_or, IsSome}
+use Rattle.std.specs.Prelude.{slice_get, IsSome}
 use Rattle.std.specs.List.{range_with_len}
 use Rattle.std.proofs.lemmas.Int.{ints}
 use Rattle.std.proofs.lemmas.Option.{slice_get-map, get_or_from_slice_get}
@@ -8,7 +8,6 @@ use Rattle.av_types.specs.Division.{divided, remainder}
 use Rattle.av_types.specs.Places.{is_section_of, place_of}
 use Rattle.av_types.specs.declared.place.ChunkPos.{ChunkPos}
 use Rattle.av_types.specs.declared.place.Height.{Height}
-use Rattle.av_types.specs.declared.place.Pos.{Pos}
 use Rattle.av_nbt.specs.Nbt.{Document, NamedTag}
 use Rattle.av_nbt.specs.Shape.{◌>>=◌, or_else}
 use Rattle.av_state.specs.BlockState.{BlockState, air}
@@ -17,11 +16,9 @@ use Rattle.av_section.specs.Section.{number_at}
 use Rattle.av_section.specs.declared.section.Section.{Section}
 use Rattle.av_document.specs.Chunk.{root_tags}
 use Rattle.av_document.specs.Layout.{block_at}
-use Rattle.av_document.specs.Ticks.{lies_in}
 use Rattle.av_document.proofs.Positions.{coordinate, divided-coordinate, remainder-coordinate, place-parts, lies_in-block_at}
 use Rattle.av_chunk.specs.Reading.{IsLoaded}
-use Rattle.av_chunk.specs.Rest.{offset_of}
-use Rattle.av_chunk.specs.Views.{section_in, number_in, state_in, cells_of}
+use Rattle.av_chunk.specs.Views.{section_in, state_in, cells_of}
 use Rattle.av_chunk.proofs.Heights.{offset_at}
 use Rattle.av_chunk.specs.declared.chunk.Chunk.{Chunk}
 use Rattle.av_chunk.specs.declared.rest.ChunkRest.{ChunkRest}
@@ -29,9 +26,8 @@ use Rattle.av_map.specs.Colours.{NamedColour}
 use Rattle.av_map.specs.Columns.{block_sight, light_sight}
 use Rattle.av_map.specs.Light.{level_in, level_of, light_array}
 use Rattle.av_map.specs.Looks.{look_of}
-use Rattle.av_map.specs.Patches.{block_in, looks_in, sight_in, sights_in}
+use Rattle.av_map.specs.Patches.{looks_in, sight_in, sights_in}
 use Rattle.av_map.specs.Sections.{AreLights, AreLightsFor, air_look, level_at, look_at, section_look, sight_by}
-use Rattle.av_map.specs.declared.look.Look.{Look}
 use Rattle.av_map.specs.declared.view.View.{View}
 use Rattle.av_map.specs.declared.view.View.TheVariants.{Blocks, Light}
 use Rattle.av_map.proofs.Alike.{block_sight_same, light_sight_same, same_range}

@@ -1,5 +1,5 @@
 -- What a column of blocks shows from above. Its blocks are counted from the lowest of the height, which is block 0.
-use Rattle.std.specs.Prelude.{ℕ, zero, suc, ◌-◌, ◌*◌, min, Option, Some, None, Bool, false, not, option_map, if◌then◌else◌}
+use Rattle.std.specs.Prelude.{ℕ, zero, suc, ◌-◌, ◌*◌, min, Option, Some, None, false, not, option_map, if◌then◌else◌}
 use Rattle.av_map.specs.declared.colour.Colour.{Colour}
 use Rattle.av_map.specs.declared.look.Look.{Look}
 use Rattle.av_map.specs.declared.sight.Sight.{Sight}

@@ -1,5 +1,5 @@
 -- The picture of a world from above.
-use Rattle.std.specs.Prelude.{◌≡◌, ◌≢◌, ℕ, ◌+◌, ◌*◌, ◌/◌, ◌%◌, ◌<◌, ◌≤◌, ℤ, pos, negsuc, ◌+ℤ◌, ◌-ℤ◌, ◌≤ℤ◌, ◌<ℤ◌, List, [], ◌∷◌, length, Option, Some, None, Bool, get_or, if◌then◌else◌, nat_abs, nat_lt, nat_le, ◌&&◌, int_lt, fold}
+use Rattle.std.specs.Prelude.{◌≡◌, ◌≢◌, ℕ, ◌+◌, ◌*◌, ◌/◌, ◌%◌, ◌<◌, ◌≤◌, ℤ, pos, ◌+ℤ◌, ◌-ℤ◌, List, [], ◌∷◌, length, Option, Some, None, Bool, get_or, if◌then◌else◌, nat_abs, nat_le, ◌&&◌, int_lt, fold}
 use Rattle.std.specs.List.{sum_by}
 use Rattle.av_types.specs.Places.{chunk_at}
 use Rattle.av_types.specs.declared.fault.Fault.TheVariants.{OutOfMemory}

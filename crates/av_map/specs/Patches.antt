@@ -1,5 +1,5 @@
 -- What a chunk shows from above: its 256 columns, row by row from the north, each row from the west.
-use Rattle.std.specs.Prelude.{◌≡◌, ℕ, ◌+◌, ◌*◌, ◌/◌, ◌%◌, pos, ◌+ℤ◌, List, map, Option, Some, None, false}
+use Rattle.std.specs.Prelude.{◌≡◌, ℕ, ◌+◌, ◌*◌, ◌/◌, ◌%◌, pos, ◌+ℤ◌, List, map, Option, None, false}
 use Rattle.std.specs.List.{range_with_len}
 use Rattle.av_types.specs.declared.fault.Fault.{Fault}
 use Rattle.av_types.specs.declared.place.ChunkPos.{ChunkPos}

@@ -1,7 +1,6 @@
 -- Working definitions. No public clause cites them.
 -- What is seen of the sections of a chunk in memory, and what the readers of a table of colours answer.
-use Rattle.std.specs.Prelude.{◌≡◌, ◌≢◌, ◌≤◌, ◌<◌, ℕ, ◌+◌, ◌*◌, ◌/◌, ◌%◌, ℤ, pos, ◌+ℤ◌, List, length, map, Option, Some, None, get_or, option_map, true, false, Result, MatchResult}
-use Rattle.std.specs.List.{range_with_len}
+use Rattle.std.specs.Prelude.{◌≡◌, ◌≢◌, ◌<◌, ℕ, ◌+◌, ◌*◌, ◌/◌, ◌%◌, pos, ◌+ℤ◌, List, length, Option, Some, None, get_or, true, false, Result, MatchResult}
 use Rattle.av_types.specs.declared.fault.Fault.{Fault}
 use Rattle.av_types.specs.declared.fault.Fault.TheVariants.{OutOfMemory, BadTable}
 use Rattle.av_types.specs.declared.place.Height.{Height}

@@ -1,6 +1,6 @@
 -- Working definitions. No public clause cites them.
 -- Bounds of regions within the limits.
-use Rattle.std.specs.Prelude.{ℕ, pos, negsuc, ◌≤ℤ◌}
+use Rattle.std.specs.Prelude.{pos, negsuc, ◌≤ℤ◌}
 use Rattle.av_map.specs.declared.bounds.Bounds.{Bounds}
 
 pub record AreWithin (b : Bounds) : Type 0 where

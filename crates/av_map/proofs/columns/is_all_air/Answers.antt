@@ -1,4 +1,4 @@
-use Rattle.std.proofs.Common.{◌≡◌, ◌<◌, ◌∙◌, ℕ, Option, get_or, true, ap, subst, sym}
+use Rattle.std.proofs.Common.{◌≡◌, ◌∙◌, Option, get_or, true, ap, subst, sym}
 use Rattle.av_section.specs.declared.section.Section.{Section}
 use Rattle.av_map.specs.Sections.{air_look, section_look}
 use Rattle.av_map.proofs.columns.is_all_air.Goals as goal

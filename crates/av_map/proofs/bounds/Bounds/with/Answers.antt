@@ -1,6 +1,5 @@
-use Rattle.std.proofs.Common.{◌≡◌, ◌≤ℤ◌, ℤ, pos, negsuc, arith, rules, sym, subst, to_z, of_z, to_z-of_z, w32, FitsSigned}
+use Rattle.std.proofs.Common.{pos, negsuc, arith, rules, sym, subst, to_z-of_z, w32, FitsSigned}
 use Rattle.std.proofs.lemmas.Int.{ints}
-use Rattle.av_map.specs.Maps.{bounds_with}
 use Rattle.av_map.specs.Within.{AreWithin}
 use Rattle.av_map.proofs.Bounded.{greater_below, greater_within, lesser_above, lesser_within}
 use Rattle.av_map.proofs.bounds.Bounds.with.Goals as goal

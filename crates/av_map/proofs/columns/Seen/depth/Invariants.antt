@@ -1,4 +1,4 @@
-use Rattle.std.proofs.Common.{◌≡◌, ◌≤◌, ◌+◌, ◌-◌, ℕ}
+use Rattle.std.proofs.Common.{◌≡◌, ◌≤◌, ◌+◌, ◌-◌}
 use Rattle.av_map.specs.Columns.{depth_in}
 use Rattle.av_map.specs.Sections.{look_at}
 use Rattle.av_map.proofs.columns.Seen.depth.Given as goal

@@ -1,4 +1,3 @@
-use Rattle.std.proofs.Common.{List, Option, Vec, Global, ℕ, subst}
 use Rattle.av_nbt.specs.View.{document}
 use Rattle.av_state.specs.StateList.{first_states}
 use Rattle.av_state.specs.Table.{states}
