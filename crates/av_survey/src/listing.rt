@@ -64,7 +64,7 @@ fn sorted(files: Vec<RegionFile>) -> Result<Vec<RegionFile>, AllocError>
 }
 
 /// At most 1,024 files of regions within the limits, each region once, in their order.
-pub(crate) fn judged(files: Vec<RegionFile>) -> Result<Vec<RegionFile>, Fault>
+pub fn judged(files: Vec<RegionFile>) -> Result<Vec<RegionFile>, Fault>
     ensures ok { IfOk result (λ fs. IsListInOrder files.items fs.items) }
     ensures err { IfErr result (λ e. e ≢ OutOfMemory → IsListFault files.items e) }
 {
