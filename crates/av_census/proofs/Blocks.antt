@@ -1,10 +1,12 @@
 -- The blocks of sections, counted one after the other.
-use Rattle.std.proofs.Common.{◌≡◌, ℕ, zero, suc, ◌+◌, ◌*◌, ◌<◌, ◌≤◌, List, [], ◌∷◌, map, length, replicate, slice_index, length-set, Option, Some, None, refl, sym, ap, ◌∙◌, subst, arith}
+use Rattle.std.proofs.Common.{◌≡◌, ℕ, zero, suc, ◌+◌, ◌*◌, ◌<◌, ◌≤◌, List, [], ◌∷◌, map, length, replicate, slice_index, length-set, ◌==◌, true, ℤ, Option, Some, None, refl, sym, ap, ◌∙◌, subst, arith}
 use Rattle.std.specs.Prelude.{slice_index_or, slice_set, IfSome}
 use Rattle.std.specs.List.{range_with_len}
+use Rattle.std.proofs.lemmas.Bool.Decides.{Decides-eqb}
+use Rattle.av_pack.specs.Packing.{packed_at}
 use Rattle.av_state.specs.BlockState.{BlockState, air}
 use Rattle.av_state.specs.StateList.{same_state}
-use Rattle.av_section.specs.Section.{number_at, HasNumbersBelow, section_states}
+use Rattle.av_section.specs.Section.{number_at, HasNumbersBelow, section_states, AreParts}
 use Rattle.av_section.specs.declared.section.Section.{Section}
 use Rattle.av_census.specs.Census.{times, joined}
 use Rattle.av_census.specs.Counting.{weighed, first_places, CountsMore, slot_states, slots_states, AreSlotCounts}
@@ -87,3 +89,23 @@ slots-next slots count n now new before more = record {
       add_same (weighed s table new) (weighed s table now) (times s (slots_states table slots n)) (times s (slots_states table slots (n + 1))) (times s (slot_states table (slice_index_or slots n None)))
       (more.counts table s (e ∙ sym before.long)) (before.counts table s e) (times-joined s (λ k. slot_states table (slice_index_or slots k None)) n);
 }
+
+-- ---- a section of one state
+
+no_longs : (xs : List ℤ) → (length xs == 0) ≡ true → xs ≡ []
+no_longs [] h = refl
+no_longs (x ∷ xs) h =
+    let e : length (x ∷ xs) ≡ 0 = (Decides-eqb (length (x ∷ xs)) 0).0 h in
+    absurd (omega (arith, e))
+
+pub has_entry : (s : Section) (palette : List ℕ) (longs : List ℤ) (bits : ℕ) → AreParts s palette longs bits → 0 < length palette
+has_entry s palette longs bits parts =
+    let first = parts.packed.below 0 (omega arith) in
+    omega (arith, first)
+
+pub one_number : (s : Section) (palette : List ℕ) (longs : List ℤ) (bits : ℕ) → AreParts s palette longs bits → (length longs == 0) ≡ true → (i : ℕ) → i < 4096 → number_at s i ≡ slice_index palette 0
+one_number s palette longs bits parts none i low =
+    let one : length palette ≡ 1 = parts.packed.one (no_longs longs none) in
+    let within = parts.packed.below i low in
+    let zero : packed_at bits longs i ≡ 0 = omega (arith, one, within) in
+    parts.numbers i low ∙ ap (slice_index palette) zero

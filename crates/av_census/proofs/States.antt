@@ -1,6 +1,6 @@
 -- The order of states ties where they are the same, and what a tally holds of each.
 use Rattle.std.proofs.Common.{◌≡◌, ◌≢◌, ℕ, zero, suc, ◌+◌, ◌<◌, ◌≤◌, ◌&&◌, List, [], ◌∷◌, map, Bool, true, false, true≢false, cond, Option, Some, None, refl, sym, ap, ◌∙◌, subst, arith, All}
-use Rattle.std.specs.Prelude.{IfSome, if◌then◌else◌}
+use Rattle.std.specs.Prelude.{IfSome}
 use Rattle.std.specs.BTreeMap.{BTreeMap, get, is_at}
 use Rattle.std.specs.Cmp.{IsTotalOrder, IsEquivalence}
 use Rattle.std.specs.Cmp.Lexicographic.{slice_cmp, pointwise}
@@ -125,6 +125,14 @@ module _ (old new : BTreeMap State ℕ) (k key : State) (same_key : state_of key
       positive s fine true e = subst (λ (o : Option ℕ). IfSome o (λ n. 0 < n)) (sym (there s (at_tie s e))) (omega (arith, some))
       positive s fine false e = subst (λ (o : Option ℕ). IfSome o (λ n. 0 < n)) (sym (elsewhere s e)) fine
 
+-- a state that was not there
+pub tallies_new : (old mid new : BTreeMap State ℕ) (k key : State) (more : ℕ) → state_of key ≡ state_of k → mid.entries ≡ old.entries → get state_order old k ≡ None → get state_order new key ≡ Some more
+    → ((s : State) → is_at (state_order key) s ≡ false → get state_order new s ≡ get state_order mid s) → 0 < more → Tallies old new (λ s. when (same_state s (state_of k)) more)
+tallies_new old mid new k key more same_key same absent here others some =
+    let none : tallied old k ≡ 0 = ap (λ o. unwrap_or o 0) absent in
+    let total : more ≡ tallied old k + more = omega (arith, none) in
+    tallies_one old new k key same_key more (here ∙ ap Some total) (λ s apart. others s apart ∙ ap (λ es. lookup (is_at (state_order s)) es) same) some
+
 -- nothing was added
 pub tallies_same : (m : BTreeMap State ℕ) (more : BlockState → ℕ) → ((s : BlockState) → more s ≡ 0) → Tallies m m more
 tallies_same m more none = record {
@@ -137,9 +145,9 @@ tallies_same m more none = record {
 
 -- one after the other
 pub tallies_then : (old now new : BTreeMap State ℕ) (f g h : BlockState → ℕ) → Tallies old now f → Tallies now new g → ((s : BlockState) → h s ≡ f s + g s) → Tallies old new h
-tallies_then old now new f g h first then both = record {
-  counts = λ s. sum (tallied new s) (tallied now s) (tallied old s) (f (state_of s)) (g (state_of s)) (h (state_of s)) (then.counts s) (first.counts s) (both (state_of s));
-  sound = λ fine. then.sound (first.sound fine);
+tallies_then old now new f g h first second both = record {
+  counts = λ s. sum (tallied new s) (tallied now s) (tallied old s) (f (state_of s)) (g (state_of s)) (h (state_of s)) (second.counts s) (first.counts s) (both (state_of s));
+  sound = λ fine. second.sound (first.sound fine);
 }
   where
     sum : (a b c x y z : ℕ) → a ≡ b + y → b ≡ c + x → z ≡ x + y → a ≡ c + z

@@ -18,10 +18,7 @@ pub(crate) enum Counted {
     /// No blocks.
     Nothing,
     /// So many blocks of each number of a table.
-    Blocks {
-        table: StateTable,
-        counts: Vec<u64>,
-    },
+    Blocks { table: StateTable, counts: Vec<u64> },
     /// A chunk with a fault.
     LeftOut,
 }

@@ -52,7 +52,9 @@ fn add(tally: &mut Tally, state: &State, more: u64) -> Result<(), AllocError>
     if raise(tally, state, more) {
         return Ok(());
     }
-    add_state(tally, state.clone()?, more)
+    let key = state.clone()?;
+    add_state(tally, key, more)?;
+    Ok(())
 }
 
 /// Counts more blocks of a state, of which there may be none.
@@ -63,7 +65,8 @@ fn add_some(tally: &mut Tally, state: &State, more: u64) -> Result<(), AllocErro
     if more == 0 {
         return Ok(());
     }
-    add(tally, state, more)
+    add(tally, state, more)?;
+    Ok(())
 }
 
 /// Counts blocks by the counts of their numbers, which are those of a table.

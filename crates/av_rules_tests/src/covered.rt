@@ -42,7 +42,14 @@ fn a_row_covers_its_own_states(rt: HostRuntime) -> Result<(), Fail> {
     let rules = Rules::read(alloc, TABLE)?;
     let lit = [("facing", "north"), ("lit", "true")];
     expect_row(&rt, alloc, &rules, "minecraft:furnace", &lit, true)?;
-    expect_row(&rt, alloc, &rules, "minecraft:furnace", &[("lit", "false")], false)?;
+    expect_row(
+        &rt,
+        alloc,
+        &rules,
+        "minecraft:furnace",
+        &[("lit", "false")],
+        false,
+    )?;
     expect_row(&rt, alloc, &rules, "minecraft:furnace", &[], false)?;
     expect_row(&rt, alloc, &rules, "minecraft:stone", &[], true)?;
     expect_row(&rt, alloc, &rules, "minecraft:ston", &[], false)?;
@@ -54,7 +61,14 @@ fn air_and_water_are_built_in(rt: HostRuntime) -> Result<(), Fail> {
     let alloc = rt.alloc();
     let rules = Rules::read(alloc, TABLE)?;
     expect_row(&rt, alloc, &rules, "minecraft:air", &[], true)?;
-    expect_row(&rt, alloc, &rules, "minecraft:water", &[("level", "3")], true)?;
+    expect_row(
+        &rt,
+        alloc,
+        &rules,
+        "minecraft:water",
+        &[("level", "3")],
+        true,
+    )?;
     // soaked by its property, and without a row all the same
     let soaked = [("waterlogged", "true")];
     expect_row(&rt, alloc, &rules, "minecraft:oak_slab", &soaked, false)?;
