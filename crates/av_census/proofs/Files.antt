@@ -1,5 +1,5 @@
 -- The blocks of regions and files, counted one after the other.
-use Rattle.std.proofs.Common.{◌≡◌, ℕ, zero, suc, ◌+◌, ◌*◌, ◌<◌, ◌≤◌, Bool, true, false, cond, List, [], ◌∷◌, ◌++◌, length, length-append, Some, None, refl, sym, ap, ◌∙◌, subst, arith, All, append_assoc}
+use Rattle.std.proofs.Common.{◌≡◌, ℕ, zero, suc, ◌+◌, ◌*◌, ◌<◌, ◌≤◌, Bool, true, false, cond, List, [], ◌∷◌, ◌++◌, length, length-append, Some, None, refl, sym, ap, ◌∙◌, subst, arith, All, append_assoc, Vec, Global}
 use Rattle.std.specs.Prelude.{IfSome}
 use Rattle.std.specs.BTreeMap.{BTreeMap, get, is_at, IsEmpty}
 use Rattle.std.specs.Map.{lookup}
@@ -12,17 +12,19 @@ use Rattle.av_types.specs.declared.place.RegionPos.{RegionPos}
 use Rattle.av_region.specs.Region.{IsShort}
 use Rattle.av_state.specs.BlockState.{BlockState}
 use Rattle.av_state.specs.States.{state_of}
+use Rattle.av_state.specs.Table.{states}
+use Rattle.av_state.specs.declared.table.StateTable.{StateTable}
 use Rattle.av_state.specs.declared.state.State.{State}
 use Rattle.av_ticks.specs.Order.{inserted, ordered}
 use Rattle.std.specs.declared.cmp.Ordering.{Ordering}
 use Rattle.std.specs.Ordering.{is_lt}
 use Rattle.av_sink.specs.declared.files.RegionFile.{RegionFile}
 use Rattle.av_census.specs.Census.{state_order, times, HasBlocksAt, HasBlocksUpTo, HasBlocks, short, whole, HaveBlocks}
-use Rattle.av_census.specs.Counting.{tallied, HasNoZero, Tallies, HasRoom, IsCountOf, IsAdded, IsCountedAt, TalliesAt, TalliesUpTo, TalliesFile, TalliesFiles}
+use Rattle.av_census.specs.Counting.{weighed, tallied, HasNoZero, Tallies, HasRoom, IsCountOf, AreFew, IsAdded, IsCountedAt, TalliesAt, TalliesUpTo, TalliesFile, TalliesFiles}
 use Rattle.av_census.specs.declared.places.Counted.{Counted}
 use Rattle.av_census.specs.declared.places.Counted.TheVariants.{Nothing, Blocks, LeftOut}
 use Rattle.av_census.proofs.Chunks.{times-le}
-use Rattle.av_census.proofs.States.{tallies_same, tallies_then}
+use Rattle.av_census.proofs.States.{tallies_same, tallies_then, tallies_as}
 use Rattle.av_census.proofs.Weighing.{times-append}
 
 -- how many are left out at a place
@@ -30,6 +32,32 @@ one_at_most : (counted : Counted) (blocks : List BlockState) (n : ℕ) → IsCou
 one_at_most Nothing blocks n is = let e = is.1 in omega (arith, e)
 one_at_most (Blocks table counts) blocks n is = let e = is.0 in omega (arith, e)
 one_at_most LeftOut blocks n is = let e = is.1 in omega (arith, e)
+
+pub added_nothing : (m : BTreeMap State ℕ) (blocks : List BlockState) (n : ℕ) → IsCountOf blocks n Nothing → IsAdded m m blocks n 0
+added_nothing m blocks n is = record {
+  answer = sym is.1;
+  adds = subst (λ (xs : List BlockState). Tallies m m (λ s. times s xs)) (sym is.0) (tallies_same m (λ s. times s []) (λ s. refl));
+}
+
+pub added_left_out : (m : BTreeMap State ℕ) (blocks : List BlockState) (n : ℕ) → IsCountOf blocks n LeftOut → IsAdded m m blocks n 1
+added_left_out m blocks n is = record {
+  answer = sym is.1;
+  adds = subst (λ (xs : List BlockState). Tallies m m (λ s. times s xs)) (sym is.0) (tallies_same m (λ s. times s []) (λ s. refl));
+}
+
+pub added_blocks : (old new : BTreeMap State ℕ) (blocks : List BlockState) (n : ℕ) (table : StateTable) (counts : Vec ℕ Global) → IsCountOf blocks n (Blocks table counts)
+    → Tallies old new (λ s. weighed s (states table) counts.items) → IsAdded old new blocks n 0
+added_blocks old new blocks n table counts is adds = record {
+  answer = sym is.0;
+  adds = tallies_as old new (λ s. weighed s (states table) counts.items) (λ s. times s blocks) adds is.2;
+}
+
+pub blocks_room : (old : BTreeMap State ℕ) (table : StateTable) (counts : Vec ℕ Global) → AreFew (Blocks table counts) → HasRoom old 262144
+    → (s : State) → tallied old s + weighed (state_of s) (states table) counts.items < 18446744073709551616
+blocks_room old table counts few room s =
+    let most = few.1 (state_of s) in
+    let free = room s in
+    omega (arith, most, free)
 
 pub tallies_place : (h : Height) (file : List ℕ) (c : ChunkPos) (index : ℕ) (old new : BTreeMap State ℕ) (counted : Counted) (left_out : ℕ) (i : IsCountedAt h file c index counted)
     → IsAdded old new i.blocks i.left_out left_out → TalliesAt h file c index old new left_out
