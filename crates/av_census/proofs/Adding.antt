@@ -1,5 +1,5 @@
 -- Counts of a table, added to a tally, and a tally as a list.
-use Rattle.std.proofs.Common.{◌≡◌, ℕ, zero, suc, ◌+◌, ◌<◌, ◌≤◌, List, [], ◌∷◌, ◌++◌, map, length, take, Bool, true, false, cond, Option, Some, None, refl, sym, ap, ◌∙◌, subst, arith, All, slice_index}
+use Rattle.std.proofs.Common.{◌≡◌, ℕ, zero, suc, ◌+◌, ◌^◌, ◌<◌, ◌≤◌, List, [], ◌∷◌, ◌++◌, map, length, take, Bool, true, false, cond, Option, Some, None, refl, sym, ap, ◌∙◌, subst, arith, All, slice_index}
 use Rattle.std.specs.Prelude.{slice_get, IfSome}
 use Rattle.std.specs.BTreeMap.{BTreeMap, get, is_at, IsOrdered}
 use Rattle.std.specs.List.Sorted.{IsStrictlySortedBy}
@@ -37,8 +37,8 @@ own t m = ap (λ b. when b m) (same_state-refl t)
 
 -- there is room for the count of a number
 pub has_room : (old now : BTreeMap State ℕ) (k : State) (table : List BlockState) (counts : List ℕ) (n : ℕ) → n < length counts → slice_get table n ≡ Some (state_of k)
-    → Tallies old now (λ s. weighed s (take n table) (take n counts)) → tallied old k + weighed (state_of k) table counts < 18446744073709551616
-    → tallied now k + slice_index counts n < 18446744073709551616
+    → Tallies old now (λ s. weighed s (take n table) (take n counts)) → tallied old k + weighed (state_of k) table counts < 2 ^ 64
+    → tallied now k + slice_index counts n < 2 ^ 64
 has_room old now k table counts n low there before room =
     let t = state_of k in
     let more = weighed-more t t table counts n low there in
@@ -46,7 +46,7 @@ has_room old now k table counts n low there before room =
     room_by (tallied now k) (tallied old k) (weighed t (take n table) (take n counts)) (weighed t (take (n + 1) table) (take (n + 1) counts)) (when (same_state t t) (slice_index counts n)) (slice_index counts n) (weighed t table counts)
     (before.counts k) more (own t (slice_index counts n)) most room
   where
-    room_by : (a b x y w m z : ℕ) → a ≡ b + x → y ≡ x + w → w ≡ m → y ≤ z → b + z < 18446744073709551616 → a + m < 18446744073709551616
+    room_by : (a b x y w m z : ℕ) → a ≡ b + x → y ≡ x + w → w ≡ m → y ≤ z → b + z < 2 ^ 64 → a + m < 2 ^ 64
     room_by a b x y w m z e f g h l = omega (arith, e, f, g, h, l)
 
 -- ---- a tally as a list

@@ -1,5 +1,5 @@
 -- The blocks of regions and files, counted one after the other.
-use Rattle.std.proofs.Common.{◌≡◌, ℕ, zero, suc, ◌+◌, ◌*◌, ◌<◌, ◌≤◌, Bool, true, false, cond, List, [], ◌∷◌, ◌++◌, length, length-append, Some, None, refl, sym, ap, ◌∙◌, subst, arith, All, append_assoc, Vec, Global}
+use Rattle.std.proofs.Common.{◌≡◌, ℕ, zero, suc, ◌+◌, ◌*◌, ◌^◌, ◌<◌, ◌≤◌, Bool, true, false, cond, List, [], ◌∷◌, ◌++◌, length, length-append, Some, None, refl, sym, ap, ◌∙◌, subst, arith, All, append_assoc, Vec, Global}
 use Rattle.std.specs.Prelude.{IfSome}
 use Rattle.std.specs.BTreeMap.{BTreeMap, get, is_at, IsEmpty}
 use Rattle.std.specs.Map.{lookup}
@@ -53,7 +53,7 @@ added_blocks old new blocks n table counts is adds = record {
 }
 
 pub blocks_room : (old : BTreeMap State ℕ) (table : StateTable) (counts : Vec ℕ Global) → AreFew (Blocks table counts) → HasRoom old 262144
-    → (s : State) → tallied old s + weighed (state_of s) (states table) counts.items < 18446744073709551616
+    → (s : State) → tallied old s + weighed (state_of s) (states table) counts.items < 2 ^ 64
 blocks_room old table counts few room s =
     let most = few.1 (state_of s) in
     let free = room s in

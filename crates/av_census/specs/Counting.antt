@@ -1,6 +1,6 @@
 -- Working definitions. No public clause cites them.
 -- Blocks that are counted: by the numbers of their states, and by their states.
-use Rattle.std.specs.Prelude.{◌≡◌, ◌≢◌, ℕ, ◌+◌, ◌*◌, ◌<◌, ◌≤◌, List, [], ◌∷◌, length, map, Option, Some, None, IfSome, slice_index, slice_index_or, if◌then◌else◌}
+use Rattle.std.specs.Prelude.{◌≡◌, ℕ, ◌+◌, ◌*◌, ◌^◌, ◌<◌, ◌≤◌, List, [], ◌∷◌, length, map, Option, Some, None, IfSome, slice_index, slice_index_or, if◌then◌else◌}
 use Rattle.std.specs.BTreeMap.{BTreeMap, get}
 use Rattle.std.specs.List.{range_with_len}
 use Rattle.std.specs.Option.{unwrap_or}
@@ -87,7 +87,7 @@ pub record IsAdded (old new : BTreeMap State ℕ) (blocks : List BlockState) (n 
 
 -- there is room for so many more blocks
 abbrev pub HasRoom : BTreeMap State ℕ → ℕ → Type 0
-HasRoom m n = (s : State) → tallied m s + n < 18446744073709551616
+HasRoom m n = (s : State) → tallied m s + n < 2 ^ 64
 
 -- ---- places
 

@@ -3,7 +3,7 @@ use Rattle.av_state.specs.StateList.{first_states}
 use Rattle.av_state.specs.Table.{states}
 use Rattle.av_chunk.proofs.Found.{if_ok_then}
 use Rattle.av_chunk.specs.Payload.{IsPayloadReading}
-use Rattle.av_chunk.specs.Reading.{IsLoaded}
+use Rattle.av_chunk.specs.Reading.{IsLoaded, IsKept}
 use Rattle.av_census.specs.Counting.{IsCountedIn}
 use Rattle.av_census.proofs.Chunks.{kept_in, loaded_in, faulty_in, slots_below, few_sections}
 use Rattle.av_census.proofs.places.counted_in.Goals as goal
