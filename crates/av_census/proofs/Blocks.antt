@@ -18,11 +18,14 @@ add_up a b c d e x f g h = omega (arith, f, g, h)
 add_same : (a b d e x : ℕ) → a ≡ b + x → b ≡ d → e ≡ d + x → a ≡ e
 add_same a b d e x f g h = omega (arith, f, g, h)
 
+add_none : (n : ℕ) → n ≡ n + 0
+add_none n = omega arith
+
 pub counts-none : (old : List ℕ) (s : Section) → CountsMore old old (λ table. first_places table s 0) 0
 counts-none old s = record {
   long = refl;
   bound = λ k. omega arith;
-  counts = λ table t e. omega arith;
+  counts = λ table t e. add_none (weighed t table old);
 }
 
 -- one more place
@@ -30,9 +33,9 @@ pub counts-next : (old now new : List ℕ) (s : Section) (n : ℕ) → CountsMor
     → new ≡ slice_set now (number_at s n) (slice_index now (number_at s n) + 1) → CountsMore old new (λ table. first_places table s (n + 1)) (n + 1)
 counts-next old now new s n before low is =
     let m = number_at s n in
-    let at = ap (λ xs. length xs) is ∙ length-set now m (slice_index now m + 1) in
+    let same_length = ap (λ (xs : List ℕ). length xs) is ∙ length-set now m (slice_index now m + 1) in
     record {
-      long = at ∙ before.long;
+      long = same_length ∙ before.long;
       bound = λ k.
           let one : slice_index new k ≤ slice_index now k + 1 = subst (λ (xs : List ℕ). slice_index xs k ≤ slice_index now k + 1) (sym is) (raised-le now m 1 k) in
           let most = before.bound k in
@@ -48,7 +51,7 @@ counts-next old now new s n before low is =
 pub counts-same : (old new : List ℕ) (s : Section) (m : ℕ) → ((i : ℕ) → i < 4096 → number_at s i ≡ m) → m < length old → new ≡ slice_set old m (slice_index old m + 4096)
     → CountsMore old new (λ table. first_places table s 4096) 4096
 counts-same old new s m all low is = record {
-  long = ap (λ xs. length xs) is ∙ length-set old m (slice_index old m + 4096);
+  long = ap (λ (xs : List ℕ). length xs) is ∙ length-set old m (slice_index old m + 4096);
   bound = λ k. subst (λ (xs : List ℕ). slice_index xs k ≤ slice_index old k + 4096) (sym is) (raised-le old m 4096 k);
   counts = λ table t e.
       ap (weighed t table) is ∙ weighed-raised t table old m 4096 low e
@@ -63,7 +66,7 @@ pub counts-nothing : (old : List ℕ) → CountsMore old old (λ table. slot_sta
 counts-nothing old = record {
   long = refl;
   bound = λ k. omega arith;
-  counts = λ table t e. omega arith;
+  counts = λ table t e. add_none (weighed t table old);
 }
 
 -- ---- sections
