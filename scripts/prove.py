@@ -176,6 +176,7 @@ def main():
     given, last = split_at(sys.argv[1:], "--")
     asked = words.parse_args(given)
     command = functools.partial(subprocess.call, last or ["rt", "check"], cwd=TOP / "crates" / asked.name, stdin=subprocess.DEVNULL)
+    signal.signal(signal.SIGTERM, signal.default_int_handler)
     try:
         return prove(closure(asked.name, below) - {asked.name}, below, max(1, asked.jobs), command)
     except Failed as failed:

@@ -1,5 +1,5 @@
 -- What a sink has taken.
-use Rattle.std.specs.Prelude.{◌≡◌, ℕ, ◌+◌, List, ◌++◌, length, Option, option_map, string_bytes}
+use Rattle.std.specs.Prelude.{◌≡◌, ℕ, ◌+◌, List, ◌++◌, length, Option, Some, None, option_map, string_bytes}
 use Rattle.av_types.specs.declared.fault.Fault.{Fault}
 use Rattle.av_types.specs.declared.fault.Fault.TheVariants.{Device}
 
@@ -11,6 +11,8 @@ abbrev pub file_named : List ℕ → List ℕ → NamedFile
 file_named name bytes = record { name = name; bytes = bytes }
 
 pub record Account : Type 0 where
+  -- the name of the folder that its files go to, once it was opened
+  pub folder : Option (List ℕ)
   pub failures : ℕ
   pub handed : ℕ
   -- the files that it keeps, where it tells
@@ -19,6 +21,7 @@ pub record Account : Type 0 where
 -- after it took these files, each once, in this order
 abbrev pub with_files : Account → List NamedFile → Account
 with_files a files = record {
+  folder = a.folder;
   failures = a.failures;
   handed = a.handed + length files;
   kept = option_map (λ l. l ++ files) a.kept;
@@ -26,7 +29,17 @@ with_files a files = record {
 
 -- after it did not take one
 abbrev pub with_failure : Account → Account
-with_failure a = record { failures = a.failures + 1; handed = a.handed; kept = a.kept }
+with_failure a = record { folder = a.folder; failures = a.failures + 1; handed = a.handed; kept = a.kept }
+
+-- after the folder of that name was opened
+abbrev pub in_folder : List ℕ → Account → Account
+in_folder name a = record { folder = Some name; failures = a.failures; handed = a.handed; kept = a.kept }
+
+-- it has opened no folder, taken no file and not failed
+pub record IsFresh (a : Account) : Type 0 where
+  pub folder : a.folder ≡ None
+  pub failures : a.failures ≡ 0
+  pub handed : a.handed ≡ 0
 
 -- the fault of a file or folder of that name
 abbrev pub IsDevice : List ℕ → Fault → Type 0

@@ -9,4 +9,4 @@ pub mod sink;
 pub use files::RegionFile;
 pub use names::region_name;
 pub use saving::save_all;
-pub use sink::{Sink, SinkFailed};
+pub use sink::{OutputFolder, Sink, SinkFailed};

@@ -1,7 +1,8 @@
 //! What takes written files.
-ghost use Rattle.std.specs.Prelude.{◌≡◌, ◌<◌, ◌^◌, ◌-◌, [], ◌∷◌, OnOk, OnErr};
-ghost use Rattle.av_sink.specs.Account.{Account, file_named, with_failure, with_files};
+ghost use Rattle.std.specs.Prelude.{◌≡◌, ◌<◌, ◌^◌, ◌-◌, [], ◌∷◌, None, OnOk, OnErr};
+ghost use Rattle.av_sink.specs.Account.{Account, file_named, in_folder, with_failure, with_files};
 
+use std::alloc::AllocError;
 use thiserror::Error;
 
 /// A file was not taken.
@@ -12,7 +13,8 @@ pub struct SinkFailed;
 /// What takes files, as a folder does, and counts them. A write fails exactly where the count of failures rises, by one,
 /// and succeeds exactly where the count of files handed over rises, by one. Neither count goes beyond 2^64 - 1.
 pub trait Sink {
-    /// Both counts, and the files that it keeps, where it can tell: a sink in memory can, a folder can not.
+    /// Both counts, the folder that it has opened, and the files that it keeps, where it can tell: a sink in memory can, a folder
+    /// can not.
     ghost account: { Self → Account };
 
     /// How many writes have failed.
@@ -29,4 +31,15 @@ pub trait Sink {
         requires handed { (account self.old).handed < 2 ^ 64 - 1 }
         ensures ok { OnOk result (account self.new ≡ with_files (account self.old) (file_named name.now bytes.now ∷ [])) }
         ensures err { OnErr result (account self.new ≡ with_failure (account self.old)) };
+}
+
+/// A sink whose files go to a folder, which is opened once, by its name.
+pub trait OutputFolder: Sink {
+    /// Opens the folder of that name, for all files that are taken from now on.
+    ///
+    /// Errors: only want of memory.
+    fn open(&mut self, folder: &str) -> Result<(), AllocError>
+        requires unopened { (Self.account self.old).folder ≡ None }
+        ensures ok { OnOk result (Self.account self.new ≡ in_folder folder.now (Self.account self.old)) }
+        ensures err { OnErr result (Self.account self.new ≡ Self.account self.old) };
 }
