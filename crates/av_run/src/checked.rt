@@ -1,5 +1,5 @@
 //! A run that may ask for a row for each state.
-ghost use Rattle.std.specs.Prelude.{◌≡◌, ◌≢◌, IfOk, IfErr, map};
+ghost use Rattle.std.specs.Prelude.{◌≡◌, ◌≢◌, ◌&&◌, nat_lt, IfOk, IfErr, map};
 ghost use Rattle.av_types.specs.declared.fault.Fault.TheVariants.{OutOfMemory};
 ghost use Rattle.av_state.specs.Table.{states};
 ghost use Rattle.av_rules.specs.Tables.{table_of};
@@ -65,6 +65,13 @@ fn read_counted(
     Ok(CountedInput { input, without_row })
 }
 
+/// Whether some states have no row where each is to have one.
+fn is_refused(strict: bool, without_row: u32) -> bool
+    ensures { result ≡ (strict && nat_lt 0 without_row) }
+{
+    strict && without_row > 0
+}
+
 /// Runs as `run` does, of the same. Where `strict` asks for a row of the table for each state of the loaded chunks' palettes,
 /// and some have none, nothing is run: there are no files, and the answer says how many. The states that only edits bring are
 /// not counted.
@@ -87,11 +94,12 @@ pub fn run_checked<R: Threads + Wait + Sync, G: Gate + Sync>(
     if !are_counts_good(files.as_slice(), ticks, workers) {
         return Err(Fault::BadCount);
     }
-    let CountedInput { input, without_row } = read_counted(rt, alloc, files, table, edits, ticks)?;
-    if strict && without_row > 0 {
-        return Ok(Ran::Uncovered(without_row));
+    let read = read_counted(rt, alloc, files, table, edits, ticks)?;
+    if is_refused(strict, read.without_row) {
+        return Ok(Ran::Uncovered(read.without_row));
     }
-    let outcome = finish(rt, alloc, input, ticks, workers, gate)?;
+    let without_row = read.without_row;
+    let outcome = finish(rt, alloc, read.input, ticks, workers, gate)?;
     Ok(Ran::Done {
         outcome,
         without_row,
