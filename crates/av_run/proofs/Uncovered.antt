@@ -1,5 +1,6 @@
 -- States without a row, counted, and what is answered then.
 use Rattle.std.proofs.Common.{◌≡◌, ℕ, zero, suc, ◌+◌, ◌<◌, ◌≤◌, ◌&&◌, nat_lt, List, [], ◌∷◌, length, take, get_or, Bool, true, false, true≢false, cond, Option, Some, None, Ok, refl, sym, ap, ◌∙◌, arith, map}
+use mir.Val.{bool_byte}
 use Rattle.std.specs.Prelude.{slice_get, count_by}
 use Rattle.std.proofs.lemmas.Bool.Decides.{nat_tests}
 use Rattle.std.proofs.lemmas.List.Sums.{sum_by_more}
@@ -32,6 +33,11 @@ pub counted_more : (p : BlockState → Bool) (xs : List BlockState) (n : ℕ) (s
 counted_more p xs n s there =
     let at_place = got xs n s there in
     sum_by_more (λ x. cond (p x) 1 0) xs n s at_place.0 ∙ ap (λ x. count_by p (take n xs) + cond (p x) 1 0) at_place.1
+
+-- what a flag is as a number
+pub flag-is : (b : Bool) → bool_byte b ≡ cond b 1 0
+flag-is true = refl
+flag-is false = refl
 
 pub one-le : (b : Bool) → cond b 1 0 ≤ 1
 one-le true = omega arith

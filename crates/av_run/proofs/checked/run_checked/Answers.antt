@@ -23,7 +23,7 @@ returns-in_err-read g c =
     let good : AreCountsGood files c.args.ticks c.args.workers = search rules in
     let h : IsRunAnswer files c.args.table.now c.args.edits.now c.args.ticks c.args.workers (Err e) =
     is_refusal files c.args.table.now c.args.edits.now c.args.ticks c.args.workers e (λ other. input (c.in_err-read.ensures.err other c.args.workers good)) in
-    let p = err_from_is_err_and c.from_residual-in_err-read.result c.from_residual-in_err-read.ensures.1 in rw (p.1, p.2) h
+    let p = err_from_is_err_and c.from_residual.result c.from_residual.ensures.1 in rw (p.1, p.2) h
 
 pub returns-then-is_refused : goal.returns-then-is_refused
 returns-then-is_refused g c =
