@@ -32,11 +32,7 @@ fn row_text(alloc: Global, row: Row) -> Result<String, AllocError>
 }
 
 /// What a table has for a state, and nothing where there is no table.
-fn table_text(
-    alloc: Global,
-    state: &State,
-    rules: Option<&Rules>,
-) -> Result<String, AllocError>
+fn table_text(alloc: Global, state: &State, rules: Option<&Rules>) -> Result<String, AllocError>
     ensures { IfOk result (λ text. string_bytes text ≡ table_text (option_map table_of (option_copied rules.entry)) (state_of state.now)) }
 {
     let Some(rules) = rules else {
