@@ -4,3 +4,4 @@ pub mod Inputs
 pub mod InputAnswers
 pub mod Answered
 pub mod Crossings
+pub mod Uncovered
