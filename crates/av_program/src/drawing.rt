@@ -6,7 +6,7 @@ ghost use Rattle.av_png.specs.Png.{png_of};
 ghost use Rattle.av_map.specs.Views.{colours_of};
 ghost use Rattle.av_program.specs.MapCommand.{AreColoursBy, HasMapped, IsFileIn, IsMapBy, IsNotSaved, IsSaved, view_by};
 
-use av_commands::device::{device_fault, read_file};
+use av_commands::device::read_file;
 use av_commands::output::{FAULT, report_fault, write_left_out};
 use av_commands::tables::read_height;
 use av_folders::progress::note_step;
