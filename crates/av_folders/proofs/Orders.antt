@@ -19,5 +19,6 @@ below x (y ∷ ys) named all less = (ap₂ (slice_cmp nat_cmp) (sym named) (sym 
 
 pub in_name_order : (xs : List Listed) → AllByRecursion IsListed xs → IsStrictlySortedBy (λ a b. string_cmp a.name b.name) xs
     → AreInNameOrder (map (λ x. x.region) xs)
+unfolding IsStrictlySortedBy
 in_name_order [] all sorted = tt
 in_name_order (x ∷ xs) all sorted = (below x xs all.0 all.1 sorted.0, in_name_order xs all.1 sorted.1)

@@ -1,8 +1,10 @@
-use Rattle.std.proofs.Common.{◌≡◌, ◌⊎◌, sym, subst, inl, inr, ¬, List, ℕ, Option, Some, None, option_map, Bor, IfErr, Result, Ok, Err}
-use Rattle.std.specs.Prelude.{IsErrAnd}
-use Rattle.av_types.specs.declared.fault.Fault.{Fault}
-use Rattle.av_commands.specs.Tables.{IsTableBy, IsUnreadTable, none, read}
+use Rattle.std.proofs.Common.{◌≡◌}
+use Rattle.av_rules.specs.Tables.{table_of}
+use Rattle.av_commands.specs.Tables.{none, read}
 use Rattle.av_commands.proofs.tables.read_rules.Goals as goal
 
+pub returns-in_default-clause-table : goal.returns-in_default-clause-table
+returns-in_default-clause-table g c = rw c.in_default.is none
+
 pub returns-clause-table : goal.returns-clause-table
-returns-clause-table g c = ?
+returns-clause-table g c = rw c.in-Some.is (read c.in-Some.name.now c.as_slice.result.now (table_of c.in_ok-read.field-0) c.in_ok-read.ensures.ok)
