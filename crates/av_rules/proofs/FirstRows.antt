@@ -1,7 +1,7 @@
 -- The first row of each bucket of names.
-use Rattle.std.proofs.Common.{◌≡◌, ◌≢◌, ℕ, zero, suc, ◌+◌, ◌-◌, ◌^◌, ◌<◌, ◌≤◌, ◌==◌, ◌&&◌, List, [], ◌∷◌, length, drop, set, min, slice_index, Bool, true, false, not, cond, refl, ap, ◌∙◌, sym, subst, arith}
+use Rattle.std.proofs.Common.{◌≡◌, ◌≢◌, ℕ, zero, suc, ◌+◌, ◌-◌, ◌^◌, ◌<◌, ◌≤◌, ◌==◌, ◌&&◌, ◌||◌, List, [], ◌∷◌, length, drop, set, min, slice_index, Bool, true, false, not, cond, refl, ap, ◌∙◌, sym, subst, arith}
 use Rattle.std.specs.Str.{bytes_eq}
-use Rattle.std.specs.List.{position_or_len}
+use Rattle.std.specs.List.{list_any, position_or_len}
 use Rattle.std.proofs.lemmas.Bool.{true≢false}
 use Rattle.std.proofs.lemmas.Slice.Eq.{bytes_eq-Decides}
 use Rattle.std.proofs.lemmas.Bool.Decides.{Decides-eqb}
@@ -11,7 +11,7 @@ use Rattle.std.proofs.Math.Nat.{min-le_left}
 use Rattle.std.proofs.lemmas.Nat.{and_le_r}
 use Rattle.av_state.specs.BlockState.{BlockState}
 use Rattle.av_rules.specs.FirstRows.{bucket_of, head_for, AreFirstRows}
-use Rattle.av_rules.specs.Rows.{TableRow, first_row, has_properties}
+use Rattle.av_rules.specs.Rows.{TableRow, first_row, is_for, has_properties}
 
 -- whether a row's name falls into bucket b
 abbrev pub falls : ℕ → ℕ → TableRow → Bool
@@ -38,7 +38,26 @@ module _ (s : BlockState) (p : TableRow → Bool) (named : (t : TableRow) → by
   skip [] (suc n) h = refl
   skip (t ∷ ts) (suc n) h = skip_one t ts n (p t) refl h (λ k. skip ts n k)
 
+  abbrev is_own : TableRow → Bool
+  is_own t = is_for t s
+
+  pass_one : (t : TableRow) (ts : List TableRow) (n : ℕ) (b : Bool) → p t ≡ b → suc n ≤ cond (not b) (1 + position_or_len p ts) 0
+      → (n ≤ position_or_len p ts → list_any is_own (drop n ts) ≡ list_any is_own ts) → list_any is_own (drop n ts) ≡ list_any is_own (t ∷ ts)
+  pass_one t ts n true e low more = absurd (omega (arith, low))
+  pass_one t ts n false e low more = more (omega (arith, low)) ∙ sym (ap (λ c. (c && has_properties s.properties t.properties) || list_any is_own ts) (apart t e))
+
+  pub pass : (rows : List TableRow) (n : ℕ) → n ≤ position_or_len p rows → list_any is_own (drop n rows) ≡ list_any is_own rows
+  pass rows zero h = refl
+  pass [] (suc n) h = refl
+  pass (t ∷ ts) (suc n) h = pass_one t ts n (p t) refl h (λ k. pass ts n k)
+
 module _ (rows : List TableRow) (heads : List ℕ) (firsts : AreFirstRows rows heads) (some : 0 < length heads) where
+  -- a row that has the state's name falls into the bucket of that name
+  own_falls : (s : BlockState) (t : TableRow) → bytes_eq t.name s.name ≡ true → falls (length heads) (bucket_of (length heads) s.name) t ≡ true
+  own_falls s t e =
+      let b = bucket_of (length heads) s.name in
+      (Decides-eqb (bucket_of (length heads) t.name) b).1 (ap (bucket_of (length heads)) ((bytes_eq-Decides t.name s.name).0 e))
+
   head_low : (name : List ℕ) → head_for heads name ≤ position_or_len (falls (length heads) (bucket_of (length heads) name)) rows
   head_low name =
       let b = bucket_of (length heads) name in
@@ -54,9 +73,10 @@ module _ (rows : List TableRow) (heads : List ℕ) (firsts : AreFirstRows rows h
       omega (arith, low, most)
 
   pub row_from_head : (s : BlockState) → first_row (drop (head_for heads s.name) rows) s ≡ first_row rows s
-  row_from_head s =
-      let b = bucket_of (length heads) s.name in
-      skip s (falls (length heads) b) (λ t e. (Decides-eqb (bucket_of (length heads) t.name) b).1 (ap (bucket_of (length heads)) ((bytes_eq-Decides t.name s.name).0 e))) rows (head_for heads s.name) (head_low s.name)
+  row_from_head s = skip s (falls (length heads) (bucket_of (length heads) s.name)) (own_falls s) rows (head_for heads s.name) (head_low s.name)
+
+  pub any_from_head : (s : BlockState) → list_any (λ t. is_for t s) (drop (head_for heads s.name) rows) ≡ list_any (λ t. is_for t s) rows
+  any_from_head s = pass s (falls (length heads) (bucket_of (length heads) s.name)) (own_falls s) rows (head_for heads s.name) (head_low s.name)
 
 -- ---- a row is stored, from the last to the first
 

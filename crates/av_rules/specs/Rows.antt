@@ -1,5 +1,6 @@
 -- What water and light ask of a block state, by the rows of a block table.
 use Rattle.std.specs.Prelude.{ℕ, ℤ, List, [], ◌∷◌, Bool, true, false, ◌&&◌, ◌||◌, if◌then◌else◌, Option, Some, None, codes}
+use Rattle.std.specs.List.{list_any}
 use Rattle.std.specs.Str.{bytes_eq}
 use Rattle.av_types.specs.declared.water.Wet.{Wet}
 use Rattle.av_types.specs.declared.water.Wet.TheVariants.{Source}
@@ -64,6 +65,10 @@ row_of t s =
     if bytes_eq s.name air_name then air_row
     else if bytes_eq s.name water_name then water_row
     else with_soaking t.soaks s (first_row t.rows s)
+
+-- Whether a table has a row for a state: air and water are built in, and any other needs one that is for it.
+abbrev pub has_row : BlockTable → BlockState → Bool
+has_row t s = bytes_eq s.name air_name || bytes_eq s.name water_name || list_any (λ r. is_for r s) t.rows
 
 -- a soaked state is a source; any other is as wet as its name says
 abbrev pub wet_by : Row → BlockState → Wet

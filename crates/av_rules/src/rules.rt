@@ -1,9 +1,10 @@
 //! Block tables.
 ghost use Rattle.std.specs.Prelude.{◌≡◌, ◌≢◌, ◌≤◌, Some, None, IfOk, IfErr, IsUtf8, length, drop};
+ghost use Rattle.std.specs.List.{list_any};
 ghost use Rattle.av_types.specs.declared.fault.Fault.TheVariants.{OutOfMemory, BadTable};
 ghost use Rattle.av_state.specs.States.{state_of};
 ghost use Rattle.av_rules.specs.FirstRows.{AreFirstRows};
-ghost use Rattle.av_rules.specs.Rows.{first_row};
+ghost use Rattle.av_rules.specs.Rows.{first_row, is_for};
 ghost use Rattle.av_rules.specs.Views.{table_rows_of};
 ghost use Rattle.std.proofs.Props.{props};
 
@@ -40,8 +41,20 @@ fn first_row(rows: &[TableRow], state: &State) -> Row
     Row::SHUT
 }
 
+/// Whether one of rows is for a state.
+fn is_among(rows: &[TableRow], state: &State) -> bool
+    ensures { result ≡ list_any (λ t. is_for t (state_of state.now)) (table_rows_of rows.now) }
+{
+    for row in rows {
+        if row.is_for(state) {
+            return true;
+        }
+    }
+    false
+}
+
 impl Rules {
-    ghost use Rattle.av_rules.specs.Rows.{row_of};
+    ghost use Rattle.av_rules.specs.Rows.{has_row, row_of};
     ghost use Rattle.av_rules.specs.Tables.{table_of};
     ghost use Rattle.av_rules.specs.Document.{table_spelled};
 
@@ -82,10 +95,18 @@ impl Rules {
         row
     }
 
+    /// Whether the table has a row for a state. Those of air and water are built in.
+    pub fn has_row(&self, state: &State) -> bool
+        ensures { result ≡ has_row (table_of self.now) (state_of state.now) }
+    {
+        state.is_air() || state.is_water() || self.is_covered(state)
+    }
+
     /// Where the search for a state's row begins: no row before is for the state.
     fn head(&self, state: &State) -> usize
         ensures within { result ≤ length self.now.rows.items }
         ensures skipped { first_row (drop result (table_of self.now).rows) (state_of state.now) ≡ first_row (table_of self.now).rows (state_of state.now) }
+        ensures others { list_any (λ t. is_for t (state_of state.now)) (drop result (table_of self.now).rows) ≡ list_any (λ t. is_for t (state_of state.now)) (table_of self.now).rows }
     {
         self.first.head(state.name.as_slice())
     }
@@ -96,6 +117,14 @@ impl Rules {
     {
         let head = self.head(state);
         first_row(&self.rows[head..], state)
+    }
+
+    /// Whether a row is for a state.
+    fn is_covered(&self, state: &State) -> bool
+        ensures { result ≡ list_any (λ t. is_for t (state_of state.now)) (table_of self.now).rows }
+    {
+        let head = self.head(state);
+        is_among(&self.rows[head..], state)
     }
 
     /// The height of the world: the table's, or the game's where the table is of version 1 or 2.

@@ -4,4 +4,5 @@ pub mod Ordered
 pub mod Storable
 pub mod Compared
 pub mod Placing
+pub mod Seated
 pub mod Found

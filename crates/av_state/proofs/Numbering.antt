@@ -190,7 +190,7 @@ place_of (y ∷ xs) s zero h = before (omega arith) refl
 place_of (y ∷ xs) s (suc i) h = place_more y xs s i (place_of xs s i (omega arith))
 
 -- no place has a state without a number
-absent : (xs : List BlockState) (s : BlockState) → number_in xs s ≡ None → (i : ℕ) → slice_get xs i ≡ Some s → ⊥
+pub absent : (xs : List BlockState) (s : BlockState) → number_in xs s ≡ None → (i : ℕ) → slice_get xs i ≡ Some s → ⊥
 absent [] s h i e = none-some s e
 absent (x ∷ xs) s h i e = absent_step x s xs i (same_state s x) (number_in xs s) refl refl (absent xs s) h e
   where

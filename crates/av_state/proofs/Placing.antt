@@ -1,13 +1,13 @@
--- A state's number is found by halves, and a new one is put where it was sought.
-use Rattle.std.proofs.Common.{◌≡◌, ℕ, zero, suc, ◌+◌, ◌<◌, ◌≤◌, List, [], ◌∷◌, ◌++◌, length, get_or, Bool, false, Option, Some, None, slice_get, option_map, All, inl, inr, refl, ap, ◌∙◌, sym, subst, arith, length-append}
+-- A state's number is told by a slot or found by halves, and a new one is put where it was sought.
+use Rattle.std.proofs.Common.{◌≡◌, ◌≢◌, ℕ, zero, suc, ◌+◌, ◌<◌, ◌≤◌, List, [], ◌∷◌, ◌++◌, length, get_or, set, map, Bool, false, Option, Some, None, slice_get, option_map, All, inl, inr, refl, ap, ◌∙◌, sym, subst, arith, length-append}
 use Rattle.std.specs.List.{AllWithin, HoldsAt, insert}
 use Rattle.std.specs.List.Sorted.{IsSortedBy, IsNonDecreasingBy, IsPartitionPoint}
 use Rattle.std.specs.Ordering.{nat_cmp, ordering_then, ordering_index, ordering_reverse, is_lt}
 use Rattle.std.specs.declared.cmp.Ordering.{Ordering}
 use Rattle.std.specs.declared.cmp.Ordering.TheVariants.{Less, Equal, Greater}
-use Rattle.std.proofs.lemmas.Bool.{cases_order}
+use Rattle.std.proofs.lemmas.Bool.{cases_lt, cases_order}
 use Rattle.std.proofs.lemmas.Cmp.{tied_itself}
-use Rattle.std.proofs.lemmas.List.{map-append, get_or_append_left, get_or-append-add}
+use Rattle.std.proofs.lemmas.List.{map-append, length-map, get_or_append_left, get_or-append-add}
 use Rattle.std.proofs.lemmas.List.Edits.{length-insert, get_or-insert_below, get_or-insert_at, get_or-insert_above}
 use Rattle.std.proofs.lemmas.List.Elements.{All-cons, All-tail}
 use Rattle.std.proofs.lemmas.List.Sorted.{searchable_from_sorted, All-permutation, IsPermutation-insert, IsPermutation-sym}
@@ -15,13 +15,15 @@ use Rattle.std.proofs.lemmas.Option.{slice_get-map, slice_get-get_or, slice_get_
 use Rattle.av_state.specs.BlockState.{BlockState, air}
 use Rattle.av_state.specs.StateList.{number_in}
 use Rattle.av_state.specs.Order.{fingerprint_of, texts_cmp, state_cmp}
-use Rattle.av_state.specs.Index.{state_at, stands, matched, compared, IsIndex, IsPlaceOf}
-use Rattle.av_state.proofs.Numbering.{number_in-there}
+use Rattle.av_state.specs.Index.{state_at, stands, matched, compared, told, slot_of, FindsStates, IsPlaceWith, IsPlaceOf}
+use Rattle.av_state.specs.declared.slots.Slots.{Slots}
+use Rattle.av_state.proofs.Seated.{seated-taken, seated-left}
+use Rattle.av_state.proofs.Numbering.{number_in-there, absent as absent_from}
 use Rattle.av_state.proofs.Compared.{state_total, same_state}
 
 -- ---- the search
 
-module _ (states : List BlockState) (prints order : List ℕ) (index : IsIndex states prints order) (s : BlockState) (f : ℕ) (hash : f ≡ fingerprint_of s) where
+module _ (states : List BlockState) (prints order : List ℕ) (slots : Slots) (index : FindsStates states prints slots order) (s : BlockState) (f : ℕ) (hash : f ≡ fingerprint_of s) where
   -- what a look-up compares is how the states stand
   compared-stands : (n : ℕ) → n < length states → compared prints states f s n ≡ stands states s n
   compared-stands n h =
@@ -54,27 +56,55 @@ module _ (states : List BlockState) (prints order : List ℕ) (index : IsIndex s
     above : AllWithin (λ n. stands states s n ≡ Greater) order place (length order)
     above k d low high = sym (compared-stands (get_or order k d) (index.known k d high)) ∙ parts.1 k d low high
 
+    -- where no number is found is the place of the state
+    pub placed : IsPlaceOf states s order place
+    placed = record { within = within; below = below; above = above }
+
+  module _ (place : ℕ) (p : IsPlaceOf states s order place) where
     -- the state that is sought stands neither below nor above itself
     not_here : (n k d : ℕ) → slice_get states n ≡ Some s → k < length order → get_or order k d ≡ n → ⊥
     not_here n k d there h e =
         let same : stands states s (get_or order k d) ≡ Equal = ap (stands states s) e ∙ ap (λ t. state_cmp t s) (get_or_from_slice_get states n s air there) ∙ tied_itself state_total s in
-        elim (cases_order k place) [
-          | inl at ↦ (let g : stands states s (get_or order k d) ≡ Greater = above k d (omega arith) h in let no : Greater ≡ Equal = sym g ∙ same in absurd cc)
-          | inr far ↦ elim far [
-            | inl less ↦ (let g : stands states s (get_or order k d) ≡ Less = below k d (omega arith) less in let no : Less ≡ Equal = sym g ∙ same in absurd cc)
-            | inr more ↦ (let g : stands states s (get_or order k d) ≡ Greater = above k d (omega arith) h in let no : Greater ≡ Equal = sym g ∙ same in absurd cc)
-          ]
+        let within = p.within in
+        elim (cases_lt k place) [
+          | inl less ↦ (let g : stands states s (get_or order k d) ≡ Less = p.below k d (omega arith) less in let no : Less ≡ Equal = sym g ∙ same in absurd cc)
+          | inr not ↦ (let g : stands states s (get_or order k d) ≡ Greater = p.above k d not h in let no : Greater ≡ Equal = sym g ∙ same in absurd cc)
         ]
 
-    new_cases : (o : Option ℕ) → number_in states s ≡ o → o ≡ None
-    new_cases None e = refl
-    new_cases (Some n) e =
-        let there = number_in-there states s n e in
-        absurd (index.whole n (slice_get_within states n s there) (λ k d h at. not_here n k d there h at))
+    pub not_in_order : (n : ℕ) → slice_get states n ≡ Some s → All (λ m. m ≡ n → ⊥) order
+    not_in_order n there k d h at = not_here n k d there h at
 
-    -- where nothing is found is the place of the state
-    pub placed : IsPlaceOf states s order place
-    placed = record { is_new = new_cases (number_in states s) refl; within = within; below = below; above = above }
+  -- the fingerprint of a number of the state
+  print : (n : ℕ) → slice_get states n ≡ Some s → get_or prints n 0 ≡ f
+  print n there = get_or_from_slice_get prints n f 0 (ap (λ xs. slice_get xs n) index.prints ∙ slice_get-map fingerprint_of states n ∙ ap (option_map fingerprint_of) there ∙ ap Some (sym hash))
+
+  long : length prints ≡ length states
+  long = ap length index.prints ∙ length-map states fingerprint_of
+
+  absent : ((n : ℕ) → slice_get states n ≡ Some s → ⊥) → number_in states s ≡ None
+  absent none = by (number_in states s) refl
+    where
+      by : (o : Option ℕ) → number_in states s ≡ o → o ≡ None
+      by None e = refl
+      by (Some n) e = absurd (none n (number_in-there states s n e))
+
+  -- a slot that tells no number
+  pub absent_free : length states ≤ 65535 → told slots f ≡ 65535 → number_in states s ≡ None
+  absent_free few free = absent (λ n there. (
+      let h = slice_get_within states n s there in
+      let low : told slots (get_or prints n 0) ≤ n = index.seated.first n (omega (arith, long, h)) in
+      let e : told slots (get_or prints n 0) ≡ 65535 = ap (told slots) (print n there) ∙ free in
+      absurd (omega (arith, low, e, h, few))))
+
+  -- neither the slot's number nor one of the order is the state's
+  pub absent_in_both : (place : ℕ) → IsPlaceOf states s order place → slice_get states (told slots f) ≢ Some s → number_in states s ≡ None
+  absent_in_both place p other = absent (λ n there. (
+      let h = slice_get_within states n s there in
+      index.seated.whole n (omega (arith, long, h)) (λ is. other (ap (slice_get states) (ap (told slots) (sym (print n there)) ∙ is) ∙ there)) (not_in_order place p n there)))
+
+  -- a state that has no number has no place with one
+  pub no_place : (place : ℕ) → number_in states s ≡ None → IsPlaceWith states s order place → ⊥
+  no_place place none p = absent_from states s none (get_or order place 0) (p.is 0)
 
 -- ---- one more state
 
@@ -115,7 +145,7 @@ module _ {X : Type 0} (lt : X → X → Bool) (xs : List X) (i : ℕ) (y : X) (l
     ]
   ]
 
-module _ (states : List BlockState) (prints order : List ℕ) (index : IsIndex states prints order) (s : BlockState) (place : ℕ) (p : IsPlaceOf states s order place) where
+module _ (states : List BlockState) (prints order : List ℕ) (slots : Slots) (index : FindsStates states prints slots order) (s : BlockState) where
   abbrev more : List BlockState
   more = states ++ s ∷ []
 
@@ -131,47 +161,58 @@ module _ (states : List BlockState) (prints order : List ℕ) (index : IsIndex s
       let high = old_state (get_or order (k + 1) d) (index.known (k + 1) d h) in
       ap (λ t. is_lt (state_cmp t (state_at more (get_or order k d)))) high ∙ ap (λ t. is_lt (state_cmp (state_at states (get_or order (k + 1) d)) t)) low ∙ index.rising k d z h
 
-  not_below : AllWithin (λ n. is_lt (state_cmp (state_at more (length states)) (state_at more n)) ≡ false) order 0 place
-  not_below k d low high =
-      let n = get_or order k d in
-      let here = p.within in
-      let less : stands states s n ≡ Less = p.below k d low high in
-      ap (λ t. is_lt (state_cmp t (state_at more n))) new_state
-      ∙ ap (λ t. is_lt (state_cmp s t)) (old_state n (index.known k d (omega (arith, here))))
-      ∙ ap is_lt (state_total.antisymm s (state_at states n) ∙ ap ordering_reverse less)
-
-  not_above : AllWithin (λ n. is_lt (state_cmp (state_at more n) (state_at more (length states))) ≡ false) order place (length order)
-  not_above k d low high =
-      let n = get_or order k d in
-      ap (λ t. is_lt (state_cmp t (state_at more (length states)))) (old_state n (index.known k d high))
-      ∙ ap (λ t. is_lt (state_cmp (state_at states n) t)) new_state
-      ∙ ap is_lt (p.above k d low high)
-
   length_more : length more ≡ length states + 1
   length_more = length-append states (s ∷ [])
 
-  all_known : All (λ n. n < length more) (insert order place (length states))
-  all_known =
-      let old : All (λ n. n < length more) order = λ k d h. (let l = index.known k d h in omega (arith, length_more, l)) in
-      All-permutation (λ n. n < length more) (length states ∷ order) (insert order place (length states)) (IsPermutation-insert order place (length states)) (All-cons (λ n. n < length more) (length states) order (omega (arith, length_more)) old)
+  still_known : All (λ n. n < length more) order
+  still_known k d h = (let l = index.known k d h in omega (arith, length_more, l))
 
-  none_absent : (n : ℕ) → n < length more → All (λ m. m ≡ n → ⊥) (insert order place (length states)) → ⊥
-  none_absent n h none =
-      let N : ℕ → Type 0 = λ m. m ≡ n → ⊥ in
-      let all : All N (length states ∷ order) = All-permutation N (insert order place (length states)) (length states ∷ order) (IsPermutation-sym (length states ∷ order) (insert order place (length states)) (IsPermutation-insert order place (length states))) none in
-      elim (cases_order n (length states)) [
-        | inl e ↦ all 0 n (omega arith) (sym e)
-        | inr far ↦ elim far [
-          | inl less ↦ index.whole n less (All-tail N (length states) order all)
-          | inr past ↦ absurd (omega (arith, length_more, h, past))
-        ]
-      ]
+  count : length prints ≡ length states
+  count = ap length index.prints ∙ length-map states fingerprint_of
 
-  -- with the state at the end and its number at its place
-  pub index-more : IsIndex more (prints ++ fingerprint_of s ∷ []) (insert order place (length states))
-  index-more = record {
-    prints = ap (λ ns. ns ++ fingerprint_of s ∷ []) index.prints ∙ sym (map-append fingerprint_of states (s ∷ []));
-    rising = insert-sorted (λ m n. is_lt (state_cmp (state_at more m) (state_at more n))) order place (length states) p.within still_rising not_below not_above;
-    known = all_known;
-    whole = none_absent;
+  more_prints : (f : ℕ) → f ≡ fingerprint_of s → prints ++ f ∷ [] ≡ map fingerprint_of more
+  more_prints f hash = ap (λ ns. ns ++ f ∷ []) index.prints ∙ ap (λ k. map fingerprint_of states ++ k ∷ []) hash ∙ sym (map-append fingerprint_of states (s ∷ []))
+
+  -- with the state at the end, whose number its slot tells
+  pub finds-taken : (f : ℕ) (new : Slots) → f ≡ fingerprint_of s → new.shift ≡ slots.shift → length states < told slots f → new.numbers.items ≡ set slots.numbers.items (slot_of slots f) (length states) → FindsStates more (prints ++ f ∷ []) new order
+  finds-taken f new hash shift free e = record {
+    prints = more_prints f hash;
+    rising = still_rising;
+    known = still_known;
+    seated = seated-taken prints order slots new f shift index.seated (omega (arith, free, count)) (e ∙ ap (set slots.numbers.items (slot_of slots f)) (sym count));
   }
+
+  module _ (place : ℕ) (p : IsPlaceOf states s order place) where
+    not_below : AllWithin (λ n. is_lt (state_cmp (state_at more (length states)) (state_at more n)) ≡ false) order 0 place
+    not_below k d low high =
+        let n = get_or order k d in
+        let here = p.within in
+        let less : stands states s n ≡ Less = p.below k d low high in
+        ap (λ t. is_lt (state_cmp t (state_at more n))) new_state
+        ∙ ap (λ t. is_lt (state_cmp s t)) (old_state n (index.known k d (omega (arith, here))))
+        ∙ ap is_lt (state_total.antisymm s (state_at states n) ∙ ap ordering_reverse less)
+
+    not_above : AllWithin (λ n. is_lt (state_cmp (state_at more n) (state_at more (length states))) ≡ false) order place (length order)
+    not_above k d low high =
+        let n = get_or order k d in
+        ap (λ t. is_lt (state_cmp t (state_at more (length states)))) (old_state n (index.known k d high))
+        ∙ ap (λ t. is_lt (state_cmp (state_at states n) t)) new_state
+        ∙ ap is_lt (p.above k d low high)
+
+    all_known : All (λ n. n < length more) (insert order place (length states))
+    all_known = All-permutation (λ n. n < length more) (length states ∷ order) (insert order place (length states)) (IsPermutation-insert order place (length states)) (All-cons (λ n. n < length more) (length states) order (omega (arith, length_more)) still_known)
+
+    -- what the order with the number hasn't, it has neither
+    with_number : (n : ℕ) → All (λ m. m ≡ n → ⊥) (insert order place (length states)) → All (λ m. m ≡ n → ⊥) (length states ∷ order)
+    with_number n none = All-permutation (λ m. m ≡ n → ⊥) (insert order place (length states)) (length states ∷ order) (IsPermutation-sym (length states ∷ order) (insert order place (length states)) (IsPermutation-insert order place (length states))) none
+
+    -- with the state at the end and its number at its place
+    pub finds-left : (f : ℕ) (new : Slots) → f ≡ fingerprint_of s → new.shift ≡ slots.shift → told slots f ≤ length states → new.numbers.items ≡ slots.numbers.items → FindsStates more (prints ++ f ∷ []) new (insert order place (length states))
+    finds-left f new hash shift low e = record {
+      prints = more_prints f hash;
+      rising = insert-sorted (λ m n. is_lt (state_cmp (state_at more m) (state_at more n))) order place (length states) p.within still_rising not_below not_above;
+      known = all_known;
+      seated = seated-left prints order slots new f shift index.seated (insert order place (length states)) (omega (arith, low, count)) e
+          (λ n none. All-tail (λ m. m ≡ n → ⊥) (length states) order (with_number n none))
+          (λ none. with_number (length prints) none 0 0 (omega arith) (sym count));
+    }

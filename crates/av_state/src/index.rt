@@ -1,12 +1,12 @@
 //! How a table finds its states.
-ghost use Rattle.std.specs.Prelude.{◌≡◌, ◌<◌, ◌++◌, ◌∷◌, [], length, map, Some, OnOk, OnErr, IfSome, MatchResult, slice_get};
+ghost use Rattle.std.specs.Prelude.{◌≡◌, ◌≢◌, ◌<◌, ◌≤◌, ◌++◌, ◌∷◌, [], length, map, Some, None, true, false, OnOk, OnErr, IfOk, IfSome, IfNone, MatchResult, slice_get};
 ghost use Rattle.av_state.specs.States.{state_of};
 ghost use Rattle.av_state.specs.BlockState.{BlockState};
-ghost use Rattle.av_state.specs.StateList.{same_state, with_state};
+ghost use Rattle.av_state.specs.StateList.{number_in, same_state, with_state};
 ghost use Rattle.av_state.specs.Order.{hash_of, fingerprint_of, texts_cmp};
-ghost use Rattle.av_state.specs.Index.{compared, IsIndex, IsPlaceOf};
+ghost use Rattle.av_state.specs.Index.{compared, FindsStates, IsIndex, IsPlaceOf, IsPlaceWith};
 
-use crate::hints::Hints;
+use crate::slots::{FREE, Slots};
 use crate::state::State;
 use std::alloc::{AllocError, Global};
 use std::cmp::Ordering;
@@ -54,58 +54,66 @@ pub(crate) fn fingerprint<T: Hash>(texts: &T) -> u64
     hasher.finish()
 }
 
-/// The numbers of states in the order of their fingerprints, and of their texts where these are equal.
+/// How states are found: a slot tells the first number of the fingerprints that fall there, and an order has the others.
 ///
-/// A look-up halves the numbers, so no names that a file brings make it long. It is fast since a hint nearly always
-/// tells the number at once, and since only states of one fingerprint have their texts read.
+/// Most states are found at once, and most that are not there too, since a free slot tells it. The order is by
+/// fingerprints, and by the texts where these are equal; a search halves it, so no names that a file brings make it long.
 #[derive(Drop)]
 pub(crate) struct Index {
     /// The fingerprints by number.
     pub(crate) fingerprints: Vec<u64>,
-    /// All numbers, by rising states.
+    pub(crate) slots: Slots,
+    /// The numbers that no slot tells, by rising states.
     pub(crate) order: Vec<u16>,
-    hints: Hints,
 }
 
 impl Index {
-    /// The index of no states.
-    pub(crate) fn new(alloc: Global) -> Index
-        ensures { IsIndex [] result.fingerprints.items result.order.items }
+    /// The index of no states, with room for some.
+    pub(crate) fn with_room(alloc: Global, states: usize) -> Result<Index, AllocError>
+        ensures { IfOk result (λ index. IsIndex [] index) }
     {
-        Index {
-            fingerprints: Vec::new(alloc),
+        Ok(Index {
+            fingerprints: Vec::with_capacity(alloc, states)?,
+            slots: Slots::new(alloc),
             order: Vec::new(alloc),
-            hints: Hints::new(alloc),
-        }
+        })
     }
 
-    /// The number of a state, or the place in the order where it would stand.
-    pub(crate) fn find<T: Sought>(&self, states: &[State], sought: &T) -> Result<u16, usize>
-        requires { IsIndex (map state_of states.now) self.now.fingerprints.items self.now.order.items }
-        ensures { MatchResult result (λ n. slice_get (map state_of states.now) n ≡ Some (T.sought sought.now)) (IsPlaceOf (map state_of states.now) (T.sought sought.now) self.now.order.items) }
+    /// The number of a state.
+    pub(crate) fn find<T: Sought>(&self, states: &[State], sought: &T) -> Option<u16>
+        requires index { IsIndex (map state_of states.now) self.now }
+        requires few { length states.now ≤ 65535 }
+        ensures there { IfSome result (λ n. slice_get (map state_of states.now) n ≡ Some (T.sought sought.now)) }
+        ensures absent { IfNone result (number_in (map state_of states.now) (T.sought sought.now) ≡ None) }
     {
         let fingerprint = sought.fingerprint();
-        if let Some(number) = self.hinted(states, fingerprint, sought) {
-            return Ok(number);
+        let first = self.slots.told(fingerprint);
+        if first == FREE {
+            return None;
         }
-        let found = self.order.as_slice().binary_search_by(|number| {
-            self.stands(states, *number, fingerprint, sought)
-        });
-        match found {
-            Ok(place) => Ok(self.order[place]),
-            Err(place) => Err(place),
+        if has_number(states, first, sought) {
+            return Some(first);
+        }
+        match self.place(states, fingerprint, sought) {
+            Ok(place) => Some(self.order[place]),
+            Err(_) => None,
         }
     }
 
-    /// The number of a state, where the hint of its fingerprint is right.
-    fn hinted<T: Sought>(&self, states: &[State], fingerprint: u64, sought: &T) -> Option<u16>
-        ensures { IfSome result (λ n. slice_get (map state_of states.now) n ≡ Some (T.sought sought.now)) }
+    /// The place of a state in the order, or where it would stand.
+    fn place<T: Sought>(
+        &self,
+        states: &[State],
+        fingerprint: u64,
+        sought: &T,
+    ) -> Result<usize, usize>
+        requires index { IsIndex (map state_of states.now) self.now }
+        requires fingerprint { fingerprint ≡ fingerprint_of (T.sought sought.now) }
+        ensures { MatchResult result (IsPlaceWith (map state_of states.now) (T.sought sought.now) self.now.order.items) (IsPlaceOf (map state_of states.now) (T.sought sought.now) self.now.order.items) }
     {
-        let number = self.hints.get(fingerprint)?;
-        match states.get(number as usize) {
-            Some(state) if sought.is(state) => Some(number),
-            _ => None,
-        }
+        self.order.as_slice().binary_search_by(|number| {
+            self.stands(states, *number, fingerprint, sought)
+        })
     }
 
     /// How a number's state stands to another.
@@ -131,43 +139,66 @@ impl Index {
         }
     }
 
-    /// Puts a new state at the end of states, and its number at its place of the order. Nothing changes where memory
-    /// is refused.
-    pub(crate) fn put(
-        &mut self,
-        state: State,
-        place: usize,
-        states: &mut Vec<State>,
-    ) -> Result<(), AllocError>
-        requires index { IsIndex (map state_of states.old.items) self.old.fingerprints.items self.old.order.items }
-        requires place { IsPlaceOf (map state_of states.old.items) (state_of state) self.old.order.items place }
+    /// Puts a new state at the end of states. Nothing changes where memory is refused.
+    pub(crate) fn put(&mut self, state: State, states: &mut Vec<State>) -> Result<(), AllocError>
+        requires index { IsIndex (map state_of states.old.items) self.old }
+        requires is_new { number_in (map state_of states.old.items) (state_of state) ≡ None }
         requires room { length states.old.items < 65535 }
-        ensures index { IsIndex (map state_of states.new.items) self.new.fingerprints.items self.new.order.items }
+        ensures index { IsIndex (map state_of states.new.items) self.new }
         ensures ok { OnOk result (map state_of states.new.items ≡ map state_of states.old.items ++ state_of state ∷ []) }
         ensures unchanged { OnErr result (map state_of states.new.items ≡ map state_of states.old.items) }
     {
-        let number = states.len() as u16;
         let fingerprint = state.fingerprint();
         states.reserve(1)?;
         self.fingerprints.reserve(1)?;
-        self.hints.reserve(self.fingerprints.as_slice())?;
-        self.order.insert(place, number)?;
-        self.hints.set(fingerprint, number);
+        self.slots.reserve(self.fingerprints.as_slice())?;
+        self.seat(states.as_slice(), &state, fingerprint)?;
         self.fingerprints.push_reserved(fingerprint);
         states.push_reserved(state);
         Ok(())
     }
 
+    /// Lets a slot tell the number of a new state, or puts it at its place of the order.
+    fn seat(&mut self, states: &[State], state: &State, fingerprint: u64) -> Result<(), AllocError>
+        requires index { IsIndex (map state_of states.now) self.old }
+        requires fingerprint { fingerprint ≡ fingerprint_of (state_of state.now) }
+        requires is_new { number_in (map state_of states.now) (state_of state.now) ≡ None }
+        requires room { length states.now < 65535 }
+        ensures ok { OnOk result (FindsStates (map state_of states.now ++ state_of state.now ∷ []) (self.new.fingerprints.items ++ fingerprint ∷ []) self.new.slots self.new.order.items) }
+        ensures unchanged { OnErr result (IsIndex (map state_of states.now) self.new) }
+        ensures fingerprints { self.new.fingerprints ≡ self.old.fingerprints }
+    {
+        let number = states.len() as u16;
+        if self.slots.take(fingerprint, number) {
+            return Ok(());
+        }
+        match self.place(states, fingerprint, state) {
+            Ok(_) => Ok(()),
+            Err(place) => Ok(self.order.insert(place, number)?),
+        }
+    }
+
     /// Puts a state at the end of states where it is not there yet.
     pub(crate) fn append(&mut self, states: &mut Vec<State>, state: State) -> Result<(), AllocError>
-        requires index { IsIndex (map state_of states.old.items) self.old.fingerprints.items self.old.order.items }
+        requires index { IsIndex (map state_of states.old.items) self.old }
         requires room { length states.old.items < 65535 }
-        ensures index { IsIndex (map state_of states.new.items) self.new.fingerprints.items self.new.order.items }
+        ensures index { IsIndex (map state_of states.new.items) self.new }
         ensures ok { OnOk result (map state_of states.new.items ≡ with_state (map state_of states.old.items) (state_of state)) }
     {
         match self.find(states.as_slice(), &state) {
-            Ok(_) => Ok(()),
-            Err(place) => self.put(state, place, states),
+            Some(_) => Ok(()),
+            None => self.put(state, states),
         }
+    }
+}
+
+/// Whether a number is that of a state.
+fn has_number<T: Sought>(states: &[State], number: u16, sought: &T) -> bool
+    ensures yes { result ≡ true → slice_get (map state_of states.now) number ≡ Some (T.sought sought.now) }
+    ensures no { result ≡ false → slice_get (map state_of states.now) number ≢ Some (T.sought sought.now) }
+{
+    match states.get(number as usize) {
+        Some(state) => sought.is(state),
+        None => false,
     }
 }

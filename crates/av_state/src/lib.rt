@@ -1,8 +1,8 @@
 //! Block states and their numbers.
 #![tactic(auto)]
 
-mod hints;
 mod index;
+mod slots;
 pub mod state;
 pub mod table;
 pub mod text;

@@ -14,6 +14,9 @@ use std::alloc::Global;
 /// The most states that a table has.
 const MOST_STATES: usize = 65535;
 
+/// For how many states a table has room at once.
+const ROOM: usize = 32;
+
 /// Block states with their numbers, in the order in which they were first seen.
 ///
 /// Number 0 is air and 1 to 9 are the water levels 0 to 8. A table has no state twice, at most 65,535 states, and
@@ -23,7 +26,7 @@ pub struct StateTable {
     states: Vec<State>,
     index: Index,
     pub ghost numbered: { IsStateList (map state_of states.items) } by { Prim.hlevel props },
-    ghost indexed: { IsIndex (map state_of states.items) index.fingerprints.items index.order.items } by { Prim.hlevel props },
+    ghost indexed: { IsIndex (map state_of states.items) index } by { Prim.hlevel props },
 }
 
 impl StateTable {
@@ -31,7 +34,6 @@ impl StateTable {
     ghost use Rattle.av_types.specs.declared.fault.Fault.TheVariants.{OutOfMemory, BadWaterLevel, TooManyStates};
     ghost use Rattle.av_state.specs.BlockState.{meant, storable, wet_of};
     ghost use Rattle.av_state.specs.StateList.{first_states, most_states, number_in, Numbers, IsNew, IsOneTooMany};
-    ghost use Rattle.av_state.specs.Index.{IsPlaceOf};
     ghost use Rattle.av_state.specs.Table.{states};
     ghost use Rattle.av_state.specs.Texts.{properties_told, state_told, form_of};
 
@@ -40,8 +42,8 @@ impl StateTable {
         ensures ok { IfOk result (λ t. states t ≡ first_states) }
         ensures memory { IfErr result (λ e. e ≡ OutOfMemory) }
     {
-        let mut states = Vec::new(alloc);
-        let mut index = Index::new(alloc);
+        let mut states = Vec::with_capacity(alloc, ROOM)?;
+        let mut index = Index::with_room(alloc, ROOM)?;
         index.append(&mut states, State::air(alloc)?)?;
         for level in 0..9 {
             index.append(&mut states, State::water(alloc, level)?)?;
@@ -125,10 +127,7 @@ impl StateTable {
     fn place<T: Sought>(&self, sought: &T) -> Option<u16>
         ensures { result ≡ number_in (states self.now) (T.sought sought.now) }
     {
-        match self.index.find(self.states.as_slice(), sought) {
-            Ok(number) => Some(number),
-            Err(_) => None,
-        }
+        self.index.find(self.states.as_slice(), sought)
     }
 
     /// How wet the state of a number is by its name: water by its level, and all else is dry.
@@ -155,16 +154,16 @@ impl StateTable {
             Form::Fixed(number) => Ok(number),
             Form::NoLevel => Err(Fault::BadWaterLevel),
             Form::Same => match self.index.find(self.states.as_slice(), state) {
-                Ok(number) => Ok(number),
-                Err(place) => self.add(state, place),
+                Some(number) => Ok(number),
+                None => self.add(state),
             },
         }
     }
 
-    /// Gives a new state the next number, and puts that at its place of the order.
-    fn add(&mut self, state: &State, place: usize) -> Result<u16, Fault>
+    /// Gives a new state the next number.
+    fn add(&mut self, state: &State) -> Result<u16, Fault>
         requires same { meant (state_of state.now) ≡ Some (state_of state.now) }
-        requires place { IsPlaceOf (states self.old) (state_of state.now) self.old.index.order.items place }
+        requires is_new { number_in (states self.old) (state_of state.now) ≡ None }
         ensures ok { IfOk result (Numbers (states self.old) (state_of state.now) (states self.new)) }
         ensures too_many { (result ≡ Err TooManyStates) ↔ (length (states self.old) ≡ most_states) }
         ensures memory { IfErr result (λ e. e ≢ TooManyStates → e ≡ OutOfMemory) }
@@ -174,7 +173,7 @@ impl StateTable {
         if number >= MOST_STATES {
             return Err(Fault::TooManyStates);
         }
-        self.index.put(state.clone()?, place, &mut self.states)?;
+        self.index.put(state.clone()?, &mut self.states)?;
         Ok(number as u16)
     }
 }

@@ -28,8 +28,7 @@ pub data IsListFault (files : List RegionFile) (e : Fault) : Type 0 where
   range : length files ≤ 1024 → ¬ All (λ f. IsInLimits f.pos) files → e ≡ RegionRange → IsListFault files e
   repeated : length files ≤ 1024 → All (λ f. IsInLimits f.pos) files → share_a_region files ≡ true → e ≡ RepeatedRegion → IsListFault files e
 
--- ---- working definition
-
+-- a list without a fault, and the same files in order
 pub record IsListInOrder (files sorted : List RegionFile) : Type 0 where
   pub good : IsList files
   pub order : sorted ≡ in_order files

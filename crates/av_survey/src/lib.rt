@@ -2,7 +2,7 @@
 #![tactic(auto)]
 
 pub mod finding;
-mod listing;
+pub mod listing;
 mod places;
 pub mod surveying;
 

@@ -63,8 +63,11 @@ fn sorted(files: Vec<RegionFile>) -> Result<Vec<RegionFile>, AllocError>
     Ok(files)
 }
 
-/// At most 1,024 files of regions within the limits, each region once, in their order.
-pub(crate) fn judged(files: Vec<RegionFile>) -> Result<Vec<RegionFile>, Fault>
+/// Files by (z, x) of their regions, before any of them is looked at.
+///
+/// Refuses more than 1,024 files (`BadCount`), a region out of the limits (`RegionRange`), and then two files of one
+/// region (`RepeatedRegion`).
+pub fn judged(files: Vec<RegionFile>) -> Result<Vec<RegionFile>, Fault>
     ensures ok { IfOk result (λ fs. IsListInOrder files.items fs.items) }
     ensures err { IfErr result (λ e. e ≢ OutOfMemory → IsListFault files.items e) }
 {

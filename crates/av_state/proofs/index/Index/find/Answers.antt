@@ -1,32 +1,17 @@
-use Rattle.std.proofs.Common.{◌≡◌, ◌<◌, ◌≤◌, ℕ, List, length, map, subst, ap, ◌∙◌, rules}
-use Rattle.std.specs.List.{HoldsAt, slice_get}
-use Rattle.std.specs.List.Sorted.{IsNonDecreasingBy, IsPartitionPoint}
-use Rattle.std.specs.Ordering.{ordering_index}
-use Rattle.std.specs.declared.cmp.Ordering.TheVariants.{Less, Equal, Greater}
-use Rattle.std.proofs.lemmas.Fn.{always_returns_same}
+use Rattle.std.proofs.Common.{◌≡◌, ◌∙◌, ℕ, length, map, ap, sym, Some, slice_get, arith}
+use Rattle.std.proofs.lemmas.List.{length-map}
 use Rattle.av_state.specs.States.{state_of}
-use Rattle.av_state.specs.Index.{compared}
-use Rattle.av_state.proofs.Placing.{searchable, found, placed}
+use Rattle.av_state.proofs.Placing.{absent_free, absent_in_both}
 use Rattle.av_state.proofs.index.Index.find.Goals as goal
 
-pub returns-in-Ok : goal.returns-in-Ok
-returns-in-Ok g c =
+pub returns-then-first-clause-absent : goal.returns-then-first-clause-absent
+returns-then-first-clause-absent g c =
     let i = c.args.self.now in
-    let states = map state_of c.args.states.now in
-    let s = g.T.Sought.sought c.args.sought.now in
-    let ord = compared i.fingerprints.items states c.fingerprint-fingerprint.result s in
-    let P : List ℕ → Type 0 = λ xs. (c.in-Ok.place < length xs) × HoldsAt (λ n. ord n ≡ Equal) xs c.in-Ok.place in
-    let at : P i.order.items = subst P c.as_slice.ensures.value (c.in-Ok.ensures.bound, c.in-Ok.ensures.position ord (always_returns_same _ (λ a r. r ≡ ord a.0.now) _ (λ a r h call. (search rules, search rules)))) in
-    let there = found states i.fingerprints.items i.order.items c.requires s c.fingerprint-fingerprint.result c.fingerprint-fingerprint.ensures c.in-Ok.place c.index.result.now at.0 at.1 in
-    ap (slice_get states) c.index.ensures ∙ there
+    absent_free (map state_of c.args.states.now) i.fingerprints.items i.order.items i.slots c.requires.index (g.T.Sought.sought c.args.sought.now) c.fingerprint-fingerprint.result c.fingerprint-fingerprint.ensures (omega (arith, c.requires.few, length-map c.args.states.now state_of)) (omega (arith, c.told-first.ensures, c.if-first.true))
 
-pub returns-in-Err : goal.returns-in-Err
-returns-in-Err g c =
+pub returns-in-Err-clause-absent : goal.returns-in-Err-clause-absent
+returns-in-Err-clause-absent g c =
     let i = c.args.self.now in
     let states = map state_of c.args.states.now in
     let s = g.T.Sought.sought c.args.sought.now in
-    let f = c.fingerprint-fingerprint.result in
-    let ord = compared i.fingerprints.items states f s in
-    let P : List ℕ → Type 0 = λ xs. (c.in-Err.place ≤ length xs) × (IsNonDecreasingBy (λ n. ordering_index (ord n)) xs → IsPartitionPoint (λ n. ord n ≡ Less) (λ n. ord n ≡ Greater) xs c.in-Err.place) in
-    let at : P i.order.items = subst P c.as_slice.ensures.value (c.in-Err.ensures.bound, c.in-Err.ensures.position ord (always_returns_same _ (λ a r. r ≡ ord a.0.now) _ (λ a r h call. (search rules, search rules)))) in
-    placed states i.fingerprints.items i.order.items c.requires s f c.fingerprint-fingerprint.ensures c.in-Err.place at.0 (at.1 (searchable states i.fingerprints.items i.order.items c.requires s f c.fingerprint-fingerprint.ensures))
+    absent_in_both states i.fingerprints.items i.order.items i.slots c.requires.index s c.fingerprint-fingerprint.result c.fingerprint-fingerprint.ensures c.in-Err.field-0 c.in-Err.ensures (λ is. c.has_number.ensures.no c.if-has_number.false (ap (slice_get states) c.told-first.ensures ∙ is))

@@ -14,7 +14,7 @@ invariant_of-self-2 c =
     let room : length (states c.args.self.now) < 65535 = omega (arith, length-map old state_of) in
     let P : BlockState → Type 0 = λ t. OnOk c.put.result (map state_of c.put.new.states.items ≡ map state_of old ++ t ∷ []) in
     record {
-      numbered = IsStateList-put c.put.result (map state_of old) (map state_of c.put.new.states.items) s (subst P c.in_ok-clone.ensures.cases c.put.ensures.ok) c.put.ensures.unchanged c.args.self.now.numbered c.requires.same c.requires.place.is_new room;
+      numbered = IsStateList-put c.put.result (map state_of old) (map state_of c.put.new.states.items) s (subst P c.in_ok-clone.ensures.cases c.put.ensures.ok) c.put.ensures.unchanged c.args.self.now.numbered c.requires.same c.requires.is_new room;
       indexed = c.put.ensures.index;
     }
 
@@ -26,7 +26,7 @@ returns-clause-ok c =
     let all : map state_of c.put.new.states.items ≡ map state_of old ++ s ∷ [] = c.in_ok-put.ensures.ok ∙ ap (λ t. map state_of old ++ t ∷ []) c.in_ok-clone.ensures.cases in
     let P : List BlockState → Type 0 = λ xs. Numbers (map state_of old) s xs (length (map state_of old)) in
     let Q : ℕ → Type 0 = λ k. Numbers (map state_of old) s (map state_of c.put.new.states.items) k in
-    subst Q n (subst P (sym all) (Numbers-new (map state_of old) s c.requires.same c.requires.place.is_new))
+    subst Q n (subst P (sym all) (Numbers-new (map state_of old) s c.requires.same c.requires.is_new))
 
 pub returns-clause-too_many : goal.returns-clause-too_many
 returns-clause-too_many c =

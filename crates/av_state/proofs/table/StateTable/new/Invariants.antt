@@ -7,5 +7,5 @@ use Rattle.av_state.proofs.table.StateTable.new.Given as goal
 abbrev pub invariant-loop-level : goal.invariant-loop-level
 invariant-loop-level l = record {
   first : map state_of l.states.items ≡ take (l.level + 1) first_states;
-  index : IsIndex (map state_of l.states.items) l.index.fingerprints.items l.index.order.items;
+  index : IsIndex (map state_of l.states.items) l.index;
 }

@@ -1,0 +1,192 @@
+#!/usr/bin/env python3
+"""Proves all that a crate stands on, side by side, and then the crate.
+
+    scripts/prove.py NAME [--jobs N] [-- COMMAND ..]
+
+Each job is an `rt check`, in a copy of the tree of its own, since two checks in one tree wait for each other where they stand on the
+same crates. A crate is begun when those that it stands on are proved, first the one that most is left to prove above. COMMAND is run
+in the crate's own folder when they all are; without one, `rt check`. It begins with what the checks in the copies kept, and then the
+copies go.
+
+Lines on standard error say which crates are being proved, how many are done and about how long it will still take. Status: that of
+the command; 1 where a check failed before, which then tells what it printed; 2 where other words are needed.
+"""
+import argparse
+import concurrent.futures
+import functools
+import os
+import pathlib
+import shutil
+import signal
+import subprocess
+import sys
+import tempfile
+import threading
+import time
+
+TOP = pathlib.Path(__file__).resolve().parent.parent
+# A check works on two processors for part of its time, so there is one job for each processor, and each wants some 2 GB.
+MEMORY_OF_A_JOB = 3 << 30
+
+
+def crates():
+    """What each crate of the tree stands on, of the tree's own."""
+    below = {}
+    for line in (TOP / "crates.txt").read_text().splitlines():
+        head, colon, names = line.split("#")[0].partition(":")
+        if colon:
+            below[head.split()[0]] = names.split()
+    return {name: [other for other in names if other in below] for name, names in below.items()}
+
+
+def closure(name, below):
+    """A crate and all that it stands on."""
+    found = set()
+    left = [name]
+    while left:
+        crate = left.pop()
+        if crate not in found:
+            found.add(crate)
+            left += below[crate]
+    return found
+
+
+def sizes(names):
+    """The bytes of each crate's sources, definitions and proofs: about what its check takes."""
+    return {
+        name: sum(file.stat().st_size for kind in ("rt", "antt") for file in (TOP / "crates" / name).rglob("*." + kind))
+        for name in names
+    }
+
+
+def heights(names, below, size):
+    """What is to be proved from each crate up to the last, along the longest way."""
+    above = {name: [other for other in names if name in below[other]] for name in names}
+    known = {}
+
+    def height(name):
+        if name not in known:
+            known[name] = size[name] + max(map(height, above[name]), default=0)
+        return known[name]
+
+    return {name: height(name) for name in names}
+
+
+class Failed(Exception):
+    """A check that ended otherwise than by a proof: its crate, and what it printed."""
+
+
+class Trees:
+    """Copies of the tree, each for one check at a time."""
+
+    def __init__(self, folder, count):
+        self.free = []
+        self.running = set()
+        self.lock = threading.Lock()
+        for number in range(count):
+            tree = pathlib.Path(folder) / str(number)
+            shutil.copytree(TOP / "crates", tree / "crates", ignore=shutil.ignore_patterns("out", "must-fail"))
+            for name in ("crates.txt", "HANDLES"):
+                shutil.copy(TOP / name, tree / name)
+            self.free.append(tree)
+
+    def check(self, name):
+        """Proves a crate in a copy that is free."""
+        with self.lock:
+            tree = self.free.pop()
+        started = subprocess.Popen(
+            ["rt", "check"], cwd=tree / "crates" / name, stdin=subprocess.DEVNULL, stdout=subprocess.PIPE, stderr=subprocess.STDOUT,
+            start_new_session=True)
+        with self.lock:
+            self.running.add(started)
+        printed = started.communicate()[0]
+        with self.lock:
+            self.running.discard(started)
+            self.free.append(tree)
+        if started.returncode != 0:
+            raise Failed(name, printed.decode(errors="replace"))
+        return name
+
+    def stop(self):
+        """Ends the checks that are under way."""
+        with self.lock:
+            for started in self.running:
+                os.killpg(started.pid, signal.SIGTERM)
+
+
+def minutes(seconds):
+    """A time for a reader."""
+    return "less than a minute" if seconds < 60 else "%d minutes" % round(seconds / 60)
+
+
+def say(done, size, running, begun):
+    """Tells how far the proofs are, and about how long they will still take."""
+    proved = sum(size[name] for name in done)
+    left = ""
+    if proved and len(done) < len(size):
+        rest = (sum(size.values()) - proved) * (time.monotonic() - begun) / proved
+        left = ", about %s left" % minutes(rest)
+    names = "; proving " + ", ".join(sorted(running)) if running else ""
+    print("%d of %d crates are proved%s%s" % (len(done), len(size), left, names), file=sys.stderr, flush=True)
+
+
+def prove(names, below, jobs, last):
+    """Proves crates, each after those that it stands on, and then answers the last step."""
+    size = sizes(names)
+    height = heights(names, below, size)
+    done, running, begun = set(), {}, time.monotonic()
+    with tempfile.TemporaryDirectory(prefix="anvilwater-") as folder, concurrent.futures.ThreadPoolExecutor(jobs) as pool:
+        trees = Trees(folder, jobs)
+        try:
+            while len(done) < len(names):
+                ready = [name for name in names - done - set(running.values()) if done.issuperset(below[name])]
+                ready.sort(key=height.get, reverse=True)
+                for name in ready[:jobs - len(running)]:
+                    running[pool.submit(trees.check, name)] = name
+                say(done, size, running.values(), begun)
+                for ended in concurrent.futures.wait(running, return_when=concurrent.futures.FIRST_COMPLETED).done:
+                    del running[ended]
+                    done.add(ended.result())
+        except BaseException:
+            trees.stop()
+            raise
+        say(done, size, (), begun)
+        return last()
+
+
+def split_at(words, mark):
+    """The words before a mark, and those behind it."""
+    where = words.index(mark) if mark in words else len(words)
+    return words[:where], words[where + 1:]
+
+
+def jobs_here():
+    """As many jobs as there are processors, where the memory is enough for them."""
+    memory = os.sysconf("SC_PAGE_SIZE") * os.sysconf("SC_PHYS_PAGES")
+    return max(1, min(len(os.sched_getaffinity(0)), memory // MEMORY_OF_A_JOB))
+
+
+def main():
+    below = crates()
+    words = argparse.ArgumentParser(
+        description=__doc__.split("\n")[0], usage="%(prog)s NAME [--jobs N] [-- COMMAND ..]",
+        epilog="COMMAND is run last, in the crate's folder; without one, rt check.")
+    words.add_argument("name", choices=below, metavar="NAME", help="a crate of crates.txt")
+    words.add_argument("--jobs", type=int, default=jobs_here(), help="how many checks at once; %(default)s here")
+    given, last = split_at(sys.argv[1:], "--")
+    asked = words.parse_args(given)
+    command = functools.partial(subprocess.call, last or ["rt", "check"], cwd=TOP / "crates" / asked.name, stdin=subprocess.DEVNULL)
+    signal.signal(signal.SIGTERM, signal.default_int_handler)
+    try:
+        return prove(closure(asked.name, below) - {asked.name}, below, max(1, asked.jobs), command)
+    except Failed as failed:
+        name, printed = failed.args
+        print(printed, end="", file=sys.stderr)
+        print("the proof of %s failed" % name, file=sys.stderr)
+        return 1
+    except KeyboardInterrupt:
+        return 130
+
+
+if __name__ == "__main__":
+    sys.exit(main())
