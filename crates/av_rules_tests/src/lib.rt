@@ -2,6 +2,8 @@
 #![tactic(auto)]
 
 #[cfg(test)]
+mod covered;
+#[cfg(test)]
 mod expecting;
 #[cfg(test)]
 mod tests;

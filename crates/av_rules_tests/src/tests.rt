@@ -16,7 +16,7 @@ fn property(alloc: Global, key: &str, value: &str) -> Result<Property, Fault> {
 }
 
 /// A state of a name, and of keys and values.
-fn state(alloc: Global, name: &str, pairs: &[(&str, &str)]) -> Result<State, Fault> {
+pub(crate) fn state(alloc: Global, name: &str, pairs: &[(&str, &str)]) -> Result<State, Fault> {
     let mut properties = Vec::new(alloc);
     for (key, value) in pairs {
         properties.push(property(alloc, *key, *value)?)?;

@@ -37,14 +37,14 @@ pub struct Input {
 
 /// What files say, and the states that they name.
 #[derive(Drop)]
-struct Loaded {
-    table: StateTable,
+pub(crate) struct Loaded {
+    pub(crate) table: StateTable,
     world: World,
     rest: Rest,
 }
 
 /// The block table that a text spells.
-fn read_rules(alloc: Global, text: &[u8]) -> Result<Rules, Fault>
+pub(crate) fn read_rules(alloc: Global, text: &[u8]) -> Result<Rules, Fault>
     ensures ok { IfOk result (λ r. IsTable text.now (table_of r) r.height) }
     ensures err { IfErr result (λ e. e ≢ OutOfMemory → (e ≡ BadTable) × IsBadTable text.now) }
 {
@@ -62,7 +62,7 @@ fn load_new(alloc: Global, files: Vec<RegionFile>, rules: &Rules) -> Result<Load
 }
 
 /// The same, read by several threads.
-fn load_new_on(
+pub(crate) fn load_new_on(
     rt: &(impl Threads + Sync),
     alloc: Global,
     files: Vec<RegionFile>,
@@ -92,7 +92,7 @@ fn read_edits(
 }
 
 /// What a run begins with, where its files and its block table are read.
-fn with_edits(
+pub(crate) fn with_edits(
     alloc: Global,
     loaded: Loaded,
     rules: &Rules,

@@ -1,6 +1,7 @@
 //! A run of the whole program: region files, a block table and edits in, region files out.
 #![tactic(auto)]
 
+pub mod checked;
 mod counts;
 pub mod input;
 mod release;
@@ -8,5 +9,6 @@ mod runs;
 mod writing;
 
 pub use av_sink::RegionFile;
+pub use checked::{Ran, run_checked};
 pub use input::{Input, read_input};
 pub use runs::{Outcome, run};

@@ -32,7 +32,7 @@ pub struct Outcome {
 }
 
 /// The ticks of a run, the light after them, and the files.
-fn finish<R: Threads + Wait + Sync, G: Gate + Sync>(
+pub(crate) fn finish<R: Threads + Wait + Sync, G: Gate + Sync>(
     rt: &R,
     alloc: Global,
     input: Input,

@@ -4,6 +4,8 @@
 #[cfg(test)]
 mod chunks;
 #[cfg(test)]
+mod covered;
+#[cfg(test)]
 mod gates;
 #[cfg(test)]
 mod given;

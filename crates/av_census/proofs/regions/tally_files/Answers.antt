@@ -1,0 +1,21 @@
+use Rattle.std.proofs.Common.{◌≡◌, ◌∙◌, ◌++◌, ◌∷◌, ◌<◌, ◌≤◌, ◌+◌, [], List, length, length-append, refl, ap, append_assoc, subst, arith}
+use Rattle.std.specs.List.{All}
+use Rattle.std.specs.Vec.Iter.{into_iter_items}
+use Rattle.std.proofs.lemmas.List.Elements.{All-tail}
+use Rattle.av_types.specs.Places.{IsInLimits}
+use Rattle.av_sink.specs.declared.files.RegionFile.{RegionFile}
+use Rattle.av_census.proofs.Files.{files_none, files_next, files_room}
+use Rattle.av_census.proofs.regions.tally_files.Goals as goal
+
+pub loop-file-preserved : goal.loop-file-preserved
+loop-file-preserved c =
+    let file : RegionFile = c.in-Some.file in
+    let rest : List RegionFile = into_iter_items c.next.new.self in
+    let step : into_iter_items c.loop-file.file-iterator ≡ file ∷ rest = c.in-Some.ensures.steps.0 in
+    let limits : All (λ f. IsInLimits f.pos) (file ∷ rest) = subst (λ (xs : List RegionFile). All (λ f. IsInLimits f.pos) xs) step c.loop-file.invariant.limits in
+    let one = c.in_ok-tally_file.field-0 in
+    record {
+      split = append_assoc c.loop-file.yielded (file ∷ []) rest ∙ subst (λ (xs : List RegionFile). c.loop-file.yielded ++ xs ≡ c.args.files.items) step c.loop-file.invariant.split;
+      limits = All-tail (λ f. IsInLimits f.pos) file rest limits;
+      counted = files_next c.args.height c.loop-file.yielded file c.loop-file.tally c.tally_file.new.tally c.loop-file.left_out one (c.loop-file.left_out + one) c.loop-file.invariant.counted c.in_ok-tally_file.ensures refl;
+    }

@@ -1,0 +1,3 @@
+pub mod Census
+pub mod Counting
+pub mod Listing
