@@ -1,0 +1,14 @@
+pub mod Colours
+pub mod Looks
+pub mod Columns
+pub mod Light
+pub mod Patches
+pub mod Pixels
+pub mod Maps
+pub mod Views
+pub mod Sections
+pub mod Texts
+pub mod Arrays
+pub mod Payloads
+pub mod Within
+pub mod Rows
