@@ -5,7 +5,6 @@ use Rattle.av_types.specs.declared.fault.Fault.TheVariants.{OutOfMemory}
 use Rattle.av_types.specs.declared.place.Height.{Height}
 use Rattle.av_sink.specs.Account.{Account, IsDevice, file_named, in_folder, with_failure, with_files}
 use Rattle.av_sink.specs.declared.files.RegionFile.{RegionFile}
-use Rattle.av_png.specs.Pictures.{rows_of}
 use Rattle.av_png.specs.Png.{png_of}
 use Rattle.av_map.specs.Colours.{NamedColour, colours_spelled}
 use Rattle.av_map.specs.Maps.{IsMap}
@@ -55,6 +54,6 @@ pub data IsNotSaved (path : List ℕ) (old new : Account) (e : Fault) : Type 0 w
 -- What the command leaves in the account of a sink, and its status: the file of the picture and 0, even where chunks with a fault are not shown;
 -- or nothing and 1.
 pub data HasMapped (path : List ℕ) (table colours : Option (List ℕ)) (light : Bool) (old new : Account) (status : ℕ) : Type 0 where
-  drawn : (m : Map) → IsMapBy table colours light m → IsSaved path (png_of (rows_of m.picture)) old new → status ≡ 0 → HasMapped path table colours light old new status
+  drawn : (m : Map) → IsMapBy table colours light m → IsSaved path (png_of m.picture) old new → status ≡ 0 → HasMapped path table colours light old new status
   not_saved : (m : Map) (e : Fault) → IsMapBy table colours light m → IsNotSaved path old new e → status ≡ 1 → HasMapped path table colours light old new status
   not_drawn : new ≡ old → status ≡ 1 → HasMapped path table colours light old new status

@@ -5,7 +5,7 @@ use Rattle.av_types.specs.declared.place.Height.{Height}
 use Rattle.av_rules.specs.Rows.{BlockTable}
 use Rattle.av_sink.specs.declared.files.RegionFile.{RegionFile}
 use Rattle.av_census.specs.Census.{IsCensus}
-use Rattle.av_census.specs.Listing.{counts_of, listing}
+use Rattle.av_census.specs.Listing.{listing}
 use Rattle.av_census.specs.declared.counts.Census.{Census}
 use Rattle.av_commands.specs.Output.{HasBegun}
 use Rattle.av_commands.specs.Tables.{IsTableBy, IsWorldHeight}
@@ -19,7 +19,7 @@ pub record IsListingBy (name : Option (List ℕ)) (text : List ℕ) (left_out : 
   pub files : List RegionFile
   pub census : Census
   pub counted : IsCensus height files census
-  pub printed : text ≡ listing table (counts_of census.counts.items)
+  pub printed : text ≡ listing table census.counts.items
   pub others : left_out ≡ census.left_out
 
 -- the status, by how many chunks are left out

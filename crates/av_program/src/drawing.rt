@@ -1,7 +1,6 @@
 //! The command `map`: a picture of the region files of a folder.
 ghost use Rattle.std.specs.Prelude.{◌≡◌, IfErr, IfOk, OnOk, option_map, string_bytes};
 ghost use Rattle.av_sink.specs.Account.{IsFresh};
-ghost use Rattle.av_png.specs.Pictures.{rows_of};
 ghost use Rattle.av_png.specs.Png.{png_of};
 ghost use Rattle.av_map.specs.Views.{colours_of};
 ghost use Rattle.av_program.specs.MapCommand.{AreColoursBy, HasMapped, IsFileIn, IsMapBy, IsNotSaved, IsSaved, view_by};
@@ -70,7 +69,7 @@ fn draw_map<R: Files + AllocGlobal + Clone + Drop, E: Write>(
 
 /// The bytes of a picture's file.
 fn picture_bytes(alloc: Global, picture: &Picture) -> Result<Vec<u8>, AllocError>
-    ensures { IfOk result (λ bytes. bytes.items ≡ png_of (rows_of picture.now)) }
+    ensures { IfOk result (λ bytes. bytes.items ≡ png_of picture.now) }
 {
     let mut bytes = Vec::new(alloc);
     match write_png(alloc, &mut bytes, picture) {
@@ -113,7 +112,7 @@ fn save_picture<S: OutputFolder>(
     sink: &mut S,
 ) -> Result<(), Fault>
     requires fresh { IsFresh (S.account sink.old) }
-    ensures ok { OnOk result (IsSaved path.now (png_of (rows_of picture.now)) (S.account sink.old) (S.account sink.new)) }
+    ensures ok { OnOk result (IsSaved path.now (png_of picture.now) (S.account sink.old) (S.account sink.new)) }
     ensures err { IfErr result (IsNotSaved path.now (S.account sink.old) (S.account sink.new)) }
 {
     let bytes = picture_bytes(alloc, picture)?;
