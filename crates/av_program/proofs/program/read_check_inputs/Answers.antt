@@ -13,4 +13,4 @@ pub returns-in_err-read_folder-clause-unread : goal.returns-in_err-read_folder-c
 returns-in_err-read_folder-clause-unread g c =
     if_err c.from_residual-in_err-read_folder.result c.in_err-read_folder.field-0.0
     (IsUnreadCheck c.args.folder.now (option_map (λ t. t.now) c.args.table))
-    c.from_residual-in_err-read_folder.ensures.1 (inr c.in_err-read_folder.ensures)
+    c.from_residual-in_err-read_folder.ensures.1 (inr c.in_err-read_folder.ensures.unread)
