@@ -56,13 +56,14 @@ count_in e = record { state = e.0; blocks = e.1 }
 
 count_of-entries : (s : State) (es : List (State × ℕ)) → count_of (state_of s) (map count_in es) ≡ unwrap_or (lookup (is_at (state_order s)) es) 0
 count_of-entries s [] = refl
-count_of-entries s (e ∷ es) = by (same_state (state_of s) (state_of e.0)) (is_eq (state_order s e.0)) (sym (state_tie s e.0))
+count_of-entries s (e ∷ es) = by (same_state (state_of s) (state_of e.0)) (is_eq (state_order s e.0)) (sym (state_tie s e.0)) (count_of-entries s es)
   where
-    by : (b d : Bool) → b ≡ d → cond b e.1 (count_of (state_of s) (map count_in es)) ≡ unwrap_or (cond d (Some e.1) (lookup (is_at (state_order s)) es)) 0
-    by true true h = refl
-    by false false h = count_of-entries s es
-    by true false h = cc
-    by false true h = cc
+    by : (b d : Bool) → b ≡ d → count_of (state_of s) (map count_in es) ≡ unwrap_or (lookup (is_at (state_order s)) es) 0
+        → cond b e.1 (count_of (state_of s) (map count_in es)) ≡ unwrap_or (cond d (Some e.1) (lookup (is_at (state_order s)) es)) 0
+    by true true h rest = refl
+    by false false h rest = rest
+    by true false h rest = cc
+    by false true h rest = cc
 
 states-entries : (es : List (State × ℕ)) → map (λ (c : StateCount). c.state) (map count_in es) ≡ keys_of es
 states-entries [] = refl

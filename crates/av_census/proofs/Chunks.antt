@@ -139,7 +139,7 @@ loaded_in h payload c d table counts m rest spelled l are = record {
   blocks = chunk_blocks c h (root_tags d);
   left_out = 0;
   read = good d spelled l.no_fault refl refl;
-  is = (refl, are.long, λ s. are.counts (states table) s refl ∙ ap (times s) (blocks_stored c h d (states table) m rest l));
+  is = (refl, are.long, λ s. are.each (states table) s refl ∙ ap (times s) (blocks_stored c h d (states table) m rest l));
   few = few_blocks c h (root_tags d);
 }
 

@@ -191,11 +191,11 @@ files_room h fs now left_out low before s =
 
 inserted-length : {X : Type 0} (cmp : X → X → Ordering) (x : X) (ys : List X) → length (inserted cmp x ys) ≡ suc (length ys)
 inserted-length cmp x [] = refl
-inserted-length cmp x (y ∷ ys) = by (is_lt (cmp y x))
+inserted-length cmp x (y ∷ ys) = by (is_lt (cmp y x)) (inserted-length cmp x ys)
   where
-    by : (b : Bool) → length (cond b (y ∷ inserted cmp x ys) (x ∷ y ∷ ys)) ≡ suc (suc (length ys))
-    by true = ap suc (inserted-length cmp x ys)
-    by false = refl
+    by : (b : Bool) → length (inserted cmp x ys) ≡ suc (length ys) → length (cond b (y ∷ inserted cmp x ys) (x ∷ y ∷ ys)) ≡ suc (suc (length ys))
+    by true rest = ap suc rest
+    by false rest = refl
 
 pub ordered-length : {X : Type 0} (cmp : X → X → Ordering) (xs : List X) → length (ordered cmp xs) ≡ length xs
 ordered-length cmp [] = refl

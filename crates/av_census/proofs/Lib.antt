@@ -1,5 +1,5 @@
 pub mod Weighing
-pub mod Blocks
+pub mod Sections
 pub mod Chunks
 pub mod States
 pub mod Adding

@@ -47,8 +47,8 @@ weighed-zeros s (t ∷ ts) zero = refl
 weighed-zeros s (t ∷ ts) (suc n) = none (same_state s t) (weighed s ts (replicate n 0)) (weighed-zeros s ts n)
   where
     none : (b : Bool) (w : ℕ) → w ≡ 0 → when b 0 + w ≡ 0
-    none true w e = e
-    none false w e = e
+    none true w e = omega (arith, e)
+    none false w e = omega (arith, e)
 
 pub zeros-le : (n k : ℕ) → slice_index (replicate n 0) k ≤ 0
 zeros-le zero k = omega arith

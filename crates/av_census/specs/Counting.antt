@@ -63,7 +63,7 @@ SlotsBelow count slots = (k : ℕ) → SlotBelow count (slice_index_or slots k N
 pub record AreSlotCounts (slots : List (Option Section)) (count n : ℕ) (counts : List ℕ) : Type 0 where
   pub long : length counts ≡ count
   pub bound : (k : ℕ) → slice_index counts k ≤ 4096 * n
-  pub counts : (table : List BlockState) (s : BlockState) → length table ≡ count → weighed s table counts ≡ times s (slots_states table slots n)
+  pub each : (table : List BlockState) (s : BlockState) → length table ≡ count → weighed s table counts ≡ times s (slots_states table slots n)
 
 -- ---- by states
 

@@ -67,9 +67,9 @@ fn count_section(counts: &mut Vec<u64>, section: &Section)
 
 /// Counts the blocks of a section that may be out.
 fn count_slot(counts: &mut Vec<u64>, slot: Option<&Section>)
-    requires below { SlotBelow (length counts.old.items) (option_copied slot.entry) }
+    requires below { SlotBelow (length counts.old.items) (option_copied slot) }
     requires room { (k : ℕ) → slice_index counts.old.items k + 4096 < 2 ^ 64 }
-    ensures { CountsMore counts.old.items counts.new.items (λ table. slot_states table (option_copied slot.entry)) 4096 }
+    ensures { CountsMore counts.old.items counts.new.items (λ table. slot_states table (option_copied slot)) 4096 }
 {
     if let Some(section) = slot {
         count_section(counts, section);

@@ -68,9 +68,11 @@ pub(crate) fn counted_at(
     requires index { index < 1024 }
     ensures { IfOk result (IsCountedAt height region.now.bytes.now (chunk_at pos index) index) }
 {
-    match region.payload(index) {
-        Err(_) => Ok(Counted::LeftOut),
-        Ok(None) => Ok(Counted::Nothing),
-        Ok(Some(payload)) => counted_in(alloc, payload, pos.chunk_at(index), height),
-    }
+    let Ok(found) = region.payload(index) else {
+        return Ok(Counted::LeftOut);
+    };
+    let Some(payload) = found else {
+        return Ok(Counted::Nothing);
+    };
+    counted_in(alloc, payload, pos.chunk_at(index), height)
 }

@@ -61,7 +61,8 @@ fn tally_region(
 {
     let mut left_out = 0;
     for index in 0..1024 {
-        left_out += tally_place(alloc, tally, region, pos, index, height)?;
+        let more = tally_place(alloc, tally, region, pos, index, height)?;
+        left_out += more;
     }
     Ok(left_out)
 }
@@ -104,7 +105,8 @@ pub(crate) fn tally_files(
     let mut tally = BTreeMap::new(alloc);
     let mut left_out = 0;
     for file in files {
-        left_out += tally_file(alloc, &mut tally, &file, height)?;
+        let more = tally_file(alloc, &mut tally, &file, height)?;
+        left_out += more;
     }
     Ok(Totals { tally, left_out })
 }

@@ -13,9 +13,9 @@ loop-file-preserved c =
     let rest : List RegionFile = into_iter_items c.next.new.self in
     let step : into_iter_items c.loop-file.file-iterator ≡ file ∷ rest = c.in-Some.ensures.steps.0 in
     let limits : All (λ f. IsInLimits f.pos) (file ∷ rest) = subst (λ (xs : List RegionFile). All (λ f. IsInLimits f.pos) xs) step c.loop-file.invariant.limits in
-    let one = c.in_ok-tally_file.field-0 in
+    let one = c.in_ok-more.more in
     record {
       split = append_assoc c.loop-file.yielded (file ∷ []) rest ∙ subst (λ (xs : List RegionFile). c.loop-file.yielded ++ xs ≡ c.args.files.items) step c.loop-file.invariant.split;
       limits = All-tail (λ f. IsInLimits f.pos) file rest limits;
-      counted = files_next c.args.height c.loop-file.yielded file c.loop-file.tally c.tally_file.new.tally c.loop-file.left_out one (c.loop-file.left_out + one) c.loop-file.invariant.counted c.in_ok-tally_file.ensures refl;
+      counted = files_next c.args.height c.loop-file.yielded file c.loop-file.tally c.tally_file.new.tally c.loop-file.left_out one (c.loop-file.left_out + one) c.loop-file.invariant.counted c.in_ok-more.ensures refl;
     }

@@ -13,6 +13,6 @@ tally_place-requires-clause-room c =
 
 pub loop-index-preserved : goal.loop-index-preserved
 loop-index-preserved c =
-    let one = c.in_ok-tally_place.field-0 in
+    let one = c.in_ok-more.more in
     region_next c.args.height c.args.pos c.args.region.now.bytes.now c.loop-index.index c.args.tally.now c.loop-index.tally c.tally_place.new.tally c.loop-index.left_out one (c.loop-index.left_out + one)
-    c.loop-index.invariant c.in_ok-tally_place.ensures refl
+    c.loop-index.invariant c.in_ok-more.ensures refl

@@ -13,9 +13,9 @@ returns-then-raise c =
 pub add_state-requires : goal.add_state-requires
 add_state-requires c =
     let key = c.in_ok-key.key in
-    ap (λ es. lookup (is_at (state_order key)) es) (c.raise.ensures.same c.if-raise.false) ∙ get_same c.args.tally.now key c.args.state.now c.in_ok-key.ensures ∙ c.raise.ensures.absent c.if-raise.false
+    record { absent = ap (λ es. lookup (is_at (state_order key)) es) (c.raise.ensures.same c.if-raise.false) ∙ get_same c.args.tally.now key c.args.state.now c.in_ok-key.ensures.cases ∙ c.raise.ensures.absent c.if-raise.false }
 
 pub returns : goal.returns
 returns c =
-    tallies_new c.args.tally.now c.raise.new.tally c.add_state.new.tally c.args.state.now c.in_ok-key.key c.args.more c.in_ok-key.ensures (c.raise.ensures.same c.if-raise.false) (c.raise.ensures.absent c.if-raise.false)
+    tallies_new c.args.tally.now c.raise.new.tally c.add_state.new.tally c.args.state.now c.in_ok-key.key c.args.more c.in_ok-key.ensures.cases (c.raise.ensures.same c.if-raise.false) (c.raise.ensures.absent c.if-raise.false)
     c.in_ok-add_state.ensures.here c.in_ok-add_state.ensures.others c.requires.some

@@ -15,7 +15,7 @@ add_some-requires c =
     let n = c.loop-number.number in
     let k = c.state.result.now in
     let low : n < length c.args.counts.now = omega arith in
-    has_room c.args.tally.now c.loop-number.tally k (states c.args.table.now) c.args.counts.now n low c.state.ensures.there c.loop-number.invariant (c.requires.room k)
+    record { room = has_room c.args.tally.now c.loop-number.tally k (states c.args.table.now) c.args.counts.now n low c.state.ensures.there c.loop-number.invariant (c.requires.room k) }
 
 pub loop-number-preserved : goal.loop-number-preserved
 loop-number-preserved c =

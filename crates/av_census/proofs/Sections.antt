@@ -33,7 +33,7 @@ pub counts-next : (old now new : List ℕ) (s : Section) (n : ℕ) → CountsMor
     → new ≡ slice_set now (number_at s n) (slice_index now (number_at s n) + 1) → CountsMore old new (λ table. first_places table s (n + 1)) (n + 1)
 counts-next old now new s n before low is =
     let m = number_at s n in
-    let same_length = ap (λ (xs : List ℕ). length xs) is ∙ length-set now m (slice_index now m + 1) in
+    let same_length : length new ≡ length now = ap (λ (xs : List ℕ). length xs) is ∙ length-set now m (slice_index now m + 1) in
     record {
       long = same_length ∙ before.long;
       bound = λ k.
@@ -42,7 +42,7 @@ counts-next old now new s n before low is =
           omega (arith, one, most);
       counts = λ table t e.
           let fits : length table ≡ length now = e ∙ sym before.long in
-          let f = λ i. slice_index_or table (number_at s i) air in
+          let f : ℕ → BlockState = λ i. slice_index_or table (number_at s i) air in
           add_up (weighed t table new) (weighed t table now) (weighed t table old) (times t (first_places table s n)) (times t (first_places table s (n + 1))) (when (same_state t (f n)) 1)
           (ap (weighed t table) is ∙ weighed-raised t table now m 1 low fits) (before.counts table t e) (times-place t f n);
     }
@@ -77,7 +77,7 @@ slots-none slots count counts is long = record {
   bound = λ k.
       let none : slice_index counts k ≤ 0 = subst (λ (xs : List ℕ). slice_index xs k ≤ 0) (sym is) (zeros-le count k) in
       omega (arith, none);
-  counts = λ table s e. ap (weighed s table) is ∙ weighed-zeros s table count ∙ sym (ap (times s) (joined-none (λ k. slot_states table (slice_index_or slots k None))));
+  each = λ table s e. ap (weighed s table) is ∙ weighed-zeros s table count ∙ sym (ap (times s) (joined-none (λ k. slot_states table (slice_index_or slots k None))));
 }
 
 pub slots-next : (slots : List (Option Section)) (count n : ℕ) (now new : List ℕ) → AreSlotCounts slots count n now → CountsMore now new (λ table. slot_states table (slice_index_or slots n None)) 4096
@@ -88,9 +88,9 @@ slots-next slots count n now new before more = record {
       let one = more.bound k in
       let most = before.bound k in
       omega (arith, one, most);
-  counts = λ table s e.
+  each = λ table s e.
       add_same (weighed s table new) (weighed s table now) (times s (slots_states table slots n)) (times s (slots_states table slots (n + 1))) (times s (slot_states table (slice_index_or slots n None)))
-      (more.counts table s (e ∙ sym before.long)) (before.counts table s e) (times-joined s (λ k. slot_states table (slice_index_or slots k None)) n);
+      (more.counts table s (e ∙ sym before.long)) (before.each table s e) (times-joined s (λ k. slot_states table (slice_index_or slots k None)) n);
 }
 
 -- ---- a section of one state
