@@ -3,6 +3,7 @@ ghost use Rattle.std.specs.Prelude.{◌≡◌, Some, codes};
 
 use av_types::Fault;
 use std::alloc::AllocError;
+use std::error::Error;
 use std::fmt;
 
 /// Why there is no map.
@@ -29,6 +30,8 @@ impl fmt::Display for Refusal {
         }
     }
 }
+
+impl Error for Refusal {}
 
 impl From<Fault> for Refusal {
     ghost use Rattle.av_map.specs.declared.refusal.Refusal.TheVariants as refusal;

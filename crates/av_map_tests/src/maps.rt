@@ -75,9 +75,7 @@ fn pixel(map: &Map, x: usize, z: usize) -> Option<(u8, u8, u8, u8)> {
 fn blocks(rt: HostRuntime) -> Result<(), Fail> {
     let alloc = rt.alloc();
     let colours = Colours::read(alloc, COLOURS)?;
-    let Ok(map) = draw(alloc, world(alloc)?, Height::game(), &colours, View::Blocks) else {
-        return Err(Fail);
-    };
+    let map = draw(alloc, world(alloc)?, Height::game(), &colours, View::Blocks)?;
     expect_equal(
         &rt,
         (map.picture.width(), map.picture.height()),
@@ -116,9 +114,7 @@ fn blocks(rt: HostRuntime) -> Result<(), Fail> {
 fn light(rt: HostRuntime) -> Result<(), Fail> {
     let alloc = rt.alloc();
     let colours = Colours::none(alloc);
-    let Ok(map) = draw(alloc, world(alloc)?, Height::game(), &colours, View::Light) else {
-        return Err(Fail);
-    };
+    let map = draw(alloc, world(alloc)?, Height::game(), &colours, View::Light)?;
     for (x, z, wanted) in [
         (0, 16, Some((17, 17, 17, 255))),
         (1, 16, Some((34, 34, 34, 255))),
@@ -148,9 +144,7 @@ fn darkness_and_letters(rt: HostRuntime) -> Result<(), Fail> {
     ] {
         let mut files = Vec::new(alloc);
         add(&mut files, 0, 0, region(alloc, 0, 0, 0, &[layer])?)?;
-        let Ok(map) = draw(alloc, files, Height::game(), &colours, view) else {
-            return Err(Fail);
-        };
+        let map = draw(alloc, files, Height::game(), &colours, view)?;
         expect_equal(&rt, pixel(&map, 0, 0), wanted);
     }
     Ok(())

@@ -31,7 +31,7 @@ fn refusals(rt: HostRuntime) -> Result<(), Fail> {
             })?;
         }
         let Err(refusal) = draw(alloc, files, Height::game(), &colours, View::Blocks) else {
-            return Err(Fail);
+            return Err(Fail::new("a map"));
         };
         let text = format!(in alloc; "{refusal}")?;
         expect_equal(&rt, text.as_str(), wanted);
