@@ -88,7 +88,7 @@ pub returns-in-Some-clause-none : goal.returns-in-Some-clause-none
 unfolding Entered
 returns-in-Some-clause-none c =
     if_none c.block_words.result _ _
-    (λ lacks. no_values c.args.matches.now (codes "block") _ (c.in-Some.ensures.found.0 refl) c.in-Some.ensures.rows (lacks_block _ lacks))
+    (λ lacks. no_values c.args.matches.now (codes "block") _ (c.in-Some.ensures.found.0 refl) c.in-Some.ensures.rows (lacks_block (rows_of (found_of c.in-Some.block.now)) lacks))
     c.block_words.ensures.none
 
 pub returns-in-Some-subcommand_matches-clause-none : goal.returns-in-Some-subcommand_matches-clause-none
@@ -109,7 +109,7 @@ pub returns-in-Some-subcommand_matches-3-clause-none : goal.returns-in-Some-subc
 unfolding Entered
 returns-in-Some-subcommand_matches-3-clause-none c =
     if_none c.states_words.result _ _
-    (λ lacks. no_values c.args.matches.now (codes "states") _ (c.in-Some-subcommand_matches-3.ensures.found.0 refl) c.in-Some-subcommand_matches-3.ensures.rows (lacks_states _ lacks))
+    (λ lacks. no_values c.args.matches.now (codes "states") _ (c.in-Some-subcommand_matches-3.ensures.found.0 refl) c.in-Some-subcommand_matches-3.ensures.rows (lacks_states (rows_of (found_of c.in-Some-subcommand_matches-3.states.now)) lacks))
     c.states_words.ensures.none
 
 pub returns-clause-none : goal.returns-clause-none
