@@ -1,5 +1,5 @@
 -- What `map` draws, and where it puts it. Which bytes the table, the colours and the files have, no clause can say.
-use Rattle.std.specs.Prelude.{◌≡◌, ◌≢◌, ◌⊎◌, ◌<◌, ℕ, List, [], ◌∷◌, ◌++◌, Option, Some, None, Bool, length, slice_index, if◌then◌else◌}
+use Rattle.std.specs.Prelude.{◌≡◌, ◌⊎◌, ℕ, List, [], ◌∷◌, Option, Some, None, Bool, if◌then◌else◌}
 use Rattle.av_types.specs.declared.fault.Fault.{Fault}
 use Rattle.av_types.specs.declared.fault.Fault.TheVariants.{OutOfMemory}
 use Rattle.av_types.specs.declared.place.Height.{Height}
@@ -11,6 +11,7 @@ use Rattle.av_map.specs.Maps.{IsMap}
 use Rattle.av_map.specs.declared.drawing.Map.{Map}
 use Rattle.av_map.specs.declared.view.View.{View}
 use Rattle.av_map.specs.declared.view.View.TheVariants.{Blocks, Light}
+use Rattle.av_commands.specs.Names.{IsFileIn}
 use Rattle.av_commands.specs.Tables.{IsHeightBy}
 
 -- ---- what is drawn
@@ -33,11 +34,6 @@ pub record IsMapBy (table colours : Option (List ℕ)) (light : Bool) (m : Map) 
   pub drawn : IsMap (view_by light) named height files m
 
 -- ---- where it is put
-
--- a path: the folder that it begins with, up to its last slash, or nothing where it has none, and the file's name behind that
-pub record IsFileIn (path folder name : List ℕ) : Type 0 where
-  pub parts : path ≡ folder ++ name
-  pub no_slash : (i : ℕ) → i < length name → slice_index name i ≢ 47
 
 -- the folder of the path was opened, and has taken the file
 pub record IsSaved (path bytes : List ℕ) (old new : Account) : Type 0 where

@@ -1,11 +1,12 @@
 //! The command `map`: a picture of the region files of a folder.
-ghost use Rattle.std.specs.Prelude.{◌≡◌, IfErr, IfOk, OnOk, option_map, string_bytes};
+ghost use Rattle.std.specs.Prelude.{◌≡◌, IfErr, IfOk, OnOk, option_map};
 ghost use Rattle.av_sink.specs.Account.{IsFresh};
 ghost use Rattle.av_png.specs.Png.{png_of};
 ghost use Rattle.av_map.specs.Views.{colours_of};
-ghost use Rattle.av_program.specs.MapCommand.{AreColoursBy, HasMapped, IsFileIn, IsMapBy, IsNotSaved, IsSaved, view_by};
+ghost use Rattle.av_program.specs.MapCommand.{AreColoursBy, HasMapped, IsMapBy, IsNotSaved, IsSaved, view_by};
 
 use av_commands::device::read_file;
+use av_commands::names::split_path;
 use av_commands::output::{FAULT, report_fault, write_left_out};
 use av_commands::tables::read_height;
 use av_folders::progress::note_step;
@@ -78,16 +79,6 @@ fn picture_bytes(alloc: Global, picture: &Picture) -> Result<Vec<u8>, AllocError
     }
 }
 
-/// The folder that a path begins with, up to its last slash, and the file's name behind that.
-fn split<'a>(alloc: Global, path: &'a str) -> Result<(String, &'a str), AllocError>
-    ensures { IfOk result (λ p. IsFileIn path.now (string_bytes p.0) p.1.now) }
-{
-    match path.rsplit_once('/') {
-        Some((folder, name)) => Ok((format!(in alloc; "{folder}/")?, name)),
-        None => Ok((String::new(alloc), path)),
-    }
-}
-
 /// Hands a file to the folder of its path, whole or not at all.
 ///
 /// Refuses with `Device` and the path where it is not taken.
@@ -96,7 +87,7 @@ fn save<S: OutputFolder>(alloc: Global, path: &str, bytes: &[u8], sink: &mut S) 
     ensures ok { OnOk result (IsSaved path.now bytes.now (S.account sink.old) (S.account sink.new)) }
     ensures err { IfErr result (IsNotSaved path.now (S.account sink.old) (S.account sink.new)) }
 {
-    let (folder, name) = split(alloc, path)?;
+    let (folder, name) = split_path(alloc, path)?;
     sink.open(folder.as_str())?;
     match sink.write_file(name, bytes) {
         Ok(()) => Ok(()),
