@@ -16,7 +16,7 @@ import tempfile
 
 sys.dont_write_bytecode = True
 import make_samples
-from flat_runs import chunk
+from flat_runs import chunk, said
 
 MOST = 100 * 10**6
 SIZE = 253_849
@@ -65,7 +65,7 @@ def ask(program, work, data):
             file.write(content)
     words = [program, "run", "--in", "in", "--out", "out", "--table", "table", "--edits", "edits", "--ticks", "0", "--workers", "1"]
     process = subprocess.Popen(words, cwd=work, stdout=subprocess.PIPE, stderr=subprocess.PIPE, text=True)
-    told = process.stdout.read().strip(), process.stderr.read().strip()
+    told = process.stdout.read().strip(), said(process.stderr.read())
     _, status, usage = os.wait4(process.pid, 0)
     return (*told, os.waitstatus_to_exitcode(status)), 1024 * usage.ru_maxrss
 

@@ -57,8 +57,11 @@ region() {
   sector "$1" "\\0\\0$(printf '\\%03o\\%03o' $((size / 256)) $((size % 256)))\\3$2"
 }
 
-# What follows the fault of a compressed chunk.
+# What follows the fault of a compressed chunk, what is said of chunks that are left out, and of states that have no row.
 advice='  scripts/worlds.py plain IN OUT makes such files readable; anvilwater-world WORLD does the whole way\n'
+left_out=' chunks or files have a fault and are left out: `anvilwater check --in DIR` lists them\n'
+uncovered=' states have no row in the table and count as full, dark blocks: `anvilwater states --in DIR --table FILE` lists them\n'
+strict=' states have no row in the table, and --strict wants one for each: `anvilwater states --in DIR --table FILE` lists them\n'
 
 not_a_region="the file's name is not r.X.Z.mca, with X and Z the region's coordinates"
 
@@ -252,10 +255,86 @@ if [ "$(ls "$output")" != $'r.-1.0.mca\nr.0.0.mca' ]; then
   echo "folder after a write that failed: $(ls "$output")"
 fi
 
-# A run of a compressed chunk.
+# A run of a compressed chunk. A run says how many states have no row, and with --strict runs nothing for them.
+stone=crates/av_main/data/r.-1.-1.mca
 rm -r "$output"/* "$input"/*
 sector "$input/r.0.0.mca" '\0\0\0\5\2\12\0\0\0'
 expect_run 1 "" "fault 09: Compression 2\n$advice" "$blocks" "$edits" "$input" "$output" 1
+rm "$input/r.0.0.mca"
+cp "$stone" "$input"
+printf 'version = 3\nmin_section = 4\nsections = 1\n' > "$work/bare.toml"
+expect_run 1 "" "1$strict" "$work/bare.toml" "$edits" "$input" "$output" 1 --strict
+expect_run 1 "" "fault 23: BadCount\n" "$work/bare.toml" "$edits" "$input" "$output" 9 --strict
+asked=$((asked + 1))
+if [ -n "$(ls "$output")" ]; then
+  wrong=$((wrong + 1))
+  echo "folder after --strict: $(ls "$output")"
+fi
+expect_run 0 "chunks 1 turns 0\n" "1$uncovered" "$work/bare.toml" "$edits" "$input" "$output" 1
+expect_run 0 "chunks 1 turns 0\n" "" "$blocks" "$edits" "$input" "$output" 1 --strict
+
+# The states of a folder. They have a row, or none, where a table is named.
+expect 2 "error: the following required arguments were not provided:" states
+expect 2 "Lists the block states of the region files of a folder, with how many blocks have each" states --help
+expect 1 "fault 25: Device missing.toml" states --table missing.toml --in missing
+expect 1 "fault 19: BadTable" states --table README.md --in missing
+expect 1 "fault 25: Device missing" states --in missing
+mkdir "$work/empty"
+expect_all 0 "" "" states --in "$work/empty"
+expect_all 0 "98303 minecraft:air\n1 minecraft:stone\n" "" states --in "$input"
+expect_all 0 "4095 minecraft:air open=true floor=false opacity=0 emission=0 wet=false\n1 minecraft:stone no row\n" "" \
+  states --in "$input" --table "$work/bare.toml"
+two_chunks "$input/r.0.0.mca"
+expect_all 1 "98303 minecraft:air\n1 minecraft:stone\n" "2$left_out" states --in "$input"
+if [ -c /dev/full ]; then
+  expect_full states --in samples
+fi
+
+# A picture of a folder. The table is read before the colours, and these before the folder.
+picture="$work/picture.png"
+expect 2 "error: the following required arguments were not provided:" map --in samples
+expect 2 "error: the following required arguments were not provided:" map --out "$picture"
+expect 2 "Draws the region files of a folder from above, a pixel for each column of blocks" map --help
+expect 1 "fault 25: Device missing.toml" map --table missing.toml --colours missing.colours --in missing --out "$picture"
+expect 1 "fault 25: Device missing.colours" map --colours missing.colours --in missing --out "$picture"
+expect 1 "fault 19: BadTable" map --colours README.md --in missing --out "$picture"
+expect 1 "fault 25: Device missing" map --in missing --out "$picture"
+expect 1 "no region file to draw" map --in "$work/empty" --out "$picture"
+: > "$folder/r.60001.0.mca"
+expect 1 "fault 02: RegionRange" map --in "$folder" --out "$picture"
+rm "$folder/r.60001.0.mca"
+expect 1 "fault 25: Device $work/missing/picture.png" map --in samples --out "$work/missing/picture.png"
+mkdir "$picture"
+expect 1 "fault 25: Device $picture" map --in samples --out "$picture"
+rmdir "$picture"
+asked=$((asked + 1))
+if [ -e "$picture.part" ]; then
+  wrong=$((wrong + 1))
+  echo "a picture that failed is left behind"
+fi
+expect_all 0 "" "" map --in samples --out "$picture"
+expect_all 0 "" "" map --in samples --out "$work/light.png" --light
+expect_all 0 "" "2$left_out" map --in "$input" --out "$work/parts.png"
+# Two regions side by side are 1,024 by 1,024 pixels where one is north-west of the other.
+for file in picture light parts; do
+  asked=$((asked + 1))
+  if [ "$(head -c 24 "$work/$file.png" | od -An -tx1 | tr -d ' \n')" != 89504e470d0a1a0a0000000d494844520000040000000400 ]; then
+    wrong=$((wrong + 1))
+    echo "$file.png: no picture of 1,024 by 1,024 pixels"
+  fi
+done
+asked=$((asked + 1))
+if cmp -s "$picture" "$work/light.png"; then
+  wrong=$((wrong + 1))
+  echo "the picture of the light is that of the blocks"
+fi
+# A name without a folder is that of a file here.
+(cd "$work" && "$program" map --in "$top/samples" --out here.png)
+asked=$((asked + 1))
+if ! cmp -s "$picture" "$work/here.png"; then
+  wrong=$((wrong + 1))
+  echo "here.png: another picture"
+fi
 
 # Regions without chunks, and one that ends in its header.
 one="$work/r.0.0.mca"
@@ -267,7 +346,6 @@ head -c 100 /dev/zero > "$one"
 expect 1 "fault 04: ShortHeader" block "$one" 1 2 3
 
 # Chunk (-1, -1), whose section 4 has stone at its last place of y 64 and air elsewhere.
-stone=crates/av_main/data/r.-1.-1.mca
 expect 0 minecraft:stone block -- "$stone" -1 64 -1
 expect 0 minecraft:air block -- "$stone" -2 64 -1
 expect 0 unloaded block -- "$stone" -1 320 -1

@@ -113,6 +113,11 @@ def many_chunks():
 # ---------------------------------------------------------------- runs
 
 
+def said(errors):
+    """What a run wrote to standard error, but for the line on states that have no row."""
+    return "\n".join(line for line in errors.splitlines() if " states have no row in the table and " not in line)
+
+
 class Run:
     """What the program printed and wrote for the region (0, 0). Other files of the folder are given by their names."""
 
@@ -127,7 +132,7 @@ class Run:
             words = [program, "run", "--in", "in", "--out", "out", "--table", "table", "--edits", "edits",
                      "--ticks", str(ticks), "--workers", str(workers)]
             done = subprocess.run(words, cwd=work, capture_output=True, text=True)
-            self.line, self.fault = done.stdout.strip(), done.stderr.strip()
+            self.line, self.fault = done.stdout.strip(), said(done.stderr)
             self.path = os.path.join(work, "out", "r.0.0.mca")
             self.data = open(self.path, "rb").read() if os.path.exists(self.path) else None
             self.chunks = {}

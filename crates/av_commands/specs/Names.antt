@@ -15,3 +15,8 @@ FitsRegion region = FitsSigned w32 region.x × FitsSigned w32 region.z
 abbrev pub IsFileNameOf : List ℕ → List ℕ → Type 0
 IsFileNameOf path name = ((i : ℕ) → i < length name → slice_index name i ≢ 47)
     × ((path ≡ name) ⊎ ((folder : List ℕ) × (path ≡ folder ++ (codes "/" ++ name))))
+
+-- a path: the folder that it begins with, up to its last slash, or nothing where it has none, and the file's name behind that
+pub record IsFileIn (path folder name : List ℕ) : Type 0 where
+  pub parts : path ≡ folder ++ name
+  pub no_slash : (i : ℕ) → i < length name → slice_index name i ≢ 47

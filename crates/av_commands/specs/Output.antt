@@ -1,5 +1,6 @@
 -- The lines that are printed.
 use Rattle.std.specs.Prelude.{◌≡◌, List, ℕ, Bool, true, false, cond, Option, Some, None, ◌++◌, [], ◌∷◌, codes}
+use Rattle.std.specs.Fmt.{decimal}
 use Rattle.std.specs.Io.KnownBytes.{Appends}
 use Rattle.av_types.specs.Faults.{fault_text}
 use Rattle.av_types.specs.declared.fault.Fault.{Fault}
@@ -31,6 +32,10 @@ advice e = cond (is_compression e) packed_advice []
 -- what is said of a fault: its line first
 abbrev pub fault_lines : Fault → List ℕ
 fault_lines e = line (fault_text e) ++ advice e
+
+-- how many chunks with a fault, and files cut short, a command leaves out
+abbrev pub left_out_text : ℕ → List ℕ
+left_out_text n = decimal n ++ codes " chunks or files have a fault and are left out: `anvilwater check --in DIR` lists them"
 
 -- what was written of a text where a write was refused: its first bytes, perhaps none
 pub record HasBegun (before after : Option (List ℕ)) (text : List ℕ) : Type 0 where

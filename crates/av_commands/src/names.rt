@@ -1,9 +1,9 @@
 //! The names of region files (<https://minecraft.wiki/w/Region_file_format>).
-ghost use Rattle.std.specs.Prelude.{◌≡◌, ◌++◌, codes, ℕ, List, IfOk, IfSome, IfNone, IsSomeAnd, FitsSigned, Some, ℤ};
+ghost use Rattle.std.specs.Prelude.{◌≡◌, ◌++◌, codes, ℕ, List, IfOk, IfSome, IfNone, IsSomeAnd, FitsSigned, Some, ℤ, string_bytes};
 ghost use Rattle.std.specs.Int.{w32};
 ghost use Rattle.std.specs.Fmt.{signed_decimal};
 ghost use Rattle.av_sink.specs.Names.{name_with, region_name_of};
-ghost use Rattle.av_commands.specs.Names.{FitsRegion, HasNoDot, IsFileNameOf};
+ghost use Rattle.av_commands.specs.Names.{FitsRegion, HasNoDot, IsFileIn, IsFileNameOf};
 ghost use Rattle.av_types.specs.declared.place.RegionPos.{RegionPos};
 
 use av_sink::region_name;
@@ -70,5 +70,15 @@ pub fn region_of_name(alloc: Global, name: &str) -> Result<Option<RegionPos>, Al
         Ok(Some(RegionPos { x, z }))
     } else {
         Ok(None)
+    }
+}
+
+/// The folder that a path begins with, up to its last slash, and the file's name behind that.
+pub fn split_path<'a>(alloc: Global, path: &'a str) -> Result<(String, &'a str), AllocError>
+    ensures { IfOk result (λ p. IsFileIn path.now (string_bytes p.0) p.1.now) }
+{
+    match path.rsplit_once('/') {
+        Some((folder, name)) => Ok((format!(in alloc; "{folder}/")?, name)),
+        None => Ok((String::new(alloc), path)),
     }
 }

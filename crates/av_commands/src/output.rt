@@ -5,7 +5,7 @@ ghost use Rattle.std.specs.Io.KnownBytes.{Appends, WriteAppends};
 ghost use Rattle.av_state.specs.States.{state_of};
 ghost use Rattle.av_types.specs.Faults.{fault_text};
 ghost use Rattle.av_types.specs.declared.fault.Fault.TheVariants.{OutOfMemory};
-ghost use Rattle.av_commands.specs.Output.{HasBegun, advice, answer_line, fault_lines, is_compression, line, packed_advice};
+ghost use Rattle.av_commands.specs.Output.{HasBegun, advice, answer_line, fault_lines, is_compression, left_out_text, line, packed_advice};
 
 use av_state::State;
 use av_types::Fault;
@@ -50,7 +50,7 @@ fn write_some<O: Write>(out: &mut O, bytes: &[u8]) -> io::Result<usize>
 }
 
 /// Writes bytes, and nothing behind a write that is refused: what was written until then are the first of them.
-pub(crate) fn write_first<O: Write>(out: &mut O, bytes: &[u8]) -> io::Result<()>
+pub fn write_first<O: Write>(out: &mut O, bytes: &[u8]) -> io::Result<()>
     ensures ok { OnOk result (Appends (O.contents out.old) (O.contents out.new) bytes.now) }
     ensures err { OnErr result (HasBegun (O.contents out.old) (O.contents out.new) bytes.now) }
 {
@@ -106,6 +106,16 @@ pub fn write_fault<E: Write>(err: &mut E, fault: &Fault) -> io::Result<()>
 {
     write_line(err, fault)?;
     write_advice(err, fault)
+}
+
+/// Writes how many chunks, and files cut short, were left out for their faults.
+pub fn write_left_out<E: Write>(err: &mut E, left_out: u64) -> io::Result<()>
+    ensures { OnOk result (Appends (E.contents err.old) (E.contents err.new) (line (left_out_text left_out))) }
+{
+    writeln!(
+        err,
+        "{left_out} chunks or files have a fault and are left out: `anvilwater check --in DIR` lists them"
+    )
 }
 
 /// Writes a fault, as well as that can be written, and answers the status.

@@ -2,7 +2,7 @@
 use crate::expecting::expect_equal;
 use av_commands::block::block_text;
 use av_commands::checking::findings;
-use av_commands::names::{file_name, region_of_name};
+use av_commands::names::{file_name, region_of_name, split_path};
 use av_commands::output::report_fault;
 use av_survey::Finding;
 use av_types::{ChunkPos, Fault, Height, Pos, RegionPos};
@@ -47,6 +47,15 @@ fn names_of_regions(rt: HostRuntime) -> Result<(), Fail> {
     expect_equal(&rt, file_name("a/b/r.0.0.mca"), "r.0.0.mca");
     expect_equal(&rt, file_name("r.0.0.mca"), "r.0.0.mca");
     expect_equal(&rt, file_name("a/"), "");
+    for (path, want_folder, want_name) in [
+        ("a/b/map.png", "a/b/", "map.png"),
+        ("/map.png", "/", "map.png"),
+        ("map.png", "", "map.png"),
+    ] {
+        let (folder, name) = split_path(alloc, path)?;
+        expect_equal(&rt, folder.as_str(), want_folder);
+        expect_equal(&rt, name, want_name);
+    }
     Ok(())
 }
 

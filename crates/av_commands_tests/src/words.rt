@@ -11,7 +11,7 @@ use std::test::Fail;
 fn block_of<'a>(command: Words<'a>) -> Option<(&'a str, Pos, Option<&'a str>)> {
     match command {
         Words::Block { file, pos, table } => Some((file, pos, table)),
-        Words::Check { .. } | Words::Run { .. } => None,
+        _ => None,
     }
 }
 
@@ -44,12 +44,12 @@ fn words_of_block(rt: HostRuntime) -> Result<(), Fail> {
 /// The values of `check`.
 fn check_of<'a>(command: Words<'a>) -> Option<(&'a str, Option<&'a str>, bool)> {
     match command {
-        Words::Block { .. } | Words::Run { .. } => None,
         Words::Check {
             input,
             table,
             progress,
         } => Some((input, table, progress)),
+        _ => None,
     }
 }
 
@@ -73,6 +73,112 @@ fn words_of_check(rt: HostRuntime) -> Result<(), Fail> {
     Ok(())
 }
 
+/// Whether `run` is strict, and says how far it is.
+fn flags_of_run(command: Words<'_>) -> Option<(bool, bool)> {
+    match command {
+        Words::Run {
+            strict,
+            progress,
+            ..
+        } => Some((strict, progress)),
+        _ => None,
+    }
+}
+
+#[test]
+fn flags_of_a_run(rt: HostRuntime) -> Result<(), Fail> {
+    let alloc = rt.alloc();
+    let run = [
+        "run",
+        "--in=a",
+        "--out=b",
+        "--table=t",
+        "--edits=e",
+        "--ticks=1",
+        "--workers=1",
+        "--strict",
+    ];
+    let flags = flags_of_run(words(alloc, run.as_slice())?).ok_or("another command")?;
+    expect_equal(&rt, flags, (true, false));
+    let flags = flags_of_run(words(alloc, &run[..7])?).ok_or("another command")?;
+    expect_equal(&rt, flags, (false, false));
+    Ok(())
+}
+
+/// The values of `map`.
+struct Drawn<'a> {
+    input: &'a str,
+    picture: &'a str,
+    table: Option<&'a str>,
+    colours: Option<&'a str>,
+    light: bool,
+}
+
+fn map_of<'a>(command: Words<'a>) -> Option<Drawn<'a>> {
+    match command {
+        Words::Map {
+            input,
+            picture,
+            table,
+            colours,
+            light,
+        } => Some(Drawn {
+            input,
+            picture,
+            table,
+            colours,
+            light,
+        }),
+        _ => None,
+    }
+}
+
+#[test]
+fn words_of_map(rt: HostRuntime) -> Result<(), Fail> {
+    let alloc = rt.alloc();
+    let plain = ["map", "--in", "world", "--out", "map.png"];
+    let map = map_of(words(alloc, plain.as_slice())?).ok_or("another command")?;
+    expect_equal(&rt, map.input, "world");
+    expect_equal(&rt, map.picture, "map.png");
+    expect_equal(&rt, map.table, None);
+    expect_equal(&rt, map.colours, None);
+    expect_equal(&rt, map.light, false);
+    let all = [
+        "map",
+        "--light",
+        "--colours=c.toml",
+        "--table=t.toml",
+        "--out=map.png",
+        "--in=world",
+    ];
+    let map = map_of(words(alloc, all.as_slice())?).ok_or("another command")?;
+    expect_equal(&rt, map.table, Some("t.toml"));
+    expect_equal(&rt, map.colours, Some("c.toml"));
+    expect_equal(&rt, map.light, true);
+    Ok(())
+}
+
+/// The values of `states`.
+fn states_of<'a>(command: Words<'a>) -> Option<(&'a str, Option<&'a str>)> {
+    match command {
+        Words::States { input, table } => Some((input, table)),
+        _ => None,
+    }
+}
+
+#[test]
+fn words_of_states(rt: HostRuntime) -> Result<(), Fail> {
+    let alloc = rt.alloc();
+    let plain = ["states", "--in", "world"];
+    let (input, table) = states_of(words(alloc, plain.as_slice())?).ok_or("another command")?;
+    expect_equal(&rt, input, "world");
+    expect_equal(&rt, table, None);
+    let all = ["states", "--table=t.toml", "--in=world"];
+    let (_, table) = states_of(words(alloc, all.as_slice())?).ok_or("another command")?;
+    expect_equal(&rt, table, Some("t.toml"));
+    Ok(())
+}
+
 /// Why words are refused.
 fn refusal<'a>(alloc: Global, given: &'a [&'a str]) -> Option<ErrorKind> {
     words(alloc, given).err().map(|error| error.kind())
@@ -80,7 +186,7 @@ fn refusal<'a>(alloc: Global, given: &'a [&'a str]) -> Option<ErrorKind> {
 
 #[test]
 fn words_that_are_refused(rt: HostRuntime) {
-    let cases: [(&[&str], ErrorKind); 8] = [
+    let cases: [(&[&str], ErrorKind); 10] = [
         (&[], ErrorKind::MissingSubcommand),
         (&["blok"], ErrorKind::InvalidSubcommand),
         (
@@ -101,6 +207,14 @@ fn words_that_are_refused(rt: HostRuntime) {
             ErrorKind::ArgumentConflict,
         ),
         (&["block", "--help"], ErrorKind::DisplayHelp),
+        (
+            &["map", "--in", "world"],
+            ErrorKind::MissingRequiredArgument,
+        ),
+        (
+            &["states", "--in", "world", "--light"],
+            ErrorKind::UnknownArgument,
+        ),
     ];
     for (given, kind) in cases {
         expect_equal(&rt, refusal(rt.alloc(), given), Some(kind));

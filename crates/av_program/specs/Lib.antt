@@ -1,2 +1,4 @@
 pub mod RunCommand
+pub mod MapCommand
+pub mod StatesCommand
 pub mod Running

@@ -1,5 +1,5 @@
 -- What `run` reads, writes and prints.
-use Rattle.std.specs.Prelude.{◌≡◌, ◌⊎◌, ℕ, List, ◌++◌, Option, codes, map, Result, Ok, Err}
+use Rattle.std.specs.Prelude.{◌≡◌, ◌⊎◌, ℕ, Bool, List, ◌++◌, Option, None, codes, map, Result, Ok, Err}
 use Rattle.std.specs.Fmt.{decimal}
 use Rattle.std.specs.Io.KnownBytes.{Appends}
 use Rattle.av_types.specs.declared.fault.Fault.{Fault}
@@ -7,7 +7,9 @@ use Rattle.av_types.specs.declared.fault.Fault.TheVariants.{OutOfMemory}
 use Rattle.av_sink.specs.Account.{Account, IsDevice, with_files}
 use Rattle.av_sink.specs.Saving.{IsStopped, named_file}
 use Rattle.av_image.specs.Views.{file_in}
-use Rattle.av_run.specs.Answer.{IsRunAnswer}
+use Rattle.av_run.specs.Checked.{IsCheckedAnswer}
+use Rattle.av_run.specs.declared.checked.Ran.{Ran}
+use Rattle.av_run.specs.declared.checked.Ran.TheVariants.{Done, Uncovered}
 use Rattle.av_run.specs.declared.runs.Outcome.{Outcome}
 use Rattle.av_program.specs.declared.running.Inputs.{Inputs}
 use Rattle.av_folders.specs.Folders.{IsUnreadFolder}
@@ -16,6 +18,13 @@ use Rattle.av_commands.specs.Output.{line}
 -- `chunks C turns T`
 abbrev pub counts_text : ℕ → ℕ → List ℕ
 counts_text chunks turns = codes "chunks " ++ (decimal chunks ++ (codes " turns " ++ decimal turns))
+
+-- how many states have no row, where the run goes on, and where it does not
+abbrev pub uncovered_text : ℕ → List ℕ
+uncovered_text n = decimal n ++ codes " states have no row in the table and count as full, dark blocks: `anvilwater states --in DIR --table FILE` lists them"
+
+abbrev pub strict_text : ℕ → List ℕ
+strict_text n = decimal n ++ codes " states have no row in the table, and --strict wants one for each: `anvilwater states --in DIR --table FILE` lists them"
 
 -- what a call leaves on its output for a run's counts, and its status: the line, or 1 where writing failed
 pub data HasCounts (chunks turns : ℕ) (before after : Option (List ℕ)) (status : ℕ) : Type 0 where
@@ -26,27 +35,42 @@ pub data HasCounts (chunks turns : ℕ) (before after : Option (List ℕ)) (stat
 abbrev pub IsUnreadRun : List ℕ → List ℕ → List ℕ → Fault → Type 0
 IsUnreadRun table edits folder e = (e ≡ OutOfMemory) ⊎ (IsDevice table e ⊎ (IsDevice edits e ⊎ IsUnreadFolder folder e))
 
--- the answer is that of a run of what was read
-abbrev pub IsRunOf : Inputs → ℕ → ℕ → Result Outcome Fault → Type 0
-IsRunOf i ticks workers answer = IsRunAnswer (map file_in i.files.items) i.table.items i.edits.items ticks workers answer
+-- the answer is that of a run of what was read, which may ask for a row for each state
+abbrev pub IsRunOf : Inputs → ℕ → ℕ → Bool → Result Ran Fault → Type 0
+IsRunOf i ticks workers strict answer = IsCheckedAnswer (map file_in i.files.items) i.table.items i.edits.items ticks workers strict answer
 
--- What a run leaves in the account of a sink that its files are handed to: all of them, in their order; or, where the run is
--- refused, nothing; or those before the first that was not taken.
-pub data HasRunInto (i : Inputs) (ticks workers : ℕ) (old new : Account) : Result Outcome Fault → Type 0 where
-  ran : (o : Outcome) → IsRunOf i ticks workers (Ok o) → new ≡ with_files old (map named_file o.files.items) → HasRunInto i ticks workers old new (Ok o)
-  refused : (e : Fault) → IsRunOf i ticks workers (Err e) → new ≡ old → HasRunInto i ticks workers old new (Err e)
-  stopped : (e : Fault) (o : Outcome) → IsRunOf i ticks workers (Ok o) → IsStopped old new (map named_file o.files.items) e → HasRunInto i ticks workers old new (Err e)
+-- what a run leaves in the account of a sink that its files are handed to: all of them, in their order, or nothing where it asked for rows
+abbrev pub IsHandedOver : Ran → Account → Account → Type 0
+IsHandedOver (Done o without_row) old new = new ≡ with_files old (map named_file o.files.items)
+IsHandedOver (Uncovered without_row) old new = new ≡ old
+
+-- or those before the first that was not taken
+abbrev pub IsNotHandedOver : Ran → Account → Account → Fault → Type 0
+IsNotHandedOver (Done o without_row) old new e = IsStopped old new (map named_file o.files.items) e
+IsNotHandedOver (Uncovered without_row) old new e = ⊥
+
+-- the same with the answer; nothing where the run is refused
+pub data HasRunInto (i : Inputs) (ticks workers : ℕ) (strict : Bool) (old new : Account) : Result Ran Fault → Type 0 where
+  ran : (r : Ran) → IsRunOf i ticks workers strict (Ok r) → IsHandedOver r old new → HasRunInto i ticks workers strict old new (Ok r)
+  refused : (e : Fault) → IsRunOf i ticks workers strict (Err e) → new ≡ old → HasRunInto i ticks workers strict old new (Err e)
+  stopped : (e : Fault) (r : Ran) → IsRunOf i ticks workers strict (Ok r) → IsNotHandedOver r old new e → HasRunInto i ticks workers strict old new (Err e)
 
 -- The same of a run whose input is read first: nothing where it can't be read.
-pub data HasRunOver (ticks workers : ℕ) (old new : Account) : Result Outcome Fault → Type 0 where
-  unread : (e : Fault) → new ≡ old → HasRunOver ticks workers old new (Err e)
-  read : (i : Inputs) (answer : Result Outcome Fault) → HasRunInto i ticks workers old new answer → HasRunOver ticks workers old new answer
+pub data HasRunOver (ticks workers : ℕ) (strict : Bool) (old new : Account) : Result Ran Fault → Type 0 where
+  unread : (e : Fault) → new ≡ old → HasRunOver ticks workers strict old new (Err e)
+  read : (i : Inputs) (answer : Result Ran Fault) → HasRunInto i ticks workers strict old new answer → HasRunOver ticks workers strict old new answer
 
--- What the command leaves in that account and on its output, and its status: the counts, or nothing and 1. Which bytes the
--- table, the edits and the files have, no clause can say.
-pub data HasRunRegions (ticks workers : ℕ) (old new : Account) (before after : Option (List ℕ)) (status : ℕ) : Type 0 where
-  ran_all : (i : Inputs) (o : Outcome) → IsRunOf i ticks workers (Ok o) → new ≡ with_files old (map named_file o.files.items)
-      → HasCounts o.chunks o.turns before after status → HasRunRegions ticks workers old new before after status
-  not_run : new ≡ old → after ≡ before → status ≡ 1 → HasRunRegions ticks workers old new before after status
-  not_written : (i : Inputs) (o : Outcome) (e : Fault) → IsRunOf i ticks workers (Ok o) → IsStopped old new (map named_file o.files.items) e
-      → after ≡ before → status ≡ 1 → HasRunRegions ticks workers old new before after status
+-- what is told of a run, and the status: the counts, or nothing and 1
+abbrev pub HasReported : Result Ran Fault → Option (List ℕ) → Option (List ℕ) → ℕ → Type 0
+HasReported (Ok (Done o without_row)) before after status = HasCounts o.chunks o.turns before after status
+HasReported (Ok (Uncovered without_row)) before after status = (after ≡ before) × (status ≡ 1)
+HasReported (Err e) before after status = (after ≡ before) × (status ≡ 1)
+
+-- What the command leaves in that account and on its output, and its status: the counts, or nothing and 1. A run that asks for a row for
+-- each state is done only where each has one. Which bytes the table, the edits and the files have, no clause can say.
+pub data HasRunRegions (ticks workers : ℕ) (strict : Bool) (old new : Account) (before after : Option (List ℕ)) (status : ℕ) : Type 0 where
+  ran_all : (i : Inputs) (o : Outcome) (without_row : ℕ) → IsRunOf i ticks workers strict (Ok (Done o without_row)) → new ≡ with_files old (map named_file o.files.items)
+      → HasCounts o.chunks o.turns before after status → HasRunRegions ticks workers strict old new before after status
+  not_run : new ≡ old → after ≡ before → status ≡ 1 → HasRunRegions ticks workers strict old new before after status
+  not_written : (i : Inputs) (o : Outcome) (without_row : ℕ) (e : Fault) → IsRunOf i ticks workers strict (Ok (Done o without_row))
+      → IsStopped old new (map named_file o.files.items) e → after ≡ before → status ≡ 1 → HasRunRegions ticks workers strict old new before after status

@@ -1,6 +1,6 @@
 -- What a run of the program leaves behind: in the account of the sink that its files are handed to, before and after; on its output,
 -- before and after; and its status. Which words it was called with and which bytes a file has, no clause can say.
-use Rattle.std.specs.Prelude.{◌≡◌, ◌≢◌, ◌⊎◌, ℕ, List, Option, option_map}
+use Rattle.std.specs.Prelude.{◌≡◌, ◌≢◌, ◌⊎◌, ℕ, Bool, List, Option, option_map}
 use Rattle.clap.specs.Words.{Text, kind_of}
 use Rattle.clap.specs.declared.error.Error.{Error}
 use Rattle.clap.specs.declared.error.kind.ErrorKind.TheVariants as kind
@@ -12,11 +12,13 @@ use Rattle.av_sink.specs.declared.files.RegionFile.{RegionFile}
 use Rattle.av_survey.specs.Survey.{IsSurvey}
 use Rattle.av_survey.specs.declared.finding.Finding.{Finding}
 use Rattle.av_words.specs.declared.command_line.commands.Words.{Words}
-use Rattle.av_words.specs.declared.command_line.commands.Words.TheVariants.{Block, Check, Run}
+use Rattle.av_words.specs.declared.command_line.commands.Words.TheVariants.{Block, Check, Map, Run, States}
 use Rattle.av_commands.specs.BlockCommand.{HasAnswered}
 use Rattle.av_words.specs.CommandLine.{IsReadFrom, IsWordsRefusal}
 use Rattle.av_commands.specs.CheckCommand.{HasFindings}
+use Rattle.av_program.specs.MapCommand.{HasMapped}
 use Rattle.av_program.specs.RunCommand.{HasRunRegions}
+use Rattle.av_program.specs.StatesCommand.{HasListed}
 use Rattle.av_folders.specs.Folders.{IsUnreadFolder}
 use Rattle.av_commands.specs.Tables.{IsHeightBy, IsUnreadTable}
 
@@ -46,16 +48,20 @@ pub data HasChecked (table : Option (List ℕ)) (before after : Option (List ℕ
   refused : after ≡ before → status ≡ 1 → HasChecked table before after status
 
 -- the same of `run`: what its files leave in the folder of that name, or nothing and 1 where memory for the name runs out
-pub data HasRunInFolder (folder : List ℕ) (ticks workers : ℕ) (old new : Account) (before after : Option (List ℕ)) (status : ℕ) : Type 0 where
-  opened : HasRunRegions ticks workers (in_folder folder old) new before after status → HasRunInFolder folder ticks workers old new before after status
-  unopened : new ≡ old → after ≡ before → status ≡ 1 → HasRunInFolder folder ticks workers old new before after status
+pub data HasRunInFolder (folder : List ℕ) (ticks workers : ℕ) (strict : Bool) (old new : Account) (before after : Option (List ℕ)) (status : ℕ) : Type 0 where
+  opened : HasRunRegions ticks workers strict (in_folder folder old) new before after status → HasRunInFolder folder ticks workers strict old new before after status
+  unopened : new ≡ old → after ≡ before → status ≡ 1 → HasRunInFolder folder ticks workers strict old new before after status
 
--- the same of a command: `run` hands its files to the folder that its words name, and no other command hands any to a sink
+-- the same of a command: `run` hands its files to the folder that its words name, `map` its picture to that of its path, and no other
+-- command hands any to a sink
 abbrev pub HasRunCommand : Words → Account → Account → Option (List ℕ) → Option (List ℕ) → ℕ → Type 0
 HasRunCommand (Block file at table) old new before after status = (new ≡ old) × HasRun file.now at (option_map (λ t. t.now) table) before after status
 HasRunCommand (Check input table progress) old new before after status = (new ≡ old) × HasChecked (option_map (λ t. t.now) table) before after status
-HasRunCommand (Run input output table edits ticks workers progress) old new before after status =
-    HasRunInFolder output.now ticks workers old new before after status
+HasRunCommand (Run input output table edits ticks workers strict progress) old new before after status =
+    HasRunInFolder output.now ticks workers strict old new before after status
+HasRunCommand (Map input picture table colours light) old new before after status =
+    (after ≡ before) × HasMapped picture.now (option_map (λ t. t.now) table) (option_map (λ t. t.now) colours) light old new status
+HasRunCommand (States input table) old new before after status = (new ≡ old) × HasListed (option_map (λ t. t.now) table) before after status
 
 -- the same of words: the run of the command that they name, or a refusal, which may print help
 pub data HasRunWords (words : List Text) (old new : Account) (before after : Option (List ℕ)) (status : ℕ) : Type 0 where

@@ -1,6 +1,8 @@
 //! The program `anvilwater` below its `main`: from the words that it was called with to what it prints and its status.
 #![tactic(auto)]
 
+pub mod drawing;
+pub mod listing;
 pub mod program;
 pub mod running;
 

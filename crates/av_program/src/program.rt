@@ -6,6 +6,8 @@ ghost use Rattle.av_program.specs.Running.{HasChecked, HasRun, HasRunCommand, Ha
 ghost use Rattle.av_sink.specs.Account.{IsFresh};
 ghost use Rattle.av_commands.specs.Tables.{IsHeightBy};
 
+use crate::drawing::{Order, run_map};
+use crate::listing::run_states;
 use crate::running::{Request, report, run_over};
 use av_commands::block::block_text;
 use av_commands::checking::findings;
@@ -136,7 +138,7 @@ fn run_regions<
     requires failures { (S.account sink.old).failures ≡ 0 }
     requires handed { (S.account sink.old).handed ≡ 0 }
     ensures status { result ≤ REFUSED }
-    ensures ran { HasRunRegions request.entry.ticks request.entry.workers (S.account sink.old) (S.account sink.new) (O.contents out.old) (O.contents out.new) result }
+    ensures ran { HasRunRegions request.entry.ticks request.entry.workers request.entry.strict (S.account sink.old) (S.account sink.new) (O.contents out.old) (O.contents out.new) result }
 {
     let ran = run_over(rt, request, sink, progress, err);
     report(&ran, out, err)
@@ -159,7 +161,7 @@ fn run_in_folder<
 ) -> u8
     requires fresh { IsFresh (S.account sink.old) }
     ensures status { result ≤ REFUSED }
-    ensures ran { HasRunInFolder folder.now request.entry.ticks request.entry.workers (S.account sink.old) (S.account sink.new) (O.contents out.old) (O.contents out.new) result }
+    ensures ran { HasRunInFolder folder.now request.entry.ticks request.entry.workers request.entry.strict (S.account sink.old) (S.account sink.new) (O.contents out.old) (O.contents out.new) result }
 {
     match sink.open(folder) {
         Ok(()) => run_regions(rt, request, sink, progress, out, err),
@@ -192,6 +194,7 @@ fn run_command<
             edits,
             ticks,
             workers,
+            strict,
             progress,
         } => {
             let request = Request {
@@ -200,9 +203,27 @@ fn run_command<
                 edits,
                 ticks,
                 workers,
+                strict,
             };
             run_in_folder(rt, request, output, sink, progress || is_terminal, out, err)
         }
+        Words::Map {
+            input,
+            picture,
+            table,
+            colours,
+            light,
+        } => {
+            let order = Order {
+                input,
+                picture,
+                table,
+                colours,
+                light,
+            };
+            run_map(rt, order, sink, is_terminal, err)
+        }
+        Words::States { input, table } => run_states(rt, input, table, is_terminal, out, err),
     }
 }
 
@@ -234,9 +255,9 @@ fn as_texts(alloc: Global, words: &[String]) -> Result<Vec<&str>, AllocError> {
 }
 
 /// Reads the words that the program was called with and does what they say. Where standard error is a terminal, long work
-/// says there how far it is. The region files of `run` go to the folder that its words name, which is opened of a sink that has
-/// opened none; each other command leaves the sink as it is. The answer is the program's status: 0; 1 after a fault, and where
-/// `check` found something; 2 after words that are refused or call for help.
+/// says there how far it is. The region files of `run` go to the folder that its words name, and the picture of `map` to that of
+/// its path, which the sink opens; it has opened none. Each other command leaves it as it is. The answer is the program's status: 0; 1 after a fault, and where
+/// `check` found something, and where `states` left chunks out; 2 after words that are refused or call for help.
 pub fn run<
     R: Env + Files + AllocGlobal + Clone + Drop + Threads + Wait + Sync,
     S: OutputFolder,

@@ -1,16 +1,19 @@
 //! The command `run`: edits, water and light over the region files of a folder.
-ghost use Rattle.std.specs.Prelude.{◌≡◌, IfErr, MatchResult};
-ghost use Rattle.av_program.specs.RunCommand.{HasCounts, HasRunInto, HasRunOver, IsUnreadRun};
+ghost use Rattle.std.specs.Prelude.{◌≡◌, IfErr, OnOk};
+ghost use Rattle.std.specs.Io.KnownBytes.{Appends};
+ghost use Rattle.av_commands.specs.Output.{line};
+ghost use Rattle.av_program.specs.RunCommand.{HasCounts, HasReported, HasRunInto, HasRunOver, IsHandedOver, IsNotHandedOver, IsUnreadRun, strict_text, uncovered_text};
 
 use av_commands::device::read_file;
 use av_commands::output::{FAULT, report_fault};
 use av_crew::NoGate;
 use av_folders::progress::note_step;
 use av_folders::read_folder;
-use av_run::{Outcome, run};
+use av_run::{Outcome, Ran, run_checked};
 use av_sink::{RegionFile, Sink, save_all};
 use av_types::Fault;
-use std::io::Write;
+use std::alloc::Global;
+use std::io::{self, Write};
 use std::rt::Files;
 use std::sync::Wait;
 use std::thread::Threads;
@@ -27,6 +30,8 @@ pub(crate) struct Request<'a> {
     pub(crate) ticks: u32,
     /// How many threads turn blocks.
     pub(crate) workers: u32,
+    /// Whether nothing is run where a state of the world has no row in the table.
+    pub(crate) strict: bool,
 }
 
 /// What `run` reads.
@@ -56,34 +61,55 @@ fn read_inputs<R: Files + AllocGlobal + Clone + Drop, E: Write>(
     })
 }
 
+/// Hands the files of a run to a sink that has taken none yet and has not failed.
+fn hand_over<S: Sink, E: Write>(
+    alloc: Global,
+    ran: &Ran,
+    sink: &mut S,
+    progress: bool,
+    err: &mut E,
+) -> Result<(), Fault>
+    requires failures { (S.account sink.old).failures ≡ 0 }
+    requires handed { (S.account sink.old).handed ≡ 0 }
+    ensures ok { OnOk result (IsHandedOver ran.now (S.account sink.old) (S.account sink.new)) }
+    ensures err { IfErr result (IsNotHandedOver ran.now (S.account sink.old) (S.account sink.new)) }
+{
+    match ran {
+        Ran::Done { outcome, .. } => {
+            note_step(err, progress, "writing");
+            save_all(alloc, sink, outcome.files.as_slice())
+        }
+        Ran::Uncovered(_) => Ok(()),
+    }
+}
+
 /// Runs what was read, and hands the files to a sink that has taken none yet and has not failed.
 fn run_into<R: Files + AllocGlobal + Threads + Wait + Sync, S: Sink, E: Write>(
     rt: &R,
     inputs: Inputs,
-    ticks: u32,
-    workers: u32,
+    request: Request<'_>,
     sink: &mut S,
     progress: bool,
     err: &mut E,
-) -> Result<Outcome, Fault>
+) -> Result<Ran, Fault>
     requires failures { (S.account sink.old).failures ≡ 0 }
     requires handed { (S.account sink.old).handed ≡ 0 }
-    ensures { HasRunInto inputs ticks workers (S.account sink.old) (S.account sink.new) result }
+    ensures { HasRunInto inputs request.entry.ticks request.entry.workers request.entry.strict (S.account sink.old) (S.account sink.new) result }
 {
     note_step(err, progress, "running");
-    let outcome = run(
+    let ran = run_checked(
         rt,
         rt.alloc(),
         inputs.files,
         inputs.table.as_slice(),
         inputs.edits.as_slice(),
-        ticks,
-        workers,
+        request.ticks,
+        request.workers,
+        request.strict,
         &NoGate,
     )?;
-    note_step(err, progress, "writing");
-    save_all(rt.alloc(), sink, outcome.files.as_slice())?;
-    Ok(outcome)
+    hand_over(rt.alloc(), &ran, sink, progress, err)?;
+    Ok(ran)
 }
 
 /// Reads what is asked for, runs it, and hands the files to a sink that has taken none yet and has not failed.
@@ -91,21 +117,13 @@ pub(crate) fn run_over<
     R: Files + AllocGlobal + Clone + Drop + Threads + Wait + Sync,
     S: Sink,
     E: Write,
->(rt: &R, request: Request<'_>, sink: &mut S, progress: bool, err: &mut E) -> Result<Outcome, Fault>
+>(rt: &R, request: Request<'_>, sink: &mut S, progress: bool, err: &mut E) -> Result<Ran, Fault>
     requires failures { (S.account sink.old).failures ≡ 0 }
     requires handed { (S.account sink.old).handed ≡ 0 }
-    ensures { HasRunOver request.entry.ticks request.entry.workers (S.account sink.old) (S.account sink.new) result }
+    ensures { HasRunOver request.entry.ticks request.entry.workers request.entry.strict (S.account sink.old) (S.account sink.new) result }
 {
     let inputs = read_inputs(rt, request, progress, err)?;
-    run_into(
-        rt,
-        inputs,
-        request.ticks,
-        request.workers,
-        sink,
-        progress,
-        err,
-    )
+    run_into(rt, inputs, request, sink, progress, err)
 }
 
 /// Writes the counts of a run, and answers the program's status.
@@ -120,14 +138,53 @@ fn write_counts<O: Write>(outcome: &Outcome, out: &mut O) -> u8
     }
 }
 
-/// Writes `chunks C turns T`, how many chunks were loaded and how many entries taken, or the fault for which there was no
-/// run. The answer is the program's status: 0; 1 after a fault, and where the line could not be written.
-pub fn report<O: Write, E: Write>(ran: &Result<Outcome, Fault>, out: &mut O, err: &mut E) -> u8
-    ensures { MatchResult ran.now (λ o. HasCounts o.chunks o.turns (O.contents out.old) (O.contents out.new) result)
-        (λ _. (O.contents out.new ≡ O.contents out.old) × (result ≡ FAULT)) }
+/// Writes how many states have no row in the table of a run.
+fn write_uncovered<E: Write>(err: &mut E, without_row: u32) -> io::Result<()>
+    ensures { OnOk result (Appends (E.contents err.old) (E.contents err.new) (line (uncovered_text without_row))) }
+{
+    writeln!(
+        err,
+        "{without_row} states have no row in the table and count as full, dark blocks: `anvilwater states --in DIR --table FILE` lists them"
+    )
+}
+
+/// Writes why nothing was run where each state is to have a row.
+fn write_strict<E: Write>(err: &mut E, without_row: u32) -> io::Result<()>
+    ensures { OnOk result (Appends (E.contents err.old) (E.contents err.new) (line (strict_text without_row))) }
+{
+    writeln!(
+        err,
+        "{without_row} states have no row in the table, and --strict wants one for each: `anvilwater states --in DIR --table FILE` lists them"
+    )
+}
+
+/// Says how many states have no row, where some have none, as well as that can be written.
+fn note_uncovered<E: Write>(err: &mut E, without_row: u32) {
+    if without_row > 0 {
+        let _ = write_uncovered(err, without_row);
+    }
+}
+
+/// Writes `chunks C turns T`, how many chunks were loaded and how many entries taken, and on standard error how many states have no
+/// row; or why there was no run. The answer is the program's status: 0; 1 where nothing was run, and where the line could not be
+/// written.
+pub fn report<O: Write, E: Write>(ran: &Result<Ran, Fault>, out: &mut O, err: &mut E) -> u8
+    ensures { HasReported ran.now (O.contents out.old) (O.contents out.new) result }
 {
     match ran {
-        Ok(outcome) => write_counts(outcome, out),
+        Ok(
+            Ran::Done {
+                outcome,
+                without_row,
+            },
+        ) => {
+            note_uncovered(err, *without_row);
+            write_counts(outcome, out)
+        }
+        Ok(Ran::Uncovered(without_row)) => {
+            let _ = write_strict(err, *without_row);
+            FAULT
+        }
         Err(fault) => report_fault(err, fault),
     }
 }

@@ -10,7 +10,7 @@ use Rattle.clap.specs.Words.{App, Row, Rule, Shape, Text, first_of, kind_of, tak
 use Rattle.clap.specs.declared.builder.value_parser.ValueParser.TheVariants.{Signed}
 use Rattle.av_types.specs.declared.place.Pos.{Pos}
 use Rattle.av_words.specs.declared.command_line.commands.Words.{Words}
-use Rattle.av_words.specs.declared.command_line.commands.Words.TheVariants.{Block, Check, Run}
+use Rattle.av_words.specs.declared.command_line.commands.Words.TheVariants.{Block, Check, Map, Run, States}
 
 -- a file that has to be named
 abbrev pub file_rule : Text → Rule
@@ -31,9 +31,9 @@ option_rule name required = record (new_rule name) { long = Some name; value_nam
 abbrev pub count_rule : Text → Rule
 count_rule name = record (option_rule name true) { parser = Some (Signed (pos 0) (pos 4294967295)) }
 
--- `--progress`
-abbrev pub progress_rule : Rule
-progress_rule = record (new_rule (codes "progress")) { long = Some (codes "progress"); action = Some SetTrue }
+-- `--NAME`
+abbrev pub flag_rule : Text → Rule
+flag_rule name = record (new_rule name) { long = Some name; action = Some SetTrue }
 
 -- `block [--table FILE] FILE X Y Z`
 abbrev pub block_app : App
@@ -49,7 +49,7 @@ abbrev pub check_app : App
 check_app = with_rule (with_rule (with_rule (new_app (codes "check"))
     (option_rule (codes "in") true))
     (option_rule (codes "table") false))
-    progress_rule
+    (flag_rule (codes "progress"))
 
 -- `--in DIR --out DIR --table FILE --edits FILE`
 abbrev pub with_files : App → App
@@ -59,12 +59,28 @@ with_files app = with_rule (with_rule (with_rule (with_rule app
     (option_rule (codes "table") true))
     (option_rule (codes "edits") true)
 
--- `run` with these, `--ticks N --workers N [--progress]`
+-- `run` with these, `--ticks N --workers N [--strict] [--progress]`
 abbrev pub run_app : App
-run_app = with_rule (with_rule (with_rule (with_files (new_app (codes "run")))
+run_app = with_rule (with_rule (with_rule (with_rule (with_files (new_app (codes "run")))
     (count_rule (codes "ticks")))
     (count_rule (codes "workers")))
-    progress_rule
+    (flag_rule (codes "strict")))
+    (flag_rule (codes "progress"))
+
+-- `map --in DIR --out FILE [--table FILE] [--colours FILE] [--light]`
+abbrev pub map_app : App
+map_app = with_rule (with_rule (with_rule (with_rule (with_rule (new_app (codes "map"))
+    (option_rule (codes "in") true))
+    (option_rule (codes "out") true))
+    (option_rule (codes "table") false))
+    (option_rule (codes "colours") false))
+    (flag_rule (codes "light"))
+
+-- `states --in DIR [--table FILE]`
+abbrev pub states_app : App
+states_app = with_rule (with_rule (new_app (codes "states"))
+    (option_rule (codes "in") true))
+    (option_rule (codes "table") false)
 
 -- the program, without its own name among the words
 abbrev pub program_shape : Shape
@@ -74,7 +90,8 @@ abbrev pub bare_app : App
 bare_app = record { top = program_shape; subs = [] }
 
 abbrev pub anvilwater : App
-anvilwater = with_subcommand (with_subcommand (with_subcommand bare_app block_app.top) check_app.top) run_app.top
+anvilwater = with_subcommand (with_subcommand (with_subcommand (with_subcommand (with_subcommand bare_app
+    block_app.top) check_app.top) run_app.top) map_app.top) states_app.top
 
 -- the text is a number of 32 bits in decimal digits, perhaps with a sign
 abbrev pub IsNumberText : Text → ℤ → Type 0
@@ -120,18 +137,28 @@ HasValues rows (Block file at table) = HasText rows (codes "FILE") file
 HasValues rows (Check input table progress) = HasText rows (codes "in") input
     × MayHaveText rows (codes "table") table
     × HasFlag rows (codes "progress") progress
-HasValues rows (Run input output table edits ticks workers progress) = HasText rows (codes "in") input
+HasValues rows (Run input output table edits ticks workers strict progress) = HasText rows (codes "in") input
     × HasText rows (codes "out") output
     × HasText rows (codes "table") table
     × HasText rows (codes "edits") edits
     × HasCount rows (codes "ticks") ticks
     × HasCount rows (codes "workers") workers
+    × HasFlag rows (codes "strict") strict
     × HasFlag rows (codes "progress") progress
+HasValues rows (Map input picture table colours light) = HasText rows (codes "in") input
+    × HasText rows (codes "out") picture
+    × MayHaveText rows (codes "table") table
+    × MayHaveText rows (codes "colours") colours
+    × HasFlag rows (codes "light") light
+HasValues rows (States input table) = HasText rows (codes "in") input
+    × MayHaveText rows (codes "table") table
 
 abbrev pub name_of : Words → Text
 name_of (Block file at table) = codes "block"
 name_of (Check input table progress) = codes "check"
-name_of (Run input output table edits ticks workers progress) = codes "run"
+name_of (Run input output table edits ticks workers strict progress) = codes "run"
+name_of (Map input picture table colours light) = codes "map"
+name_of (States input table) = codes "states"
 
 -- the command is the one that the words name, with the values that they give
 pub record IsReadFrom (words : List Text) (command : Words) : Type 0 where
@@ -152,5 +179,12 @@ abbrev pub LacksCheck : List Row → Type 0
 LacksCheck rows = (input : Bor Text) (table : Option (Bor Text)) (progress : Bool) → HasValues rows (Check input table progress) → ⊥
 
 abbrev pub LacksRun : List Row → Type 0
-LacksRun rows = (input output table edits : Bor Text) (ticks workers : ℕ) (progress : Bool)
-    → HasValues rows (Run input output table edits ticks workers progress) → ⊥
+LacksRun rows = (input output table edits : Bor Text) (ticks workers : ℕ) (strict progress : Bool)
+    → HasValues rows (Run input output table edits ticks workers strict progress) → ⊥
+
+abbrev pub LacksMap : List Row → Type 0
+LacksMap rows = (input picture : Bor Text) (table colours : Option (Bor Text)) (light : Bool)
+    → HasValues rows (Map input picture table colours light) → ⊥
+
+abbrev pub LacksStates : List Row → Type 0
+LacksStates rows = (input : Bor Text) (table : Option (Bor Text)) → HasValues rows (States input table) → ⊥

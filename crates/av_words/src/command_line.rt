@@ -2,86 +2,22 @@
 ghost use Rattle.std.specs.Prelude.{◌≡◌, IfErr, IfNone, IfOk, IfSome, List, Some, codes, false, map, ℕ, ℤ};
 ghost use Rattle.std.specs.Borrow.{Bor};
 ghost use Rattle.clap.specs.declared.builder.command.Command.TheViews.{out-Command};
-ghost use Rattle.clap.specs.Words.{app_of, found_of, kind_of, new_app, rows_of, rule_of, subcommand_rows_of, Row};
+ghost use Rattle.clap.specs.Words.{app_of, found_of, kind_of, rows_of, subcommand_rows_of, Row};
 ghost use Rattle.av_words.specs.declared.command_line.commands.Words.{Words};
-ghost use Rattle.av_words.specs.CommandLine.{HasCount, HasFlag, HasNumber, HasText, HasValues, IsReadFrom, IsWordsRefusal, LacksBlock, LacksCheck, LacksRun, MayHaveText};
-ghost use Rattle.av_words.specs.CommandLine.{anvilwater, block_app, check_app, count_rule, file_rule, name_of, bare_app, number_rule, option_rule, progress_rule, run_app, with_files};
+ghost use Rattle.av_words.specs.CommandLine.{HasCount, HasFlag, HasNumber, HasText, HasValues, IsReadFrom, IsWordsRefusal, LacksBlock, LacksCheck, LacksMap, LacksRun, LacksStates, MayHaveText};
+ghost use Rattle.av_words.specs.CommandLine.{anvilwater, bare_app, block_app, check_app, map_app, name_of, run_app, states_app, with_files};
 
+use crate::arguments::{
+    command, coordinate, counted, file, flag, height_table, named, progress_flag,
+};
 use av_types::Pos;
 use clap::error::ErrorKind;
-use clap::{Arg, ArgAction, ArgMatches, Command, Error, value_parser};
+use clap::{ArgMatches, Command, Error};
 use std::alloc::Global;
 
 pub mod commands;
 
 use commands::Words;
-
-/// A file that has to be named.
-fn file<'a>(alloc: Global, name: &'a str, help: &'a str) -> Arg<'a>
-    ensures rule { rule_of result ≡ file_rule name.entry.now }
-    ensures local { result.global ≡ false }
-{
-    Arg::new(alloc, name).required(true).help(help)
-}
-
-/// A coordinate, a number of 32 bits.
-fn coordinate<'a>(alloc: Global, name: &'a str, help: &'a str) -> Arg<'a>
-    ensures rule { rule_of result ≡ number_rule name.entry.now }
-    ensures local { result.global ≡ false }
-{
-    Arg::new(alloc, name)
-        .required(true)
-        .value_parser(value_parser!(i32))
-        .help(help)
-}
-
-/// `--NAME VALUE`, which has to be given or may be left out.
-fn named<'a>(alloc: Global, name: &'a str, value: &'a str, required: bool, help: &'a str) -> Arg<'a>
-    ensures rule { rule_of result ≡ option_rule name.entry.now required }
-    ensures local { result.global ≡ false }
-{
-    Arg::new(alloc, name)
-        .long(name)
-        .value_name(value)
-        .required(required)
-        .help(help)
-}
-
-/// `--NAME N`, a number of 32 bits without a sign, which has to be given.
-fn counted<'a>(alloc: Global, name: &'a str, help: &'a str) -> Arg<'a>
-    ensures rule { rule_of result ≡ count_rule name.entry.now }
-    ensures local { result.global ≡ false }
-{
-    named(alloc, name, "N", true, help).value_parser(value_parser!(u32))
-}
-
-/// `--table FILE`, which may be left out.
-fn height_table<'a>(alloc: Global) -> Arg<'a>
-    ensures rule { rule_of result ≡ option_rule (codes "table") false }
-    ensures local { result.global ≡ false }
-{
-    let help = "A block table, whose height the world has; without one it has the game's";
-    named(alloc, "table", "FILE", false, help)
-}
-
-/// `--progress`.
-fn progress_flag<'a>(alloc: Global) -> Arg<'a>
-    ensures rule { rule_of result ≡ progress_rule }
-    ensures local { result.global ≡ false }
-{
-    Arg::new(alloc, "progress")
-        .long("progress")
-        .action(ArgAction::SetTrue)
-        .help("Says on standard error how far it is, as it does on a terminal")
-}
-
-/// A command without arguments yet.
-fn command<'a>(alloc: Global, name: &'a str, about: &'a str, usage: &'a str) -> Command<'a>
-    ensures app { app_of result ≡ new_app name.entry.now }
-    ensures local { (out-Command result).has_globals ≡ false }
-{
-    Command::new(alloc, name).about(about).override_usage(usage)
-}
 
 /// `block [--table FILE] FILE X Y Z`.
 fn block_command<'a>(alloc: Global) -> Result<Command<'a>, Error>
@@ -138,7 +74,7 @@ fn with_files<'a>(alloc: Global, run: Command<'a>) -> Result<Command<'a>, Error>
     Ok(run)
 }
 
-/// `run --in DIR --out DIR --table FILE --edits FILE --ticks N --workers N [--progress]`.
+/// `run --in DIR --out DIR --table FILE --edits FILE --ticks N --workers N [--strict] [--progress]`.
 fn run_command<'a>(alloc: Global) -> Result<Command<'a>, Error>
     ensures app { IfOk result (λ c. app_of c ≡ run_app) }
     ensures local { IfOk result (λ c. (out-Command c).has_globals ≡ false) }
@@ -146,12 +82,57 @@ fn run_command<'a>(alloc: Global) -> Result<Command<'a>, Error>
 {
     let about = "Runs edits, water and block light over the region files of a folder";
     let usage =
-        "anvilwater run --in DIR --out DIR --table FILE --edits FILE --ticks N --workers N [--progress]";
+        "anvilwater run --in DIR --out DIR --table FILE --edits FILE --ticks N --workers N [--strict] [--progress]";
+    let strict = "Runs nothing where a block state of the world has no row in the table";
     let run = with_files(alloc, command(alloc, "run", about, usage))?
         .arg(counted(alloc, "ticks", "How many ticks are run"))?
         .arg(counted(alloc, "workers", "How many workers run them, 1 to 8"))?
+        .arg(flag(alloc, "strict", strict))?
         .arg(progress_flag(alloc))?;
     Ok(run)
+}
+
+/// `map --in DIR --out FILE [--table FILE] [--colours FILE] [--light]`.
+fn map_command<'a>(alloc: Global) -> Result<Command<'a>, Error>
+    ensures app { IfOk result (λ c. app_of c ≡ map_app) }
+    ensures local { IfOk result (λ c. (out-Command c).has_globals ≡ false) }
+    ensures memory { IfErr result (λ e. kind_of e ≡ ErrorKind.OutOfMemory) }
+{
+    let about = "Draws the region files of a folder from above, a pixel for each column of blocks";
+    let usage = "anvilwater map --in DIR --out FILE [--table FILE] [--colours FILE] [--light]";
+    let read = "The folder whose files r.X.Z.mca are read";
+    let colours = "The colours of blocks by name; without it each name has one of its letters";
+    let light = "Draws the block light on the highest blocks in place of their colours";
+    let map = command(alloc, "map", about, usage)
+        .arg(named(alloc, "in", "DIR", true, read))?
+        .arg(named(
+            alloc,
+            "out",
+            "FILE",
+            true,
+            "The picture that is written, a PNG file",
+        ))?
+        .arg(height_table(alloc))?
+        .arg(named(alloc, "colours", "FILE", false, colours))?
+        .arg(flag(alloc, "light", light))?;
+    Ok(map)
+}
+
+/// `states --in DIR [--table FILE]`.
+fn states_command<'a>(alloc: Global) -> Result<Command<'a>, Error>
+    ensures app { IfOk result (λ c. app_of c ≡ states_app) }
+    ensures local { IfOk result (λ c. (out-Command c).has_globals ≡ false) }
+    ensures memory { IfErr result (λ e. kind_of e ≡ ErrorKind.OutOfMemory) }
+{
+    let about =
+        "Lists the block states of the region files of a folder, with how many blocks have each";
+    let usage = "anvilwater states --in DIR [--table FILE]";
+    let read = "The folder whose files r.X.Z.mca are read";
+    let table = "A block table, whose height the world has, and whose row for each state is listed";
+    let states = command(alloc, "states", about, usage)
+        .arg(named(alloc, "in", "DIR", true, read))?
+        .arg(named(alloc, "table", "FILE", false, table))?;
+    Ok(states)
 }
 
 /// The program without its commands.
@@ -172,10 +153,14 @@ fn program<'a>(alloc: Global) -> Result<Command<'a>, Error>
     let block = block_command(alloc)?;
     let check = check_command(alloc)?;
     let run = run_command(alloc)?;
+    let map = map_command(alloc)?;
+    let states = states_command(alloc)?;
     let program = bare_program(alloc)
         .subcommand(block)?
         .subcommand(check)?
-        .subcommand(run)?;
+        .subcommand(run)?
+        .subcommand(map)?
+        .subcommand(states)?;
     Ok(program)
 }
 
@@ -254,6 +239,7 @@ fn run_words<'a>(matches: &ArgMatches<'a>) -> Option<Words<'a>>
     let edits = text_of(matches, "edits")?;
     let ticks = count_of(matches, "ticks")?;
     let workers = count_of(matches, "workers")?;
+    let strict = is_given(matches, "strict");
     let progress = is_given(matches, "progress");
     Some(Words::Run {
         input,
@@ -262,8 +248,38 @@ fn run_words<'a>(matches: &ArgMatches<'a>) -> Option<Words<'a>>
         edits,
         ticks,
         workers,
+        strict,
         progress,
     })
+}
+
+/// The values of `map`, where each was given.
+fn map_words<'a>(matches: &ArgMatches<'a>) -> Option<Words<'a>>
+    ensures values { IfSome result (λ w. (name_of w ≡ codes "map") × HasValues (rows_of (found_of matches.now)) w) }
+    ensures none { IfNone result (LacksMap (rows_of (found_of matches.now))) }
+{
+    let input = text_of(matches, "in")?;
+    let picture = text_of(matches, "out")?;
+    let table = text_of(matches, "table");
+    let colours = text_of(matches, "colours");
+    let light = is_given(matches, "light");
+    Some(Words::Map {
+        input,
+        picture,
+        table,
+        colours,
+        light,
+    })
+}
+
+/// The values of `states`, where each was given.
+fn states_words<'a>(matches: &ArgMatches<'a>) -> Option<Words<'a>>
+    ensures values { IfSome result (λ w. (name_of w ≡ codes "states") × HasValues (rows_of (found_of matches.now)) w) }
+    ensures none { IfNone result (LacksStates (rows_of (found_of matches.now))) }
+{
+    let input = text_of(matches, "in")?;
+    let table = text_of(matches, "table");
+    Some(Words::States { input, table })
 }
 
 /// The command, where one was given with its values.
@@ -278,6 +294,12 @@ fn command_of<'a>(matches: &ArgMatches<'a>) -> Option<Words<'a>>
     }
     if let Some(check) = matches.subcommand_matches("check") {
         return check_words(check);
+    }
+    if let Some(map) = matches.subcommand_matches("map") {
+        return map_words(map);
+    }
+    if let Some(states) = matches.subcommand_matches("states") {
+        return states_words(states);
     }
     run_words(matches.subcommand_matches("run")?)
 }

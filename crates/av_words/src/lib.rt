@@ -1,6 +1,7 @@
 //! The words of the command line, as a command with its values.
 #![tactic(auto)]
 
+pub(crate) mod arguments;
 pub mod command_line;
 
 pub use command_line::commands::Words;

@@ -33,7 +33,30 @@ pub enum Words<'a> {
         edits: &'a str,
         ticks: u32,
         workers: u32,
+        /// Whether nothing is run where a state of the world has no row in the table.
+        strict: bool,
         /// Whether to say how far it is.
         progress: bool,
+    },
+    /// Draws the region files of a folder from above.
+    Map {
+        /// The folder.
+        input: &'a str,
+        /// The picture that is written.
+        picture: &'a str,
+        /// A block table, whose height the world has. Without one it has the game's.
+        table: Option<&'a str>,
+        /// The colours of blocks by name. Without them each name has one of its letters.
+        colours: Option<&'a str>,
+        /// Whether the block light is drawn in place of the colours.
+        light: bool,
+    },
+    /// Lists the block states of the region files of a folder, with how many blocks have each.
+    States {
+        /// The folder.
+        input: &'a str,
+        /// A block table, whose height the world has, and whose row for each state is listed. Without one the world has the
+        /// game's height, and no row is listed.
+        table: Option<&'a str>,
     },
 }

@@ -9,3 +9,9 @@ returns-after-progress-2-clause-ran g c = rw c.in-Run.is c.run_in_folder.ensures
 
 pub returns-after-progress-clause-ran : goal.returns-after-progress-clause-ran
 returns-after-progress-clause-ran g c = rw c.in-Check.is (refl, c.run_check.ensures.ran)
+
+pub returns-in-Map-clause-ran : goal.returns-in-Map-clause-ran
+returns-in-Map-clause-ran g c = rw c.in-Map.is (refl, c.run_map.ensures)
+
+pub returns-in-States-clause-ran : goal.returns-in-States-clause-ran
+returns-in-States-clause-ran g c = rw c.in-States.is (refl, c.run_states.ensures)

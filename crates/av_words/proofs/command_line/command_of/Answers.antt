@@ -5,8 +5,8 @@ use Rattle.clap.specs.declared.parser.matches.ArgMatches.TheViews.{out-ArgMatche
 use Rattle.clap.specs.declared.parser.matches.ArgMatches.{ArgMatches}
 use Rattle.clap.specs.Words.{Row, Text, found_of, rows_of, subcommand_name_of, subcommand_rows_of}
 use Rattle.av_words.specs.declared.command_line.commands.Words.{Words}
-use Rattle.av_words.specs.declared.command_line.commands.Words.TheVariants.{Block, Check, Run}
-use Rattle.av_words.specs.CommandLine.{HasValues, LacksBlock, LacksCheck, LacksRun, name_of}
+use Rattle.av_words.specs.declared.command_line.commands.Words.TheVariants.{Block, Check, Map, Run, States}
+use Rattle.av_words.specs.CommandLine.{HasValues, LacksBlock, LacksCheck, LacksMap, LacksRun, LacksStates, name_of}
 use Rattle.av_words.proofs.command_line.command_of.Goals as goal
 
 if_none : {T : Type 0} (o : Option T) (P Q : Type 0) → (P → Q) → IfNone o P → IfNone o Q
@@ -38,52 +38,83 @@ named m n k rows name is =
 Entered : ArgMatches → Words → List Row → Type 0
 Entered m w rows = subcommand_rows_of m ≡ Some (name_of w, rows)
 
-no_block : (m : ArgMatches) (r : List Row) → subcommand_name_of m ≡ Some (codes "block") → option_map (λ p. p.1) (subcommand_rows_of m) ≡ Some r
-    → LacksBlock r → (w : Words) (rows : List Row) → Entered m w rows → HasValues rows w → ⊥
-unfolding Entered
-no_block m r name has lacks (Block file at table) rows is h =
-    lacks file at table (subst (λ (rs : List Row). HasValues rs (Block file at table)) (one_rows (subcommand_rows_of m) (codes "block") rows r has is) h)
-no_block m r name has lacks (Check input table progress) rows is h =
-    unlike (codes "check") (codes "block") (λ e. absurd (omega arith)) (named m (codes "block") (codes "check") rows name is)
-no_block m r name has lacks (Run input output table edits ticks workers progress) rows is h =
-    unlike (codes "run") (codes "block") (λ e. absurd (omega arith)) (named m (codes "block") (codes "run") rows name is)
+-- rows that hold no values of the command of that name
+abbrev Lacks : List Row → Text → Type 0
+Lacks r n = (w : Words) → name_of w ≡ n → HasValues r w → ⊥
 
-no_check : (m : ArgMatches) (r : List Row) → subcommand_name_of m ≡ Some (codes "check") → option_map (λ p. p.1) (subcommand_rows_of m) ≡ Some r
-    → LacksCheck r → (w : Words) (rows : List Row) → Entered m w rows → HasValues rows w → ⊥
+no_values : (m : ArgMatches) (n : Text) (r : List Row) → subcommand_name_of m ≡ Some n → option_map (λ p. p.1) (subcommand_rows_of m) ≡ Some r
+    → Lacks r n → (w : Words) (rows : List Row) → Entered m w rows → HasValues rows w → ⊥
 unfolding Entered
-no_check m r name has lacks (Block file at table) rows is h =
-    unlike (codes "block") (codes "check") (λ e. absurd (omega arith)) (named m (codes "check") (codes "block") rows name is)
-no_check m r name has lacks (Check input table progress) rows is h =
-    lacks input table progress (subst (λ (rs : List Row). HasValues rs (Check input table progress)) (one_rows (subcommand_rows_of m) (codes "check") rows r has is) h)
-no_check m r name has lacks (Run input output table edits ticks workers progress) rows is h =
-    unlike (codes "run") (codes "check") (λ e. absurd (omega arith)) (named m (codes "check") (codes "run") rows name is)
+no_values m n r name has lacks w rows is h =
+    lacks w (named m n (name_of w) rows name is)
+    (subst (λ (rs : List Row). HasValues rs w) (one_rows (subcommand_rows_of m) (name_of w) rows r has is) h)
 
-no_run : (m : ArgMatches) (r : List Row) → subcommand_name_of m ≡ Some (codes "run") → option_map (λ p. p.1) (subcommand_rows_of m) ≡ Some r
-    → LacksRun r → (w : Words) (rows : List Row) → Entered m w rows → HasValues rows w → ⊥
-unfolding Entered
-no_run m r name has lacks (Block file at table) rows is h =
-    unlike (codes "block") (codes "run") (λ e. absurd (omega arith)) (named m (codes "run") (codes "block") rows name is)
-no_run m r name has lacks (Check input table progress) rows is h =
-    unlike (codes "check") (codes "run") (λ e. absurd (omega arith)) (named m (codes "run") (codes "check") rows name is)
-no_run m r name has lacks (Run input output table edits ticks workers progress) rows is h =
-    lacks input output table edits ticks workers progress
-    (subst (λ (rs : List Row). HasValues rs (Run input output table edits ticks workers progress)) (one_rows (subcommand_rows_of m) (codes "run") rows r has is) h)
+lacks_block : (r : List Row) → LacksBlock r → Lacks r (codes "block")
+lacks_block r lacks (Block file at table) is h = lacks file at table h
+lacks_block r lacks (Check input table progress) is h = unlike (codes "check") (codes "block") (λ e. absurd (omega arith)) is
+lacks_block r lacks (Run input output table edits ticks workers strict progress) is h = unlike (codes "run") (codes "block") (λ e. absurd (omega arith)) is
+lacks_block r lacks (Map input output table colours light) is h = unlike (codes "map") (codes "block") (λ e. absurd (omega arith)) is
+lacks_block r lacks (States input table) is h = unlike (codes "states") (codes "block") (λ e. absurd (omega arith)) is
+
+lacks_check : (r : List Row) → LacksCheck r → Lacks r (codes "check")
+lacks_check r lacks (Block file at table) is h = unlike (codes "block") (codes "check") (λ e. absurd (omega arith)) is
+lacks_check r lacks (Check input table progress) is h = lacks input table progress h
+lacks_check r lacks (Run input output table edits ticks workers strict progress) is h = unlike (codes "run") (codes "check") (λ e. absurd (omega arith)) is
+lacks_check r lacks (Map input output table colours light) is h = unlike (codes "map") (codes "check") (λ e. absurd (omega arith)) is
+lacks_check r lacks (States input table) is h = unlike (codes "states") (codes "check") (λ e. absurd (omega arith)) is
+
+lacks_run : (r : List Row) → LacksRun r → Lacks r (codes "run")
+lacks_run r lacks (Block file at table) is h = unlike (codes "block") (codes "run") (λ e. absurd (omega arith)) is
+lacks_run r lacks (Check input table progress) is h = unlike (codes "check") (codes "run") (λ e. absurd (omega arith)) is
+lacks_run r lacks (Run input output table edits ticks workers strict progress) is h = lacks input output table edits ticks workers strict progress h
+lacks_run r lacks (Map input output table colours light) is h = unlike (codes "map") (codes "run") (λ e. absurd (omega arith)) is
+lacks_run r lacks (States input table) is h = unlike (codes "states") (codes "run") (λ e. absurd (omega arith)) is
+
+lacks_map : (r : List Row) → LacksMap r → Lacks r (codes "map")
+lacks_map r lacks (Block file at table) is h = unlike (codes "block") (codes "map") (λ e. absurd (omega arith)) is
+lacks_map r lacks (Check input table progress) is h = unlike (codes "check") (codes "map") (λ e. absurd (omega arith)) is
+lacks_map r lacks (Run input output table edits ticks workers strict progress) is h = unlike (codes "run") (codes "map") (λ e. absurd (omega arith)) is
+lacks_map r lacks (Map input output table colours light) is h = lacks input output table colours light h
+lacks_map r lacks (States input table) is h = unlike (codes "states") (codes "map") (λ e. absurd (omega arith)) is
+
+lacks_states : (r : List Row) → LacksStates r → Lacks r (codes "states")
+lacks_states r lacks (Block file at table) is h = unlike (codes "block") (codes "states") (λ e. absurd (omega arith)) is
+lacks_states r lacks (Check input table progress) is h = unlike (codes "check") (codes "states") (λ e. absurd (omega arith)) is
+lacks_states r lacks (Run input output table edits ticks workers strict progress) is h = unlike (codes "run") (codes "states") (λ e. absurd (omega arith)) is
+lacks_states r lacks (Map input output table colours light) is h = unlike (codes "map") (codes "states") (λ e. absurd (omega arith)) is
+lacks_states r lacks (States input table) is h = lacks input table h
 
 pub returns-in-Some-clause-none : goal.returns-in-Some-clause-none
 unfolding Entered
 returns-in-Some-clause-none c =
-    if_none c.block_words.result _ _ (no_block c.args.matches.now _ (c.in-Some.ensures.found.0 refl) c.in-Some.ensures.rows) c.block_words.ensures.none
+    if_none c.block_words.result _ _
+    (λ lacks. no_values c.args.matches.now (codes "block") _ (c.in-Some.ensures.found.0 refl) c.in-Some.ensures.rows (lacks_block (rows_of (found_of c.in-Some.block.now)) lacks))
+    c.block_words.ensures.none
 
 pub returns-in-Some-subcommand_matches-clause-none : goal.returns-in-Some-subcommand_matches-clause-none
 unfolding Entered
 returns-in-Some-subcommand_matches-clause-none c =
     if_none c.check_words.result _ _
-    (no_check c.args.matches.now _ (c.in-Some-subcommand_matches.ensures.found.0 refl) c.in-Some-subcommand_matches.ensures.rows)
+    (λ lacks. no_values c.args.matches.now (codes "check") _ (c.in-Some-subcommand_matches.ensures.found.0 refl) c.in-Some-subcommand_matches.ensures.rows (lacks_check _ lacks))
     c.check_words.ensures.none
+
+pub returns-in-Some-subcommand_matches-2-clause-none : goal.returns-in-Some-subcommand_matches-2-clause-none
+unfolding Entered
+returns-in-Some-subcommand_matches-2-clause-none c =
+    if_none c.map_words.result _ _
+    (λ lacks. no_values c.args.matches.now (codes "map") _ (c.in-Some-subcommand_matches-2.ensures.found.0 refl) c.in-Some-subcommand_matches-2.ensures.rows (lacks_map _ lacks))
+    c.map_words.ensures.none
+
+pub returns-in-Some-subcommand_matches-3-clause-none : goal.returns-in-Some-subcommand_matches-3-clause-none
+unfolding Entered
+returns-in-Some-subcommand_matches-3-clause-none c =
+    if_none c.states_words.result _ _
+    (λ lacks. no_values c.args.matches.now (codes "states") _ (c.in-Some-subcommand_matches-3.ensures.found.0 refl) c.in-Some-subcommand_matches-3.ensures.rows (lacks_states (rows_of (found_of c.in-Some-subcommand_matches-3.states.now)) lacks))
+    c.states_words.ensures.none
 
 pub returns-clause-none : goal.returns-clause-none
 unfolding Entered
 returns-clause-none c =
     if_none c.run_words.result _ _
-    (no_run c.args.matches.now _ (c.in_ok-subcommand_matches.ensures.found.0 refl) c.in_ok-subcommand_matches.ensures.rows)
+    (λ lacks. no_values c.args.matches.now (codes "run") _ (c.in_ok-subcommand_matches.ensures.found.0 refl) c.in_ok-subcommand_matches.ensures.rows (lacks_run _ lacks))
     c.run_words.ensures.none

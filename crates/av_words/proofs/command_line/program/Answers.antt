@@ -8,5 +8,9 @@ returns-clause-app c =
     ∙ ap₂ with_subcommand c.bare_program.ensures.app (ap (λ (a : App). a.top) c.in_ok-block.ensures.app) in
     let two = c.in_ok-subcommand-2.ensures.shape c.in_ok-check.ensures.local
     ∙ ap₂ with_subcommand one (ap (λ (a : App). a.top) c.in_ok-check.ensures.app) in
-    c.in_ok-program.ensures.shape c.in_ok-run.ensures.local
-    ∙ ap₂ with_subcommand two (ap (λ (a : App). a.top) c.in_ok-run.ensures.app)
+    let three = c.in_ok-subcommand-3.ensures.shape c.in_ok-run.ensures.local
+    ∙ ap₂ with_subcommand two (ap (λ (a : App). a.top) c.in_ok-run.ensures.app) in
+    let four = c.in_ok-subcommand-4.ensures.shape c.in_ok-map.ensures.local
+    ∙ ap₂ with_subcommand three (ap (λ (a : App). a.top) c.in_ok-map.ensures.app) in
+    c.in_ok-program.ensures.shape c.in_ok-states.ensures.local
+    ∙ ap₂ with_subcommand four (ap (λ (a : App). a.top) c.in_ok-states.ensures.app)

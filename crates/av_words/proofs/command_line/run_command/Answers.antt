@@ -8,4 +8,5 @@ returns-clause-app c =
     let none = c.in_ok-with_files.ensures.app ∙ ap with_files c.command.ensures.app in
     let one = c.in_ok-arg.ensures.shape c.counted.ensures.local ∙ ap₂ with_rule none c.counted.ensures.rule in
     let two = c.in_ok-arg-2.ensures.shape c.counted-2.ensures.local ∙ ap₂ with_rule one c.counted-2.ensures.rule in
-    c.in_ok-run.ensures.shape c.progress_flag.ensures.local ∙ ap₂ with_rule two c.progress_flag.ensures.rule
+    let three = c.in_ok-arg-3.ensures.shape c.flag.ensures.local ∙ ap₂ with_rule two c.flag.ensures.rule in
+    c.in_ok-run.ensures.shape c.progress_flag.ensures.local ∙ ap₂ with_rule three c.progress_flag.ensures.rule

@@ -1,0 +1,24 @@
+use Rattle.std.proofs.Common.{refl, Option, Some, None, IfNone}
+use Rattle.av_words.proofs.command_line.map_words.Goals as goal
+
+if_none : {T : Type 0} (o : Option T) (P : Type 0) → P → IfNone o P
+if_none None P p = p
+if_none (Some x) P p = tt
+
+pub returns-clause-values : goal.returns-clause-values
+returns-clause-values c = (
+  refl,
+  (
+    c.in_ok-input.ensures.value,
+    c.in_ok-picture.ensures.value,
+    c.text_of-table.ensures.either,
+    c.text_of-colours.ensures.either,
+    c.is_given-light.ensures,
+  ),
+)
+
+pub returns-in_err-input-clause-none : goal.returns-in_err-input-clause-none
+returns-in_err-input-clause-none c = if_none c.from_residual.result _ (λ i o t k l h. c.in_err-input.ensures.none i h.0)
+
+pub returns-in_err-picture-clause-none : goal.returns-in_err-picture-clause-none
+returns-in_err-picture-clause-none c = if_none c.from_residual-in_err-picture.result _ (λ i o t k l h. c.in_err-picture.ensures.none o h.1)
