@@ -12,7 +12,7 @@ pub(crate) struct Layer<'a> {
 }
 
 fn add_text(bytes: &mut Vec<u8>, text: &[u8]) -> Result<(), AllocError> {
-    bytes.extend_from_slice(&(text.len() as u16).to_be_bytes())?;
+    bytes.extend_from_slice(&((text.len() % 65536) as u16).to_be_bytes())?;
     bytes.extend_from_slice(text)
 }
 
@@ -41,13 +41,11 @@ fn index_at(places: &[(u16, u8)], place: u16) -> u8 {
 /// last byte of a long comes first.
 fn add_data(bytes: &mut Vec<u8>, places: &[(u16, u8)]) -> Result<(), AllocError> {
     bytes.extend_from_slice(b"\x0c\0\x04data\0\0\x01\0")?;
-    for long in 0..256 {
-        for pair in (0..8).rev() {
-            let place = 16 * long as u16 + 2 * pair as u16;
-            let low = index_at(places, place) % 16;
-            let high = index_at(places, place + 1) % 16;
-            bytes.push(16 * high + low)?;
-        }
+    for byte in 0..2048u16 {
+        let place = 16 * (byte / 8) + 2 * (7 - byte % 8);
+        let low = index_at(places, place) % 16;
+        let high = index_at(places, place + 1) % 16;
+        bytes.push(16 * high + low)?;
     }
     Ok(())
 }
