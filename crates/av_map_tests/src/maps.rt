@@ -47,7 +47,9 @@ fn add(files: &mut Vec<RegionFile>, x: i32, z: i32, bytes: Vec<u8>) -> Result<()
 fn world(alloc: Global) -> Result<Vec<RegionFile>, Fail> {
     let mut files = Vec::new(alloc);
     let mut compressed = region(alloc, 0, 0, -32, &[STONE])?;
-    compressed[8196] = 2;
+    if let Some(compression) = compressed.get_mut(8196) {
+        *compression = 2;
+    }
     add(&mut files, 0, -1, compressed)?;
     add(&mut files, -1, 0, vec![in alloc; 0; 100]?)?;
     add(
