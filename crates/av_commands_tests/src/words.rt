@@ -106,6 +106,7 @@ fn flags_of_a_run(rt: HostRuntime) -> Result<(), Fail> {
 }
 
 /// The values of `map`.
+#[derive(Drop)]
 struct Drawn<'a> {
     input: &'a str,
     picture: &'a str,
