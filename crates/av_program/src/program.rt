@@ -256,8 +256,9 @@ fn as_texts(alloc: Global, words: &[String]) -> Result<Vec<&str>, AllocError> {
 
 /// Reads the words that the program was called with and does what they say. Where standard error is a terminal, long work
 /// says there how far it is. The region files of `run` go to the folder that its words name, and the picture of `map` to that of
-/// its path, which the sink opens; it has opened none. Each other command leaves it as it is. The answer is the program's status: 0; 1 after a fault, and where
-/// `check` found something, and where `states` left chunks out; 2 after words that are refused or call for help.
+/// its path, which the sink opens; it has opened none. Each other command leaves it as it is. The answer is the program's
+/// status: 0; 1 after a fault, where `check` found something, and where `states` left chunks out; 2 after words that are
+/// refused or call for help.
 pub fn run<
     R: Env + Files + AllocGlobal + Clone + Drop + Threads + Wait + Sync,
     S: OutputFolder,
