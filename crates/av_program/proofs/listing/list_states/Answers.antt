@@ -15,6 +15,6 @@ returns g c = record {
   census = c.in_ok-census.census;
   counted = c.in_ok-census.ensures.ok;
   printed = c.in_ok-text.ensures.ok
-    ∙ ap₂ (λ (rules : Option Rules) (counts : List StateCount). listing (option_map table_of rules) counts) c.as_ref.ensures.value c.as_slice.ensures.value;
+      ∙ ap₂ (λ (rules : Option Rules) (counts : List StateCount). listing (option_map table_of rules) counts) c.as_ref.ensures.value c.as_slice.ensures.value;
   others = refl;
 }
