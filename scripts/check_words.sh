@@ -60,8 +60,8 @@ region() {
 # What follows the fault of a compressed chunk, what is said of chunks that are left out, and of states that have no row.
 advice='  scripts/worlds.py plain IN OUT makes such files readable; anvilwater-world WORLD does the whole way\n'
 left_out=' chunks or files have a fault and are left out: `anvilwater check --in DIR` lists them\n'
-uncovered=' states have no row in the table and count as full, dark blocks: `anvilwater states --in DIR --table FILE` lists them\n'
-strict=' states have no row in the table, and --strict wants one for each: `anvilwater states --in DIR --table FILE` lists them\n'
+uncovered=' states have no row in the table and count as full and dark: `anvilwater states` lists them\n'
+strict=' states have no row in the table, and --strict wants one: `anvilwater states` lists them\n'
 
 not_a_region="the file's name is not r.X.Z.mca, with X and Z the region's coordinates"
 

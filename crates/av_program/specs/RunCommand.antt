@@ -21,10 +21,10 @@ counts_text chunks turns = codes "chunks " ++ (decimal chunks ++ (codes " turns 
 
 -- how many states have no row, where the run goes on, and where it does not
 abbrev pub uncovered_text : ℕ → List ℕ
-uncovered_text n = decimal n ++ codes " states have no row in the table and count as full, dark blocks: `anvilwater states --in DIR --table FILE` lists them"
+uncovered_text n = decimal n ++ codes " states have no row in the table and count as full and dark: `anvilwater states` lists them"
 
 abbrev pub strict_text : ℕ → List ℕ
-strict_text n = decimal n ++ codes " states have no row in the table, and --strict wants one for each: `anvilwater states --in DIR --table FILE` lists them"
+strict_text n = decimal n ++ codes " states have no row in the table, and --strict wants one: `anvilwater states` lists them"
 
 -- what a call leaves on its output for a run's counts, and its status: the line, or 1 where writing failed
 pub data HasCounts (chunks turns : ℕ) (before after : Option (List ℕ)) (status : ℕ) : Type 0 where

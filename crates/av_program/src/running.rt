@@ -144,7 +144,7 @@ fn write_uncovered<E: Write>(err: &mut E, without_row: u32) -> io::Result<()>
 {
     writeln!(
         err,
-        "{without_row} states have no row in the table and count as full, dark blocks: `anvilwater states --in DIR --table FILE` lists them"
+        "{without_row} states have no row in the table and count as full and dark: `anvilwater states` lists them"
     )
 }
 
@@ -154,7 +154,7 @@ fn write_strict<E: Write>(err: &mut E, without_row: u32) -> io::Result<()>
 {
     writeln!(
         err,
-        "{without_row} states have no row in the table, and --strict wants one for each: `anvilwater states --in DIR --table FILE` lists them"
+        "{without_row} states have no row in the table, and --strict wants one: `anvilwater states` lists them"
     )
 }
 
