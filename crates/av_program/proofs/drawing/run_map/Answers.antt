@@ -1,5 +1,5 @@
 use Rattle.std.proofs.Common.{refl}
-use Rattle.av_program.specs.MapCommand.{not_saved, not_drawn}
+use Rattle.av_program.specs.MapCommand.{drawn, not_saved, not_drawn}
 use Rattle.av_program.proofs.drawing.run_map.Goals as goal
 
 pub returns-in-Err : goal.returns-in-Err
@@ -7,3 +7,6 @@ returns-in-Err g c = not_drawn refl c.report_refusal.ensures
 
 pub returns : goal.returns
 returns g c = not_saved c.in-Ok.map c.in-Err-save_picture.fault c.in-Ok.ensures c.in-Err-save_picture.ensures.err c.report_fault.ensures
+
+pub returns-in-Ok-save_picture : goal.returns-in-Ok-save_picture
+returns-in-Ok-save_picture g c = drawn c.in-Ok.map c.in-Ok.ensures c.in-Ok-save_picture.ensures.ok refl
