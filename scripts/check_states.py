@@ -74,7 +74,7 @@ def world(blocks, chunks=1):
 
 
 def left_out(count):
-    return "%d chunks or files have a fault and are left out: `anvilwater check --in in` lists them\n" % count if count else ""
+    return "%d chunks or files have a fault and are left out: `anvilwater check --in DIR` lists them\n" % count if count else ""
 
 
 # ---------------------------------------------------------------- files

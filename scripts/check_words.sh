@@ -59,7 +59,7 @@ region() {
 
 # What follows the fault of a compressed chunk, what is said of chunks that are left out, and of states that have no row.
 advice='  scripts/worlds.py plain IN OUT makes such files readable; anvilwater-world WORLD does the whole way\n'
-left_out=' chunks or files have a fault and are left out: `anvilwater check --in DIR` lists them\n'
+unread=' chunks or files have a fault and are left out: `anvilwater check --in DIR` lists them\n'
 uncovered=' states have no row in the table and count as full and dark: `anvilwater states` lists them\n'
 strict=' states have no row in the table, and --strict wants one: `anvilwater states` lists them\n'
 
@@ -285,7 +285,7 @@ expect_all 0 "98303 minecraft:air\n1 minecraft:stone\n" "" states --in "$input"
 expect_all 0 "4095 minecraft:air open=true floor=false opacity=0 emission=0 wet=false\n1 minecraft:stone no row\n" "" \
   states --in "$input" --table "$work/bare.toml"
 two_chunks "$input/r.0.0.mca"
-expect_all 1 "98303 minecraft:air\n1 minecraft:stone\n" "2$left_out" states --in "$input"
+expect_all 1 "98303 minecraft:air\n1 minecraft:stone\n" "2$unread" states --in "$input"
 if [ -c /dev/full ]; then
   expect_full states --in samples
 fi
@@ -314,7 +314,7 @@ if [ -e "$picture.part" ]; then
 fi
 expect_all 0 "" "" map --in samples --out "$picture"
 expect_all 0 "" "" map --in samples --out "$work/light.png" --light
-expect_all 0 "" "2$left_out" map --in "$input" --out "$work/parts.png"
+expect_all 0 "" "2$unread" map --in "$input" --out "$work/parts.png"
 # Two regions side by side are 1,024 by 1,024 pixels where one is north-west of the other.
 for file in picture light parts; do
   asked=$((asked + 1))
