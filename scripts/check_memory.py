@@ -19,7 +19,7 @@ import tempfile
 from concurrent.futures import ThreadPoolExecutor
 
 sys.dont_write_bytecode = True
-from flat_runs import TABLE, WATER, edit, flat, many_chunks
+from flat_runs import TABLE, WATER, edit, flat, many_chunks, said
 
 # A run of many chunks has some ten thousand growths: this many are passed over from one that is refused to the next.
 STEP = 499
@@ -40,7 +40,7 @@ def answer_of(library, call, words, folder, refuse="REFUSE"):
     os.close(tell)
     refused = os.read(told, 1) != b""
     os.close(told)
-    return (done.stdout.strip(), done.stderr.strip(), done.returncode), refused
+    return (done.stdout.strip(), said(done.stderr), done.returncode), refused
 
 
 class Run:
