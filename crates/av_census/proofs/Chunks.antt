@@ -1,6 +1,6 @@
 -- The blocks of a chunk in memory are those of its document.
-use Rattle.std.proofs.Common.{◌≡◌, ◌≢◌, ℕ, zero, suc, ◌+◌, ◌*◌, ◌<◌, ◌≤◌, ℤ, pos, negsuc, ◌+ℤ◌, ◌-ℤ◌, ◌&&◌, List, [], ◌∷◌, ◌++◌, map, length, length-append, Bool, true, false, true≢false, cond, Option, Some, None, refl, sym, ap, ◌∙◌, subst, arith}
-use Rattle.std.specs.Prelude.{slice_index_or, IfSome, IsSome}
+use Rattle.std.proofs.Common.{◌≡◌, ℕ, zero, suc, ◌+◌, ◌*◌, ◌<◌, ◌≤◌, ℤ, pos, ◌+ℤ◌, List, [], ◌∷◌, map, length, length-append, Bool, true, false, true≢false, cond, Option, Some, None, refl, sym, ap, ◌∙◌, subst, arith}
+use Rattle.std.specs.Prelude.{slice_index_or, IsSome}
 use Rattle.std.specs.List.{range_with_len}
 use Rattle.std.proofs.lemmas.Int.{ints}
 use Rattle.std.proofs.lemmas.List.FromFn.{length-map-range_with_len}
@@ -17,25 +17,24 @@ use Rattle.av_state.specs.BlockState.{BlockState}
 use Rattle.av_state.specs.StateList.{first_states, same_state}
 use Rattle.av_state.specs.Table.{states}
 use Rattle.av_state.specs.declared.table.StateTable.{StateTable}
-use Rattle.av_section.specs.Section.{HasNumbersBelow, section_states}
+use Rattle.av_section.specs.Section.{HasNumbersBelow}
 use Rattle.av_section.specs.declared.section.Section.{Section}
 use Rattle.av_document.specs.Chunk.{root_tags, is_full, first_fault, cell_of}
-use Rattle.av_document.specs.Layout.{block_at, states_of}
+use Rattle.av_document.specs.Layout.{block_at}
 use Rattle.av_document.proofs.Positions.{lies_in-block_at}
 use Rattle.av_chunk.proofs.Heights.{section_test, offset_at}
 use Rattle.av_chunk.proofs.Written.{states-of_section, numbers-of_section}
 use Rattle.av_chunk.specs.Payload.{IsPayloadFault, no_document, bad_document}
 use Rattle.av_chunk.specs.Reading.{IsLoaded, IsKept}
-use Rattle.av_chunk.specs.Rest.{offset_of}
 use Rattle.av_chunk.specs.Views.{section_in, cells_of}
 use Rattle.av_chunk.specs.declared.chunk.Chunk.{Chunk}
 use Rattle.av_chunk.specs.declared.rest.ChunkRest.{ChunkRest}
-use Rattle.av_survey.specs.Survey.{IsFaultAlone, sectors, spelling, document}
+use Rattle.av_survey.specs.Survey.{sectors, spelling, document}
 use Rattle.av_census.specs.Census.{joined, section_blocks, chunk_blocks, times, HasBlocksAt, absent, chunk, fault}
 use Rattle.av_census.specs.Counting.{slot_states, slots_states, AreSlotCounts, SlotBelow, SlotsBelow, IsCountOf, AreFew, HasBlocksIn, good, bad, IsCountedIn, IsCountedAt}
 use Rattle.av_census.specs.declared.places.Counted.{Counted}
 use Rattle.av_census.specs.declared.places.Counted.TheVariants.{Nothing, Blocks, LeftOut}
-use Rattle.av_census.proofs.Weighing.{joined-same, joined-none}
+use Rattle.av_census.proofs.Weighing.{joined-same}
 
 -- ---- how many
 

@@ -1,5 +1,5 @@
 -- The blocks of regions and files, counted one after the other.
-use Rattle.std.proofs.Common.{◌≡◌, ℕ, zero, suc, ◌+◌, ◌*◌, ◌^◌, ◌<◌, ◌≤◌, Bool, true, false, cond, List, [], ◌∷◌, ◌++◌, length, length-append, Some, None, refl, sym, ap, ◌∙◌, subst, arith, All, append_assoc, Vec, Global}
+use Rattle.std.proofs.Common.{◌≡◌, ℕ, suc, ◌+◌, ◌*◌, ◌^◌, ◌<◌, ◌≤◌, Bool, true, false, cond, List, [], ◌∷◌, ◌++◌, length, length-append, None, refl, sym, ap, ◌∙◌, subst, arith, append_assoc, Vec, Global}
 use Rattle.std.specs.Prelude.{IfSome}
 use Rattle.std.specs.BTreeMap.{BTreeMap, get, is_at, IsEmpty}
 use Rattle.std.specs.Map.{lookup}
@@ -20,7 +20,7 @@ use Rattle.std.specs.declared.cmp.Ordering.{Ordering}
 use Rattle.std.specs.Ordering.{is_lt}
 use Rattle.av_sink.specs.declared.files.RegionFile.{RegionFile}
 use Rattle.av_census.specs.Census.{state_order, times, HasBlocksAt, HasBlocksUpTo, HasBlocks, short, whole, HaveBlocks}
-use Rattle.av_census.specs.Counting.{weighed, tallied, HasNoZero, Tallies, HasRoom, IsCountOf, AreFew, IsAdded, IsCountedAt, TalliesAt, TalliesUpTo, TalliesFile, TalliesFiles}
+use Rattle.av_census.specs.Counting.{weighed, tallied, Tallies, HasRoom, IsCountOf, AreFew, IsAdded, IsCountedAt, TalliesAt, TalliesUpTo, TalliesFile, TalliesFiles}
 use Rattle.av_census.specs.declared.places.Counted.{Counted}
 use Rattle.av_census.specs.declared.places.Counted.TheVariants.{Nothing, Blocks, LeftOut}
 use Rattle.av_census.proofs.Chunks.{times-le}

@@ -1,14 +1,13 @@
 -- The blocks of sections, counted one after the other.
-use Rattle.std.proofs.Common.{◌≡◌, ℕ, zero, suc, ◌+◌, ◌*◌, ◌<◌, ◌≤◌, List, [], ◌∷◌, map, length, replicate, slice_index, length-set, ◌==◌, true, ℤ, Option, Some, None, refl, sym, ap, ◌∙◌, subst, arith}
-use Rattle.std.specs.Prelude.{slice_index_or, slice_set, IfSome}
-use Rattle.std.specs.List.{range_with_len}
+use Rattle.std.proofs.Common.{◌≡◌, ℕ, ◌+◌, ◌<◌, ◌≤◌, List, [], ◌∷◌, length, replicate, slice_index, length-set, ◌==◌, true, ℤ, Option, None, refl, sym, ap, ◌∙◌, subst, arith}
+use Rattle.std.specs.Prelude.{slice_index_or, slice_set}
 use Rattle.std.proofs.lemmas.Bool.Decides.{Decides-eqb}
 use Rattle.av_pack.specs.Packing.{packed_at}
 use Rattle.av_state.specs.BlockState.{BlockState, air}
 use Rattle.av_state.specs.StateList.{same_state}
-use Rattle.av_section.specs.Section.{number_at, HasNumbersBelow, section_states, AreParts}
+use Rattle.av_section.specs.Section.{number_at, section_states, AreParts}
 use Rattle.av_section.specs.declared.section.Section.{Section}
-use Rattle.av_census.specs.Census.{times, joined}
+use Rattle.av_census.specs.Census.{times}
 use Rattle.av_census.specs.Counting.{weighed, first_places, CountsMore, slot_states, slots_states, AreSlotCounts}
 use Rattle.av_census.proofs.Weighing.{when, weighed-raised, raised-le, weighed-zeros, zeros-le, times-place, times-same, times-joined, joined-none}
 

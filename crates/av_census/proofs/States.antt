@@ -1,27 +1,25 @@
 -- The order of states ties where they are the same, and what a tally holds of each.
-use Rattle.std.proofs.Common.{◌≡◌, ◌≢◌, ℕ, zero, suc, ◌+◌, ◌<◌, ◌≤◌, ◌&&◌, List, [], ◌∷◌, map, Bool, true, false, true≢false, cond, Option, Some, None, refl, sym, ap, ◌∙◌, subst, arith, All}
+use Rattle.std.proofs.Common.{◌≡◌, ℕ, ◌+◌, ◌<◌, ◌&&◌, List, [], ◌∷◌, Bool, true, false, true≢false, cond, Option, Some, None, refl, sym, ap, ◌∙◌, subst, arith}
 use Rattle.std.specs.Prelude.{IfSome}
 use Rattle.std.specs.BTreeMap.{BTreeMap, get, is_at}
-use Rattle.std.specs.Cmp.{IsTotalOrder, IsEquivalence}
+use Rattle.std.specs.Cmp.{IsEquivalence}
 use Rattle.std.specs.Cmp.Lexicographic.{slice_cmp, pointwise}
-use Rattle.std.specs.List.Sorted.{IsStrictlySortedBy}
-use Rattle.std.specs.Map.{lookup, keys_of, values_of}
+use Rattle.std.specs.Map.{lookup}
 use Rattle.std.specs.Option.{unwrap_or}
 use Rattle.std.specs.Ordering.{is_eq, nat_cmp, ordering_then, eq_by_cmp}
-use Rattle.std.specs.Str.{bytes_eq}
 use Rattle.std.specs.declared.cmp.Ordering.{Ordering}
 use Rattle.std.specs.declared.cmp.Ordering.TheVariants.{Less, Equal, Greater}
 use Rattle.std.proofs.lemmas.Map.Text.{is_eq-slice_cmp}
-use Rattle.av_state.specs.BlockState.{BlockState, Property}
+use Rattle.av_state.specs.BlockState.{BlockState}
 use Rattle.av_state.specs.StateList.{same_state, same_property}
 use Rattle.av_state.specs.States.{state_of}
-use Rattle.av_state.specs.Views.{property_of, properties_of}
+use Rattle.av_state.specs.Views.{property_of}
 use Rattle.av_state.specs.declared.state.Property.{Property as PropertyValue}
 use Rattle.av_state.specs.declared.state.State.{State}
 use Rattle.av_state.proofs.Lists.{pointwise-map}
 use Rattle.av_state.proofs.Numbering.{state-Decides, same_state-refl}
-use Rattle.av_census.specs.Census.{property_order, state_order, times}
-use Rattle.av_census.specs.Counting.{tallied, HasNoZero, Tallies}
+use Rattle.av_census.specs.Census.{property_order, state_order}
+use Rattle.av_census.specs.Counting.{tallied, Tallies}
 use Rattle.av_census.proofs.Weighing.{when}
 
 -- ---- ties

@@ -1,5 +1,5 @@
 -- The states of region files, and how many blocks have each.
-use Rattle.std.specs.Prelude.{◌≡◌, ℕ, zero, suc, ◌+◌, ◌<◌, pos, ℤ, ◌+ℤ◌, List, [], ◌∷◌, ◌++◌, map, All, None, Some, count_by, if◌then◌else◌}
+use Rattle.std.specs.Prelude.{◌≡◌, ℕ, zero, suc, ◌+◌, ◌<◌, pos, ℤ, ◌+ℤ◌, List, [], ◌∷◌, ◌++◌, map, All, None, count_by, if◌then◌else◌}
 use Rattle.std.specs.Cmp.Lexicographic.{slice_cmp}
 use Rattle.std.specs.List.Sorted.{IsStrictlySortedBy}
 use Rattle.std.specs.Ordering.{nat_cmp, ordering_then}

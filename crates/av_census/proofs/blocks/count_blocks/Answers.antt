@@ -1,9 +1,8 @@
-use Rattle.std.proofs.Common.{◌≡◌, ◌<◌, ◌≤◌, ◌+◌, None, Option, List, ℕ, length, sym, ap, ◌∙◌, subst, arith}
-use Rattle.std.specs.Option.{option_copied}
+use Rattle.std.proofs.Common.{None, Option, List, ℕ, length, sym, ap, ◌∙◌, subst, arith}
 use Rattle.std.specs.Prelude.{slice_index_or}
 use Rattle.std.proofs.lemmas.List.{length-replicate}
 use Rattle.av_section.specs.declared.section.Section.{Section}
-use Rattle.av_census.specs.Counting.{SlotBelow, AreSlotCounts}
+use Rattle.av_census.specs.Counting.{SlotBelow}
 use Rattle.av_census.proofs.Sections.{slots-none, slots-next}
 use Rattle.av_census.proofs.blocks.count_blocks.Goals as goal
 

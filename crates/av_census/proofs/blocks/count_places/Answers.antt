@@ -1,4 +1,4 @@
-use Rattle.std.proofs.Common.{◌≡◌, ◌+◌, ◌<◌, length, subst, sym, arith}
+use Rattle.std.proofs.Common.{◌≡◌, ◌<◌, length, subst, sym, arith}
 use Rattle.av_section.specs.Section.{number_at}
 use Rattle.av_census.specs.Counting.{CountsMore, first_places}
 use Rattle.av_census.proofs.Sections.{counts-none, counts-next}

@@ -1,5 +1,5 @@
-use Rattle.std.proofs.Common.{◌≡◌, ◌==◌, true, length, sym, ◌∙◌}
-use Rattle.av_census.proofs.Sections.{has_entry, one_number}
+use Rattle.std.proofs.Common.{sym, ◌∙◌}
+use Rattle.av_census.proofs.Sections.{one_number}
 use Rattle.av_census.proofs.blocks.only_number.Goals as goal
 
 pub returns-then-is_empty : goal.returns-then-is_empty

@@ -1,4 +1,4 @@
-use Rattle.std.proofs.Common.{◌≡◌, None, Option, List, ℕ, length, sym, subst}
+use Rattle.std.proofs.Common.{None, Option, List, ℕ, length, sym, subst}
 use Rattle.std.specs.Prelude.{slice_index_or}
 use Rattle.av_state.specs.StateList.{first_states}
 use Rattle.av_state.specs.Table.{states}

@@ -1,7 +1,4 @@
-use Rattle.std.proofs.Common.{◌≡◌, refl, sym, ap, ◌∙◌, subst, List, ℕ}
-use Rattle.av_census.specs.Counting.{IsCountOf, AreFew}
-use Rattle.av_census.specs.declared.places.Counted.TheVariants.{Nothing, Blocks, LeftOut}
-use Rattle.av_census.proofs.Files.{added_nothing, added_left_out, added_blocks, blocks_room}
+use Rattle.av_census.proofs.Files.{added_nothing, added_left_out}
 use Rattle.av_census.proofs.regions.add_counted.Goals as goal
 
 pub returns-in-Nothing : goal.returns-in-Nothing

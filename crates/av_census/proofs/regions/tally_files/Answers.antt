@@ -1,10 +1,10 @@
-use Rattle.std.proofs.Common.{◌≡◌, ◌∙◌, ◌++◌, ◌∷◌, ◌<◌, ◌≤◌, ◌+◌, [], List, length, length-append, refl, ap, append_assoc, subst, arith}
+use Rattle.std.proofs.Common.{◌≡◌, ◌∙◌, ◌++◌, ◌∷◌, ◌+◌, [], List, refl, append_assoc, subst}
 use Rattle.std.specs.List.{All}
 use Rattle.std.specs.Vec.Iter.{into_iter_items}
 use Rattle.std.proofs.lemmas.List.Elements.{All-tail}
 use Rattle.av_types.specs.Places.{IsInLimits}
 use Rattle.av_sink.specs.declared.files.RegionFile.{RegionFile}
-use Rattle.av_census.proofs.Files.{files_none, files_next, files_room}
+use Rattle.av_census.proofs.Files.{files_next}
 use Rattle.av_census.proofs.regions.tally_files.Goals as goal
 
 pub loop-file-preserved : goal.loop-file-preserved

@@ -1,4 +1,4 @@
-use Rattle.std.proofs.Common.{◌<◌, ◌+◌, ◌≤◌, refl, arith}
+use Rattle.std.proofs.Common.{◌<◌, ◌+◌, refl, arith}
 use Rattle.av_census.proofs.Files.{region_none, region_next, region_room}
 use Rattle.av_census.proofs.regions.tally_region.Goals as goal
 

@@ -1,5 +1,5 @@
-use Rattle.std.proofs.Common.{◌≡◌, None, refl, ap, ◌∙◌}
-use Rattle.std.specs.BTreeMap.{get, is_at}
+use Rattle.std.proofs.Common.{refl, ap, ◌∙◌}
+use Rattle.std.specs.BTreeMap.{is_at}
 use Rattle.std.specs.Map.{lookup}
 use Rattle.av_census.specs.Census.{state_order}
 use Rattle.av_census.proofs.States.{get_same, tallies_one, tallies_new}

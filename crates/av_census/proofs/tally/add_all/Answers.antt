@@ -1,4 +1,4 @@
-use Rattle.std.proofs.Common.{◌≡◌, ◌<◌, ◌≤◌, length, take, slice_index, ap, ◌∙◌, sym, subst, arith, refl}
+use Rattle.std.proofs.Common.{◌<◌, ◌≤◌, length, take, ap, ◌∙◌, arith, refl}
 use Rattle.std.proofs.lemmas.List.{take_all}
 use Rattle.av_state.specs.States.{state_of}
 use Rattle.av_state.specs.Table.{states}

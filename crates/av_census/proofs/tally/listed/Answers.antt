@@ -1,8 +1,5 @@
-use Rattle.std.proofs.Common.{◌≡◌, ◌++◌, ◌∷◌, [], List, map, sym, ap, ◌∙◌, append_assoc, subst, rules, refl}
-use Rattle.std.proofs.lemmas.List.{append-nil}
-use Rattle.av_state.specs.declared.state.State.{State}
-use Rattle.av_census.specs.declared.counts.StateCount.{StateCount}
-use Rattle.av_census.proofs.Adding.{count_in, counts_listed}
+use Rattle.std.proofs.Common.{rules}
+use Rattle.av_census.proofs.Adding.{counts_listed}
 use Rattle.av_census.proofs.tally.listed.Goals as goal
 
 pub returns : goal.returns

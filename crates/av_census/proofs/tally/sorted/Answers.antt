@@ -1,4 +1,4 @@
-use Rattle.std.proofs.Common.{◌≡◌, rules}
+use Rattle.std.proofs.Common.{rules}
 use Rattle.std.proofs.lemmas.List.Sorted.{answers_always}
 use Rattle.av_ticks.proofs.OrderLemmas.{sorted_is_ordered}
 use Rattle.av_census.specs.Census.{most_first}

@@ -1,4 +1,3 @@
-use Rattle.std.proofs.Common.{option_map, Result, Ok, Err, IfErr, subst, sym}
 use Rattle.av_commands.proofs.tables.read_height.Goals as goal
 
 pub returns-clause-height : goal.returns-clause-height

@@ -1,4 +1,3 @@
-use Rattle.std.proofs.Common.{◌≡◌}
 use Rattle.av_rules.specs.Tables.{table_of}
 use Rattle.av_commands.specs.Tables.{none, read}
 use Rattle.av_commands.proofs.tables.read_rules.Goals as goal
