@@ -123,7 +123,7 @@ def plain():
     apart = {"r.0.0.mca": flat(blocks, ((0, 0),)), "r.-1.2.mca": make_samples.region_bytes({(-32, 64): chunk(-32, 64, {}, (), {})})}
     first = [text for (x, _, _), text in blocks.items() if x < 16]
     yield "chunks of two regions", apart, True, 0, lines(world(first, 2)), ""
-    yield "an empty folder", {}, True, 0, [], ""
+    yield "an empty folder", {}, True, 0, [], "in has no region files\n"
     yield "regions without chunks", {"r.0.0.mca": b"", "r.1.0.mca": bytes(8192), "other.txt": b"x"}, True, 0, [], ""
 
 

@@ -10,6 +10,7 @@ import os
 import re
 import subprocess
 import sys
+import tempfile
 
 sys.dont_write_bytecode = True
 from flat_runs import SIDES, WATER, Run, edit, flat
@@ -226,6 +227,43 @@ SOAKED = """
     oak_leaves[distance=1,persistent=true,waterlogged=true] yes 1.19
 """
 
+# Whether a state has a row.
+COVERED = """
+    stone yes
+    grass_block[snowy=true] yes
+    deepslate[axis=y] yes
+    deepslate_diamond_ore yes
+    infested_cracked_stone_bricks yes
+    red_wool yes
+    light_blue_glazed_terracotta[facing=east] yes
+    stripped_warped_hyphae[axis=x] yes
+    dead_fire_coral_block yes
+    cut_red_sandstone yes
+    waxed_oxidized_cut_copper yes
+    soul_sand yes
+    redstone_block yes
+    command_block[conditional=false,facing=north] yes
+    tinted_glass yes
+    furnace[facing=north,lit=false] yes
+    powder_snow no
+    firefly_bush no
+    mud yes 1.19
+    mangrove_log[axis=y] yes 1.19
+    reinforced_deepslate yes 1.19
+    stripped_bamboo_block[axis=y] yes 1.20
+    chiseled_bookshelf[facing=north] yes 1.20
+    chiseled_tuff_bricks yes 1.21
+    waxed_weathered_chiseled_copper yes 1.21
+    crafter[crafting=false,orientation=north_up,triggered=false] yes 1.21
+"""
+# The same of states of versions after the one that is named.
+NOT_COVERED = """
+    mud no 1.18
+    stripped_bamboo_block[axis=y] no 1.19
+    grass no 1.20.3
+    crafter[crafting=false,orientation=north_up,triggered=false] no 1.20
+"""
+
 
 def examples(text, version):
     """The states that a version has, with what is expected, each with the corner of its own chunk."""
@@ -289,6 +327,21 @@ def soaked(run, version):
         yield state, [1 if want == "yes" else None] * 4, [wet.get(moved(chunk, *side)) for side in SIDES]
 
 
+def covered(program, path, version):
+    """Whether states have a row, as `states` lists them."""
+    cases = list(examples(COVERED, version))
+    cases += [("minecraft:" + words[0], words[1], (31, 31)) for words in map(str.split, NOT_COVERED.split("\n")) if words and words[2] == version]
+    chunks = {state: (index % 32, index // 32) for index, (state, *_) in enumerate(cases)}
+    blocks = {moved(chunk, 8, 70, 8): state for state, chunk in chunks.items()}
+    with tempfile.TemporaryDirectory() as folder:
+        with open(os.path.join(folder, "r.0.0.mca"), "wb") as file:
+            file.write(world(blocks, chunks.values()))
+        done = subprocess.run([program, "states", "--in", folder, "--table", path], capture_output=True, text=True)
+    rows = {line.split()[1]: not line.endswith(" no row") for line in done.stdout.splitlines()}
+    for state, want, _ in cases:
+        yield state, want == "yes", rows.get(state)
+
+
 def read_by(program, path):
     """What the program answers with a table, over a sample region and a folder."""
     samples = os.path.join(TOP, "samples")
@@ -338,6 +391,8 @@ def main():
         for kind in (light, let_through, replaced, floors, soaked):
             for state, want, got in kind(run, version):
                 expect(version, "%s of %s" % (kind.__name__, state), want, got)
+        for state, want, got in covered(program, path, version):
+            expect(version, "row of %s" % state, want, got)
         for what, want, got in low_world(run, text):
             expect(version, what, want, got)
     print("%d asked of tables, %d wrong" % (asked, wrong))

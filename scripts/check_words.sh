@@ -63,6 +63,13 @@ unread=' chunks or files have a fault and are left out: `anvilwater check --in D
 uncovered=' states have no row in the table and count as full and dark: `anvilwater states` lists them\n'
 strict=' states have no row in the table, and --strict wants one: `anvilwater states` lists them\n'
 
+# What is said of a folder without region files, and of an output that is full.
+bare=' has no region files\n'
+full='standard output: No space left on device (os error 28)\n'
+
+# What can be done, where the system answers that nothing is there.
+missing='  nothing has that name: is it spelled right, and does each link on the way lead to something?\n'
+
 not_a_region="the file's name is not r.X.Z.mca, with X and Z the region's coordinates"
 
 expect 0 minecraft:stone block samples/r.0.0.mca 4 67 15
@@ -105,23 +112,24 @@ expect 0 unloaded block "$work/r.60000.-60000.mca" 0 0 0
 mkdir "$work/r.1.1.mca"
 expect 1 "fault 25: Device $work/r.1.1.mca" block "$work/r.1.1.mca" 0 0 0
 
-# Writing that fails is no success.
+# Writing that fails is no success, and is said.
 : > "$work/edits"
 mkdir "$work/nothing"
 nothing=(run --in "$work/nothing" --out "$work/nothing" --table tables/blocks.toml --edits "$work/edits" --ticks 0 --workers 1)
+# expect_full ERRORS WORDS..
 expect_full() {
-  local answered=0
+  local err=$1 answered=0
+  shift
+  [ -c /dev/full ] || return 0
   "$program" "$@" > /dev/full 2> "$work/err" || answered=$?
   asked=$((asked + 1))
-  if [ "$answered" != 1 ] || [ -s "$work/err" ]; then
+  if [ "$answered" != 1 ] || ! printf "$err" | cmp -s - "$work/err"; then
     wrong=$((wrong + 1))
     echo "$*: output to /dev/full: status $answered, errors '$(cat "$work/err")'"
   fi
 }
-if [ -c /dev/full ]; then
-  expect_full block samples/r.0.0.mca 4 67 15
-  expect_full "${nothing[@]}"
-fi
+expect_full "$full" block samples/r.0.0.mca 4 67 15
+expect_full "$work/nothing$bare$full" "${nothing[@]}"
 
 # What is wrong with a folder. The words are judged before the table, the table before the folder, and that before its
 # files, which are read in the byte order of their names.
@@ -131,6 +139,37 @@ expect 2 "error: the argument '--in <DIR>' cannot be used multiple times" check 
 expect 2 "Lists what is wrong with the region files of a folder" check --help
 expect_all 0 "" "" check --in samples
 expect_all 0 "" "1 of 2 files read\n2 of 2 files read\n" check --progress --in samples
+# On a terminal one line is written anew, and taken away at the end, and faults are explained.
+on_terminal() {
+  python3 - "$program" "$@" << 'END'
+import os, subprocess, sys
+master, slave = os.openpty()
+subprocess.run(sys.argv[1:], stdout=subprocess.DEVNULL, stderr=slave, timeout=60)
+os.close(slave)
+told = b""
+while True:
+    try:
+        more = os.read(master, 4096)
+    except OSError:
+        break
+    told += more
+    if not more:
+        break
+sys.stdout.write(told.decode().replace("\r\x1b[K", "|").replace("\r\n", "\n"))
+END
+}
+expect_on_terminal() {
+  local want=$1 told
+  shift
+  told=$(on_terminal "$@")
+  asked=$((asked + 1))
+  if [ "$told" != "$(printf "$want")" ]; then
+    wrong=$((wrong + 1))
+    echo "$*, on a terminal: expected '$want', found '$told'"
+  fi
+}
+expect_on_terminal "|1 of 2 files read|2 of 2 files read|" check --in samples
+expect_on_terminal "fault 25: Device missing\n  missing: No such file or directory (os error 2)\n$missing" check --in missing
 expect 1 "fault 25: Device missing.toml" check --table missing.toml --in missing
 expect 1 "fault 19: BadTable" check --table README.md --in missing
 expect 1 "fault 25: Device missing" check --in missing
@@ -138,17 +177,25 @@ expect 1 "fault 25: Device missing/" check --in missing/
 expect 1 "fault 25: Device README.md" check --in README.md
 folder="$work/folder"
 mkdir "$folder"
-expect_all 0 "" "" check --in "$folder"
+expect_all 0 "" "$folder$bare" check --in "$folder"
 for name in README r.0.0.mcr r.00.0.mca r.-0.0.mca r.0.0.mca.part r.2147483648.0.mca $'r.0.\377.mca'; do
   printf 'no region' > "$folder/$name"
 done
-expect_all 0 "" "" check --in "$folder"
+expect_all 0 "" "$folder$bare" check --in "$folder"
+# Each file that can't be read is said, and then the others' faults.
 mkdir "$folder/r.2.0.mca" "$folder/r.10.0.mca"
-expect 1 "fault 25: Device r.10.0.mca" check --in "$folder"
-rmdir "$folder/r.2.0.mca" "$folder/r.10.0.mca"
+expect_all 1 "" "fault 25: Device r.10.0.mca\nfault 25: Device r.2.0.mca\n" check --in "$folder"
 : > "$folder/r.60001.0.mca"
+expect_all 1 "" "fault 25: Device r.10.0.mca\nfault 25: Device r.2.0.mca\nfault 02: RegionRange\n" check --in "$folder"
+rmdir "$folder/r.2.0.mca" "$folder/r.10.0.mca"
 expect 1 "fault 02: RegionRange" check --in "$folder"
 rm "$folder"/*
+# A world's folder has its region files in a folder of it.
+mkdir -p "$work/world/region" "$work/other"
+: > "$work/other/region"
+expect_all 0 "" "$work/world has no region files, but $work/world/region is there\n" check --in "$work/world"
+expect_all 0 "" "$work/world/ has no region files, but $work/world/region is there\n" check --in "$work/world/"
+expect_all 0 "" "$work/other$bare" check --in "$work/other"
 
 # Findings come by (z, x) of the regions and then by the chunks' indices, with the chunks' places in the world.
 two_chunks() {
@@ -172,9 +219,56 @@ r.3.0.mca fault 04: ShortHeader
 r.-1.1.mca -32 32 fault 09: Compression 2
 r.-1.1.mca -31 33 fault 07: BadLength
 " "$advice" check --in "$folder/"
+expect_full "$full" check --in "$folder"
 
-# A run of a folder. The words are judged before the table, the table before the edits, these before the folder, and only
-# when all files were read is anything judged or written: a table that can't be read comes before 9 workers, and these
+# A link to a region file is read. One to nowhere, a folder, a pipe and a file that may not be read are named, and all others are
+# looked at; a run stops at the first.
+odd="$work/odd"
+mkdir -p "$odd/r.9.9.mca"
+two_chunks "$work/two_chunks"
+ln -s "$work/two_chunks" "$odd/r.1.0.mca"
+ln -s "$work/missing" "$odd/r.5.0.mca"
+mkfifo "$odd/r.7.0.mca"
+: > "$odd/r.8.0.mca"
+chmod 0 "$odd/r.8.0.mca"
+closed='fault 25: Device r.8.0.mca\n'
+[ "$(id -u)" != 0 ] || closed=
+expect_all 1 "r.1.0.mca 32 0 fault 09: Compression 2\nr.1.0.mca 33 1 fault 07: BadLength\n" \
+  "fault 25: Device r.5.0.mca\nfault 25: Device r.7.0.mca\n${closed}fault 25: Device r.9.9.mca\n$advice" check --in "$odd"
+# With --explain lines follow that say where, why and what can be done.
+rm "$odd/r.1.0.mca" "$odd/r.8.0.mca"
+expect_all 1 "" "fault 25: Device r.5.0.mca
+  $odd/r.5.0.mca: No such file or directory (os error 2)
+${missing}fault 25: Device r.7.0.mca
+  $odd/r.7.0.mca: neither a file nor a folder
+fault 25: Device r.9.9.mca
+  $odd/r.9.9.mca: Is a directory (os error 21)
+  a folder has that name, where a file is wanted
+" check --in "$odd/" --explain
+expect_all 1 "" "fault 25: Device r.5.0.mca\n  $odd/r.5.0.mca: No such file or directory (os error 2)\n$missing" \
+  states --explain --in "$odd"
+expect_all 1 "" "fault 25: Device none.toml\n  none.toml: No such file or directory (os error 2)\n$missing" \
+  block --explain --table none.toml samples/r.0.0.mca 0 0 0
+expect_all 1 "" "fault 25: Device none.toml\n  none.toml: No such file or directory (os error 2)\n$missing" \
+  map --explain --colours none.toml --in "$odd" --out "$work/odd.png"
+expect_all 1 "" "fault 25: Device README.md\n  README.md: not a directory\n  a file has that name, where a folder is wanted\n" \
+  "${nothing[@]:0:4}" README.md "${nothing[@]:5}" --explain
+expect_all 0 "minecraft:stone\n" "" block --explain samples/r.0.0.mca 4 67 15
+expect_all 0 "unloaded\n" "" block samples/r.0.0.mca 512 67 15
+expect_all 0 "unloaded\n" "  that position is in r.1.0.mca\n" block --explain samples/r.0.0.mca 512 67 15
+expect_all 0 "unloaded\n" "" block --explain samples/r.0.0.mca 511 67 511
+printf 'version = 2\nversion = 2\n' > "$work/twice.toml"
+printf 'version = 2\n[[block]]\nname = "a:b"\nopen = true\nfloor = true\nopacity = 16\nemission = 0\n' > "$work/row.toml"
+expect_all 1 "" "fault 19: BadTable\n  $work/twice.toml, line 2: duplicate key\n" check --explain --table "$work/twice.toml" --in "$odd"
+expect_all 1 "" "fault 19: BadTable\n  $work/row.toml: row 1, a:b: opacity and emission have to be whole numbers from 0 to 15\n" \
+  states --explain --table "$work/row.toml" --in "$odd"
+rm "$odd/r.5.0.mca"
+expect 1 "fault 25: Device r.7.0.mca" "${nothing[@]:0:2}" "$odd" "${nothing[@]:3}"
+expect 1 "fault 25: Device r.7.0.mca" states --in "$odd"
+expect 1 "fault 25: Device r.7.0.mca" map --in "$odd" --out "$work/odd.png"
+
+# A run of a folder. The words are judged before the output folder, that before the table, the table before the edits, these before
+# the folder, and only when all files were read is anything judged or written: a table that can't be read comes before 9 workers, and these
 # before a table that is no TOML.
 for left_out in 1 3 5 7 9 11; do
   expect 2 "error: the following required arguments were not provided:" \
@@ -197,28 +291,37 @@ edits="$work/edits"
 input="$work/input" output="$work/output"
 mkdir "$input" "$output"
 blocks=tables/blocks.toml
+expect_run 1 "" "fault 25: Device missing\n" missing.toml missing.edits missing missing 9
+expect_run 1 "" "fault 25: Device README.md\n" missing.toml missing.edits missing README.md 9
+if [ -d /proc/self ]; then
+  expect_run 1 "" "fault 25: Device /proc\n" missing.toml missing.edits missing /proc 9
+fi
 expect_run 1 "" "fault 25: Device missing.toml\n" missing.toml missing.edits missing "$output" 9
 expect_run 1 "" "fault 25: Device missing.edits\n" README.md missing.edits missing "$output" 9
 expect_run 1 "" "fault 25: Device missing\n" README.md "$edits" missing "$output" 9
-expect_run 1 "" "fault 23: BadCount\n" README.md "$edits" "$input" "$output" 9
-expect_run 1 "" "fault 23: BadCount\n" README.md "$edits" "$input" "$output" 0
+expect_run 1 "" "$input${bare}fault 23: BadCount\n" README.md "$edits" "$input" "$output" 9
+expect_run 1 "" "$input${bare}fault 23: BadCount\n" README.md "$edits" "$input" "$output" 0
+expect_run 1 "" "$input${bare}fault 23: BadCount\n  --workers is 9, and 1 to 8 can work\n" README.md "$edits" "$input" "$output" 9 --explain
+expect_run 1 "" "$input${bare}fault 19: BadTable\n  $work/twice.toml, line 2: duplicate key\n" \
+  "$work/twice.toml" "$edits" "$input" "$output" 1 --explain
+expect_all 1 "" "$work/nothing${bare}fault 23: BadCount\n  --ticks is 1000001, and 1000000 at most are run\n" \
+  "${nothing[@]:0:9}" --ticks 1000001 --workers 8 --explain
 # A count is a number of 32 bits without a minus.
-expect_run 1 "" "fault 23: BadCount\n" README.md "$edits" "$input" "$output" 4294967295
-expect_run 1 "" "fault 19: BadTable\n" README.md "$edits" "$input" "$output" +08
-expect 1 "fault 23: BadCount" "${nothing[@]:0:9}" --ticks 4294967295 --workers 9
+expect_run 1 "" "$input${bare}fault 23: BadCount\n" README.md "$edits" "$input" "$output" 4294967295
+expect_run 1 "" "$input${bare}fault 19: BadTable\n" README.md "$edits" "$input" "$output" +08
+expect_all 1 "" "$work/nothing${bare}fault 23: BadCount\n" "${nothing[@]:0:9}" --ticks 4294967295 --workers 9
 for number in 4294967296 -1; do
   expect 2 "error: invalid value '$number' for '--ticks <N>': $number is not in 0..=4294967295" \
     "${nothing[@]:0:9}" "--ticks=$number" --workers 1
 done
-expect_run 1 "" "fault 19: BadTable\n" README.md "$edits" "$input" "$output" 8
-expect_run 0 "chunks 0 turns 0\n" "" "$blocks" "$edits" "$input" missing 8
+expect_run 1 "" "$input${bare}fault 19: BadTable\n" README.md "$edits" "$input" "$output" 8
+expect_run 0 "chunks 0 turns 0\n" "$input$bare" "$blocks" "$edits" "$input" "$output" 8
 : > "$input/r.0.0.mca"
 head -c 8192 /dev/zero > "$input/r.-1.0.mca"
 printf 'no region' > "$input/README"
 mkdir "$input/r.2.0.mca"
 expect_run 1 "" "fault 25: Device r.2.0.mca\n" "$blocks" "$edits" "$input" "$output" 9
 rmdir "$input/r.2.0.mca"
-expect_run 1 "" "fault 25: Device r.-1.0.mca\n" "$blocks" "$edits" "$input" missing 1
 # Files are written by (z, x) of their regions, and none behind one that can't be written.
 mkdir "$output/r.-1.0.mca"
 expect_run 1 "" "fault 25: Device r.-1.0.mca\n" "$blocks" "$edits" "$input" "$output" 1
@@ -227,11 +330,12 @@ if [ "$(ls "$output")" != r.-1.0.mca ]; then
   wrong=$((wrong + 1))
   echo "folder after a first write that failed: $(ls "$output")"
 fi
-rmdir "$output/r.-1.0.mca"
+mkdir "$output/r.-2.1.mca"
 : > "$input/r.-2.1.mca"
-expect_run 1 "" "fault 25: Device r.-1.0.mca\n" "$blocks" "$edits" "$input" missing 1
+expect_run 1 "" "fault 25: Device r.-1.0.mca\n" "$blocks" "$edits" "$input" "$output" 1
 rm "$input/r.-2.1.mca"
-expect_run 0 "chunks 0 turns 0\n" "1 of 2 files read\n2 of 2 files read\nrunning\nwriting\n" "$blocks" "$edits" "$input" "$output" 1 --progress
+rmdir "$output"/*
+expect_run 0 "chunks 0 turns 0\n" "1 of 2 files read\n2 of 2 files read\nrunning\nwriting\n2 files written\n" "$blocks" "$edits" "$input" "$output" 1 --progress
 expect_run 0 "chunks 0 turns 0\n" "" "$blocks" "$edits" "$input" "$input" 2
 for file in "$input"/r.*.mca "$output"/r.*.mca; do
   asked=$((asked + 1))
@@ -241,7 +345,7 @@ for file in "$input"/r.*.mca "$output"/r.*.mca; do
   }
 done
 asked=$((asked + 1))
-if [ "$(ls "$output")" != $'r.-1.0.mca\nr.0.0.mca' ] || [ "$(ls "$input")" != $'README\nr.-1.0.mca\nr.0.0.mca' ]; then
+if [ "$(ls -A "$output")" != $'r.-1.0.mca\nr.0.0.mca' ] || [ "$(ls -A "$input")" != $'README\nr.-1.0.mca\nr.0.0.mca' ]; then
   wrong=$((wrong + 1))
   echo "folders after a run: $(ls "$input" "$output")"
 fi
@@ -260,6 +364,8 @@ stone=crates/av_main/data/r.-1.-1.mca
 rm -r "$output"/* "$input"/*
 sector "$input/r.0.0.mca" '\0\0\0\5\2\12\0\0\0'
 expect_run 1 "" "fault 09: Compression 2\n$advice" "$blocks" "$edits" "$input" "$output" 1
+expect_run 1 "" "fault 09: Compression 2\n$advice  r.0.0.mca, chunk 0 0
+  \`anvilwater check --in DIR\` lists each file and chunk that has a fault\n" "$blocks" "$edits" "$input" "$output" 1 --explain
 rm "$input/r.0.0.mca"
 cp "$stone" "$input"
 printf 'version = 3\nmin_section = 4\nsections = 1\n' > "$work/bare.toml"
@@ -280,15 +386,14 @@ expect 1 "fault 25: Device missing.toml" states --table missing.toml --in missin
 expect 1 "fault 19: BadTable" states --table README.md --in missing
 expect 1 "fault 25: Device missing" states --in missing
 mkdir "$work/empty"
-expect_all 0 "" "" states --in "$work/empty"
+expect_all 0 "" "$work/empty$bare" states --in "$work/empty"
+expect_all 0 "" "$work/world has no region files, but $work/world/region is there\n" states --in "$work/world"
 expect_all 0 "98303 minecraft:air\n1 minecraft:stone\n" "" states --in "$input"
 expect_all 0 "4095 minecraft:air open=true floor=false opacity=0 emission=0 wet=false\n1 minecraft:stone no row\n" "" \
   states --in "$input" --table "$work/bare.toml"
 two_chunks "$input/r.0.0.mca"
 expect_all 1 "98303 minecraft:air\n1 minecraft:stone\n" "2$unread" states --in "$input"
-if [ -c /dev/full ]; then
-  expect_full states --in samples
-fi
+expect_full "$full" states --in samples
 
 # A picture of a folder. The table is read before the colours, and these before the folder.
 picture="$work/picture.png"
@@ -299,7 +404,7 @@ expect 1 "fault 25: Device missing.toml" map --table missing.toml --colours miss
 expect 1 "fault 25: Device missing.colours" map --colours missing.colours --in missing --out "$picture"
 expect 1 "fault 19: BadTable" map --colours README.md --in missing --out "$picture"
 expect 1 "fault 25: Device missing" map --in missing --out "$picture"
-expect 1 "no region file to draw" map --in "$work/empty" --out "$picture"
+expect_all 1 "" "$work/empty${bare}no region file to draw\n" map --in "$work/empty" --out "$picture"
 : > "$folder/r.60001.0.mca"
 expect 1 "fault 02: RegionRange" map --in "$folder" --out "$picture"
 rm "$folder/r.60001.0.mca"

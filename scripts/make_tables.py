@@ -16,7 +16,7 @@ VERSIONS = {"1.18": "1.18 to 1.18.2", "1.19": "1.19 to 1.19.4", "1.20": "1.20 to
 ORDER = list(VERSIONS)
 
 HEAD = """\
-# The blocks of Minecraft Java Edition %s that are not full, opaque and dark. A row of more properties stands before
+# The blocks of Minecraft Java Edition %s. A row of more properties stands before
 # the row for the other states of its block, and the first that fits counts. A state without a row is shut, a floor, stops all light and
 # gives none. docs/FORMATS.md says what a row means, and where the game's light is another. scripts/make_tables.py writes this file.
 # The figures are from memory: of minecraft.wiki as of 1.21 (Light, Opacity, Water, and the pages of the blocks), and of the game's own
@@ -56,6 +56,14 @@ FAMILIES = {
     "SMOOTH": "stone polished_granite polished_diorite polished_andesite smooth_sandstone smooth_red_sandstone quartz smooth_quartz "
               "purpur prismarine_brick dark_prismarine bamboo_mosaic@1.20",
     "CORAL": "tube brain bubble fire horn",
+    "LOG": "oak spruce birch jungle acacia dark_oak mangrove@1.19 cherry@1.20",
+    "NYLIUM": "crimson warped",
+    "ORE": "coal iron copper gold lapis diamond emerald",
+    "RAW": "iron copper gold",
+    "MINERAL": "coal iron gold lapis diamond emerald redstone netherite",
+    "INFESTED": "stone cobblestone stone_bricks mossy_stone_bricks cracked_stone_bricks chiseled_stone_bricks deepslate",
+    "SAND": "sandstone red_sandstone",
+    "ROCK": "granite diorite andesite",
     "SKULL": "skeleton wither_skeleton",
     "HEAD": "zombie player creeper dragon piglin@1.20",
     "FLOWER": "dandelion poppy blue_orchid allium azure_bluet red_tulip orange_tulip white_tulip pink_tulip oxeye_daisy cornflower "
@@ -123,6 +131,32 @@ KINDS = [
         glowstone sea_lantern shroomlight jack_o_lantern ochre_froglight@1.19 verdant_froglight@1.19 pearlescent_froglight@1.19
         redstone_lamp furnace blast_furnace smoker crying_obsidian respawn_anchor redstone_ore deepslate_redstone_ore
         sculk_catalyst@1.19 magma_block COPPER_bulb@1.21"""),
+    # full, opaque and dark
+    (Kind(False, True, 15), """
+        stone ROCK polished_ROCK grass_block dirt coarse_dirt rooted_dirt podzol mycelium mud@1.19 packed_mud@1.19 muddy_mangrove_roots@1.19
+        clay gravel sand red_sand suspicious_sand@1.20 suspicious_gravel@1.20 SAND chiseled_SAND cut_SAND smooth_SAND cobblestone
+        mossy_cobblestone bedrock obsidian smooth_stone stone_bricks mossy_stone_bricks cracked_stone_bricks chiseled_stone_bricks
+        infested_INFESTED bricks mud_bricks@1.19 deepslate cobbled_deepslate polished_deepslate chiseled_deepslate deepslate_bricks
+        cracked_deepslate_bricks deepslate_tiles cracked_deepslate_tiles reinforced_deepslate@1.19 tuff polished_tuff@1.21
+        chiseled_tuff@1.21 tuff_bricks@1.21 chiseled_tuff_bricks@1.21 calcite dripstone_block amethyst_block budding_amethyst
+        moss_block snow_block packed_ice blue_ice tinted_glass sculk@1.19
+        ORE_ore deepslate_ORE_ore nether_gold_ore nether_quartz_ore ancient_debris MINERAL_block raw_RAW_block
+        copper_block waxed_copper_block exposed_copper weathered_copper oxidized_copper waxed_exposed_copper waxed_weathered_copper
+        waxed_oxidized_copper CUT chiseled_copper@1.21 exposed_chiseled_copper@1.21 weathered_chiseled_copper@1.21
+        oxidized_chiseled_copper@1.21 waxed_chiseled_copper@1.21 waxed_exposed_chiseled_copper@1.21 waxed_weathered_chiseled_copper@1.21
+        waxed_oxidized_chiseled_copper@1.21
+        WOOD_planks bamboo_mosaic@1.20 LOG_log LOG_wood stripped_LOG_log stripped_LOG_wood NYLIUM_stem NYLIUM_hyphae stripped_NYLIUM_stem
+        stripped_NYLIUM_hyphae bamboo_block@1.20 stripped_bamboo_block@1.20 bookshelf chiseled_bookshelf@1.20
+        COLOR_wool COLOR_terracotta terracotta COLOR_glazed_terracotta COLOR_concrete COLOR_concrete_powder
+        netherrack soul_sand soul_soil basalt polished_basalt smooth_basalt blackstone gilded_blackstone polished_blackstone
+        chiseled_polished_blackstone polished_blackstone_bricks cracked_polished_blackstone_bricks NYLIUM_nylium nether_wart_block
+        warped_wart_block nether_bricks cracked_nether_bricks chiseled_nether_bricks red_nether_bricks quartz_block
+        chiseled_quartz_block quartz_pillar quartz_bricks smooth_quartz bone_block lodestone
+        end_stone end_stone_bricks purpur_block purpur_pillar prismarine prismarine_bricks dark_prismarine sponge wet_sponge
+        CORAL_coral_block dead_CORAL_coral_block dried_kelp_block pumpkin carved_pumpkin melon hay_block honeycomb_block bee_nest
+        beehive brown_mushroom_block red_mushroom_block mushroom_stem
+        crafting_table smithing_table fletching_table cartography_table loom barrel jukebox note_block tnt target dispenser dropper
+        observer crafter@1.21 command_block chain_command_block repeating_command_block structure_block jigsaw"""),
 ]
 
 # States that stop all light, where the others of their blocks do not.
@@ -230,18 +264,13 @@ def line(name, kind, row):
     return "  {%s},\n" % ", ".join(parts)
 
 
-def says_something(kind, row):
-    """Whether a block's last row says other than that its states are shut, a floor, opaque and dark."""
-    return row.properties or (kind.open, kind.floor, row.opacity, row.emission) != (False, True, 15, 0)
-
-
 def table(version):
     kinds = by_name([(text, kind) for kind, text in KINDS], version)
     opaque, lights = by_name(OPAQUE, version), by_name(LIGHTS, version)
     if version == ORDER[-1] and not kinds.keys() >= {*opaque, *lights}:
         sys.exit("without a kind: %s" % ", ".join(sorted({*opaque, *lights} - kinds.keys())))
     lines = [line(name, kind, row) for name, kind in sorted(kinds.items())
-             for row in rows(kind, opaque.get(name), lights.get(name, 0)) if says_something(kind, row)]
+             for row in rows(kind, opaque.get(name), lights.get(name, 0))]
     end = LEFT_OUT + (LIKE_WATER if "copper_grate" in kinds else "")
     return HEAD % VERSIONS[version] + "".join(lines) + "]\n" + end
 

@@ -44,7 +44,8 @@ def copy_region(source, target, name, made):
 
 def main():
     words = dict(zip(sys.argv[2::2], sys.argv[3::2]))
-    names = os.listdir(words["--in"])
+    # A call whose folders are one only tries the program.
+    names = [] if words["--in"] == words["--out"] else os.listdir(words["--in"])
     what, _, path = os.environ.get("STAND_IN", "count").partition(" ")
     if names and what == "refuse":
         sys.stderr.write("fault 99: StandIn\n")

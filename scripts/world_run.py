@@ -285,10 +285,11 @@ class Call:
         return stored
 
     def program(self, work):
-        """The program with its table and edits, which are copied, since a pipe can be read once. It is run over no files, so that it
-        is built, and tells of a table that it refuses, before the work."""
+        """The program with its table and edits, which are copied, since a pipe can be read once. It is run over a file without chunks, so
+        that it is built, and tells of a table that it refuses, before the work."""
         nothing = os.path.join(work, "nothing")
         os.mkdir(nothing)
+        open(os.path.join(nothing, "r.0.0.mca"), "xb").close()
         program = Program(self.words, work)
         program.run(nothing, nothing, os.devnull, 0)
         return program

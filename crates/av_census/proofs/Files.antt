@@ -18,7 +18,7 @@ use Rattle.av_state.specs.declared.state.State.{State}
 use Rattle.av_ticks.specs.Order.{inserted, ordered}
 use Rattle.std.specs.declared.cmp.Ordering.{Ordering}
 use Rattle.std.specs.Ordering.{is_lt}
-use Rattle.av_sink.specs.declared.files.RegionFile.{RegionFile}
+use Rattle.av_region_files.specs.declared.files.RegionFile.{RegionFile}
 use Rattle.av_census.specs.Census.{state_order, times, HasBlocksAt, HasBlocksUpTo, HasBlocks, short, whole, HaveBlocks}
 use Rattle.av_census.specs.Counting.{weighed, tallied, Tallies, HasRoom, IsCountOf, AreFew, IsAdded, IsCountedAt, TalliesAt, TalliesUpTo, TalliesFile, TalliesFiles}
 use Rattle.av_census.specs.declared.places.Counted.{Counted}

@@ -8,7 +8,7 @@ ghost use Rattle.av_census.specs.Census.{IsCensus};
 use crate::counts::Census;
 use crate::regions::tally_files;
 use crate::tally::{listed, sorted};
-use av_sink::RegionFile;
+use av_region_files::RegionFile;
 use av_survey::listing::judged;
 use av_types::{Fault, Height};
 use std::alloc::Global;

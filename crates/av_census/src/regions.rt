@@ -8,7 +8,7 @@ ghost use Rattle.av_census.specs.Counting.{AreFew, HasRoom, IsAdded, IsCountOf, 
 use crate::places::{Counted, counted_at};
 use crate::tally::{Tally, add_all};
 use av_region::Region;
-use av_sink::RegionFile;
+use av_region_files::RegionFile;
 use av_types::{Height, RegionPos};
 use std::alloc::{AllocError, Global};
 use std::collections::BTreeMap;

@@ -2,8 +2,8 @@
 use crate::chunks::{EAST, FULL, UNFINISHED, region};
 use crate::expecting::expect_equal;
 use av_census::{Census, census, listing};
+use av_region_files::RegionFile;
 use av_rules::Rules;
-use av_sink::RegionFile;
 use av_types::{Fault, Height, RegionPos};
 use std::alloc::Global;
 use std::process::Abort;

@@ -7,10 +7,10 @@ use Rattle.av_types.specs.Faults.{fault_text}
 use Rattle.av_types.specs.declared.fault.Fault.{Fault}
 use Rattle.av_types.specs.declared.place.ChunkPos.{ChunkPos}
 use Rattle.av_types.specs.declared.place.RegionPos.{RegionPos}
-use Rattle.av_sink.specs.Names.{region_name_of}
+use Rattle.av_region_files.specs.Names.{region_name_of}
 use Rattle.av_survey.specs.declared.finding.Finding.{Finding}
 use Rattle.av_commands.specs.CheckCommand.{chunk_text, finding_lines, finding_text, written_at}
-use Rattle.av_commands.specs.Output.{line}
+use Rattle.av_commands.specs.Output.{line, lines_of}
 
 pub appends_none : (a : Option (List ℕ)) → Appends a a []
 appends_none None = tt
@@ -22,24 +22,28 @@ appends_more (Some xs) None c x y p q = absurd p
 appends_more (Some xs) (Some ys) None x y p q = absurd q
 appends_more (Some xs) (Some ys) (Some zs) x y p q = q ∙ (ap (λ (l : List ℕ). l ++ y) p ∙ append_assoc xs x y)
 
-lines_append : (fs gs : List Finding) → finding_lines (fs ++ gs) ≡ finding_lines fs ++ finding_lines gs
-lines_append [] gs = search rules
-lines_append (f ∷ fs) gs =
-    ap (λ (l : List ℕ). line (finding_text f) ++ l) (lines_append fs gs)
-    ∙ sym (append_assoc (line (finding_text f)) (finding_lines fs) (finding_lines gs))
+lines_append : (X : Type 0) (text : X → List ℕ) (xs ys : List X) → lines_of text (xs ++ ys) ≡ lines_of text xs ++ lines_of text ys
+lines_append X text [] ys = search rules
+lines_append X text (x ∷ xs) ys =
+    ap (λ (l : List ℕ). line (text x) ++ l) (lines_append X text xs ys)
+    ∙ sym (append_assoc (line (text x)) (lines_of text xs) (lines_of text ys))
+
+-- one line more
+pub lines_next : (X : Type 0) (text : X → List ℕ) (xs : List X) (x : X) → lines_of text (xs ++ x ∷ []) ≡ lines_of text xs ++ line (text x)
+lines_next X text xs x =
+    lines_append X text xs (x ∷ []) ∙ ap (λ (l : List ℕ). lines_of text xs ++ l) (append-nil (line (text x)))
 
 written_is : (r : RegionPos) (chunk : Option ChunkPos) (e : Fault)
     → written_at r chunk (fault_text e) ≡ line (region_name_of r ++ (codes " " ++ (chunk_text chunk ++ fault_text e)))
 written_is r None e = simp append_assoc
 written_is r (Some c) e = simp append_assoc
 
--- one line more
-pub lines_more : (found : List Finding) (i : ℕ) (f : Finding) → i < length found → f ≡ get_or found i f
+-- one finding's line more
+pub findings_more : (found : List Finding) (i : ℕ) (f : Finding) → i < length found → f ≡ get_or found i f
     → finding_lines (take (i + 1) found) ≡ finding_lines (take i found) ++ written_at f.region f.chunk (fault_text f.fault)
-lines_more found i f lt is =
+findings_more found i f lt is =
     ap (λ (n : ℕ). finding_lines (take n found)) (add-one i)
     ∙ (ap finding_lines (take-suc found i f lt)
-    ∙ (lines_append (take i found) (get_or found i f ∷ [])
+    ∙ (lines_next Finding finding_text (take i found) (get_or found i f)
     ∙ ap (λ (l : List ℕ). finding_lines (take i found) ++ l)
-    (append-nil (line (finding_text (get_or found i f)))
-    ∙ (ap (λ (g : Finding). line (finding_text g)) (sym is) ∙ sym (written_is f.region f.chunk f.fault)))))
+    (ap (λ (g : Finding). line (finding_text g)) (sym is) ∙ sym (written_is f.region f.chunk f.fault))))

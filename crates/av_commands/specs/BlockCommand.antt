@@ -10,7 +10,7 @@ use Rattle.av_state.specs.BlockState.{BlockState}
 use Rattle.av_chunk.specs.Block.{IsFound, IsBlockRefused}
 use Rattle.av_commands.specs.declared.block.refusal.Refusal.{Refusal}
 use Rattle.av_commands.specs.declared.block.refusal.Refusal.TheVariants as refusal
-use Rattle.av_sink.specs.Names.{region_name_of}
+use Rattle.av_region_files.specs.Names.{region_name_of}
 use Rattle.av_commands.specs.Names.{FitsRegion, IsFileNameOf}
 use Rattle.av_commands.specs.Output.{HasBegun, answer_line}
 

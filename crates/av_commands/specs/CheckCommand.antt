@@ -1,13 +1,16 @@
 -- What `check` prints.
-use Rattle.std.specs.Prelude.{◌≡◌, ◌≢◌, ℕ, List, [], ◌∷◌, ◌++◌, Option, Some, None, codes, cond}
+use Rattle.std.specs.Prelude.{◌≡◌, ◌≢◌, ℕ, Bool, List, [], ◌∷◌, ◌++◌, Option, Some, None, codes, cond}
 use Rattle.std.specs.List.{list_any}
 use Rattle.std.specs.Fmt.{signed_decimal}
 use Rattle.av_types.specs.Faults.{fault_text}
+use Rattle.av_types.specs.declared.fault.Fault.TheVariants.{Device}
 use Rattle.av_types.specs.declared.place.ChunkPos.{ChunkPos}
 use Rattle.av_types.specs.declared.place.RegionPos.{RegionPos}
-use Rattle.av_sink.specs.Names.{region_name_of}
+use Rattle.av_region_files.specs.Names.{region_name_of}
 use Rattle.av_survey.specs.declared.finding.Finding.{Finding}
-use Rattle.av_commands.specs.Output.{is_compression, line, packed_advice}
+use Rattle.av_commands.specs.declared.failure.UnreadFile.{UnreadFile}
+use Rattle.av_commands.specs.Output.{is_compression, lines_of, packed_advice}
+use Rattle.av_commands.specs.Reasons.{TellsFailure}
 
 -- `CX CZ `, the chunk's coordinates in the world, or nothing where a whole file is meant
 abbrev pub chunk_text : Option ChunkPos → List ℕ
@@ -20,8 +23,12 @@ finding_text f = region_name_of f.region ++ (codes " " ++ (chunk_text f.chunk ++
 
 -- a line for each finding, in their order
 abbrev pub finding_lines : List Finding → List ℕ
-finding_lines [] = []
-finding_lines (f ∷ fs) = line (finding_text f) ++ finding_lines fs
+finding_lines found = lines_of finding_text found
+
+-- each file that could not be read, one after the other
+abbrev pub TellsUnread : Bool → List UnreadFile → Option (List ℕ) → Option (List ℕ) → Type 0
+TellsUnread explains [] before after = after ≡ before
+TellsUnread explains (u ∷ us) before after = (next : Option (List ℕ)) × TellsFailure explains (Device u.name) before next × TellsUnread explains us next after
 
 -- how to go on, where a chunk has another compression: once, for all of them
 abbrev pub advice_on : List Finding → List ℕ

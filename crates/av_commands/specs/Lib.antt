@@ -1,5 +1,6 @@
 pub mod Names
 pub mod Output
+pub mod Reasons
 pub mod BlockCommand
 pub mod CheckCommand
 pub mod Tables

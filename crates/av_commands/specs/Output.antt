@@ -11,6 +11,11 @@ use Rattle.av_state.specs.Words.{state_text}
 abbrev pub line : List ℕ → List ℕ
 line text = text ++ 10 ∷ []
 
+-- a line for each of a list, in its order
+abbrev pub lines_of : {X : Type 0} → (X → List ℕ) → List X → List ℕ
+lines_of text [] = []
+lines_of text (x ∷ xs) = line (text x) ++ lines_of text xs
+
 -- the line for a block, or for one that is not loaded
 abbrev pub answer_line : Option BlockState → List ℕ
 answer_line None = line (codes "unloaded")

@@ -5,7 +5,7 @@ ghost use Rattle.av_types.specs.Places.{IsInLimits};
 ghost use Rattle.av_commands.specs.BlockCommand.{HasAnswered, IsBlockLine, IsBlockRefusal, IsPathOf, IsPathRefused, status_of};
 
 use crate::names::{file_name, region_of_name};
-use crate::output::{FAULT, REFUSED, block_line, report_fault, write_first};
+use crate::output::{REFUSED, block_line, report_fault, report_output, write_first};
 use av_chunk::block_at;
 use av_types::{Fault, Height, Pos, RegionPos};
 use std::alloc::Global;
@@ -60,6 +60,18 @@ fn explain<E: Write>(err: &mut E, refusal: &Refusal) -> u8
     }
 }
 
+/// Says which file has a position, where that is another than the one of this path, as well as that can be written.
+pub fn note_other_file<E: Write>(alloc: Global, path: &str, pos: Pos, err: &mut E) {
+    let Ok(Some(region)) = region_of_name(alloc, file_name(path)) else {
+        return;
+    };
+    let there = pos.chunk().region();
+    if region != there {
+        let RegionPos { x, z } = there;
+        let _ = writeln!(err, "  that position is in r.{x}.{z}.mca");
+    }
+}
+
 /// Writes the line for the block at a position of a region file, whose place is taken from what follows the last `/` of
 /// its path, or why there is none. The answer is the program's status: 0; 1 after a fault, and where the line could not
 /// be written, or only its beginning; 2 where the file's name is not that of a region.
@@ -77,7 +89,7 @@ pub fn block_text<O: Write, E: Write>(
     match answer(alloc, path, bytes, pos, height) {
         Ok(line) => match write_first(out, line.as_slice()) {
             Ok(()) => 0,
-            Err(_) => FAULT,
+            Err(error) => report_output(err, &error),
         },
         Err(refusal) => explain(err, &refusal),
     }

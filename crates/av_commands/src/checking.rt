@@ -2,11 +2,14 @@
 ghost use Rattle.std.specs.Prelude.{◌≡◌, MatchResult, OnOk};
 ghost use Rattle.std.specs.Io.KnownBytes.{Appends};
 ghost use Rattle.av_types.specs.Faults.{fault_text};
-ghost use Rattle.av_commands.specs.CheckCommand.{HasFindings, advice_on, finding_lines, written_at};
+ghost use Rattle.av_commands.specs.CheckCommand.{HasFindings, TellsUnread, advice_on, finding_lines, written_at};
 
-use crate::output::{FAULT, is_compression, report_fault, write_packed_advice};
+use crate::failure::{Failure, UnreadFile};
+use crate::output::{FAULT, is_compression, report_fault, report_output, write_packed_advice};
+use crate::reasons::write_failure;
 use av_survey::Finding;
 use av_types::{ChunkPos, Fault, RegionPos};
+use std::alloc::Global;
 use std::io::{self, Write};
 
 /// Writes the line for a finding.
@@ -48,6 +51,22 @@ pub fn write_advice<E: Write>(err: &mut E, found: &[Finding]) -> io::Result<()>
     Ok(())
 }
 
+/// Writes each file that could not be read as a failure, in their order.
+pub fn write_unread<E: Write>(
+    alloc: Global,
+    err: &mut E,
+    unread: Vec<UnreadFile>,
+    explains: bool,
+) -> io::Result<()>
+    ensures { OnOk result (TellsUnread explains unread.items (E.contents err.old) (E.contents err.new)) }
+{
+    for file in unread {
+        let failure = Failure::from(file);
+        write_failure(alloc, err, &failure, explains)?;
+    }
+    Ok(())
+}
+
 /// Lists findings on the program's output, and answers its status.
 fn list<O: Write, E: Write>(found: &[Finding], out: &mut O, err: &mut E) -> u8
     ensures { HasFindings found.now (O.contents out.old) (O.contents out.new) result }
@@ -55,13 +74,17 @@ fn list<O: Write, E: Write>(found: &[Finding], out: &mut O, err: &mut E) -> u8
     if found.is_empty() {
         return 0;
     }
-    let _ = write_findings(out, found);
+    if let Err(error) = write_findings(out, found) {
+        return report_output(err, &error);
+    }
     let _ = write_advice(err, found);
     FAULT
 }
 
 /// Lists what was found wrong with region files, a line for each finding, or writes the fault for which nothing was looked
-/// for. Where a finding is of a chunk of another compression, how to go on is said once on standard error. The answer is the program's status: 0 where nothing was found; 1 where something was, and after a fault.
+/// for. Where a finding is of a chunk of another compression, how to go on is said once on standard error, and so is why the
+/// lines could not be written. The answer is the program's status: 0 where nothing was found; 1 where something was, and after a
+/// fault.
 pub fn findings<O: Write, E: Write>(
     surveyed: &Result<Vec<Finding>, Fault>,
     out: &mut O,

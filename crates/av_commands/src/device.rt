@@ -3,6 +3,7 @@ ghost use Rattle.std.specs.Prelude.{◌≡◌, ◌⊎◌, IfErr};
 ghost use Rattle.av_types.specs.declared.fault.Fault.TheVariants.{OutOfMemory};
 ghost use Rattle.av_sink.specs.Account.{IsDevice};
 
+use crate::failure::Failure;
 use av_types::Fault;
 use std::alloc::Global;
 use std::rt::Files;
@@ -22,11 +23,11 @@ pub fn device_fault(alloc: Global, error: &io::Error, name: &str) -> Fault
 }
 
 /// The bytes of a file. A file that can't be read is `Device` with its name as it was given.
-pub fn read_file<R: Files + AllocGlobal>(rt: &R, name: &str) -> Result<Vec<u8>, Fault>
-    ensures { IfErr result (λ e. (e ≡ OutOfMemory) ⊎ IsDevice name.now e) }
+pub fn read_file<R: Files + AllocGlobal>(rt: &R, name: &str) -> Result<Vec<u8>, Failure>
+    ensures { IfErr result (λ e. (e.fault ≡ OutOfMemory) ⊎ IsDevice name.now e.fault) }
 {
     match fs::read(rt, name) {
         Ok(bytes) => Ok(bytes),
-        Err(error) => Err(device_fault(rt.alloc(), &error, name)),
+        Err(error) => Err(Failure::of_device(rt.alloc(), error, name, name)),
     }
 }

@@ -4,6 +4,10 @@
 pub mod block;
 pub mod checking;
 pub mod device;
+pub mod failure;
+pub mod manner;
 pub mod names;
 pub mod output;
+pub mod reasons;
+pub mod table_trouble;
 pub mod tables;

@@ -2,11 +2,11 @@
 ghost use Rattle.std.specs.Prelude.{◌≡◌, ◌++◌, codes, ℕ, List, IfOk, IfSome, IfNone, IsSomeAnd, FitsSigned, Some, ℤ, string_bytes};
 ghost use Rattle.std.specs.Int.{w32};
 ghost use Rattle.std.specs.Fmt.{signed_decimal};
-ghost use Rattle.av_sink.specs.Names.{name_with, region_name_of};
+ghost use Rattle.av_region_files.specs.Names.{name_with, region_name_of};
 ghost use Rattle.av_commands.specs.Names.{FitsRegion, HasNoDot, IsFileIn, IsFileNameOf};
 ghost use Rattle.av_types.specs.declared.place.RegionPos.{RegionPos};
 
-use av_sink::region_name;
+use av_region_files::region_name;
 use av_types::RegionPos;
 use std::alloc::{AllocError, Global};
 

@@ -118,6 +118,14 @@ pub fn write_left_out<E: Write>(err: &mut E, left_out: u64) -> io::Result<()>
     )
 }
 
+/// Says that standard output failed, with the system's words, as well as that can be written, and answers the status.
+pub fn report_output<E: Write>(err: &mut E, error: &io::Error) -> u8
+    ensures { result ≡ FAULT }
+{
+    let _ = writeln!(err, "standard output: {error}");
+    FAULT
+}
+
 /// Writes a fault, as well as that can be written, and answers the status.
 pub fn report_fault<E: Write>(err: &mut E, fault: &Fault) -> u8
     ensures { result ≡ FAULT }

@@ -4,23 +4,27 @@ ghost use Rattle.av_rules.specs.Tables.{table_of};
 ghost use Rattle.av_commands.specs.Tables.{IsHeightBy, IsTableBy, IsUnreadTable, IsWorldHeight};
 
 use crate::device::read_file;
+use crate::failure::Failure;
 use av_rules::Rules;
-use av_types::{Fault, Height};
+use av_types::Height;
 use std::rt::Files;
 
 /// The block table, where one is named.
 pub fn read_rules<R: Files + AllocGlobal>(
     rt: &R,
     table: Option<&str>,
-) -> Result<Option<Rules>, Fault>
+) -> Result<Option<Rules>, Failure>
     ensures table { IfOk result (λ rules. IsTableBy (option_map (λ t. t.now) table.entry) (option_map table_of rules)) }
-    ensures unread { IfErr result (IsUnreadTable (option_map (λ t. t.now) table.entry)) }
+    ensures unread { IfErr result (λ e. IsUnreadTable (option_map (λ t. t.now) table.entry) e.fault) }
 {
     let Some(name) = table else {
         return Ok(None);
     };
     let text = read_file(rt, name)?;
-    Ok(Some(Rules::read(rt.alloc(), text.as_slice())?))
+    match Rules::read(rt.alloc(), text.as_slice()) {
+        Ok(rules) => Ok(Some(rules)),
+        Err(fault) => Err(Failure::of_table(rt.alloc(), fault, name, text.as_slice())),
+    }
 }
 
 /// The world's height: that of a block table, or the game's where there is none.
@@ -34,9 +38,9 @@ pub fn world_height(rules: &Option<Rules>) -> Height
 }
 
 /// The world's height, by the block table that is named, or the game's.
-pub fn read_height<R: Files + AllocGlobal>(rt: &R, table: Option<&str>) -> Result<Height, Fault>
+pub fn read_height<R: Files + AllocGlobal>(rt: &R, table: Option<&str>) -> Result<Height, Failure>
     ensures height { IfOk result (IsHeightBy (option_map (λ t. t.now) table.entry)) }
-    ensures unread { IfErr result (IsUnreadTable (option_map (λ t. t.now) table.entry)) }
+    ensures unread { IfErr result (λ e. IsUnreadTable (option_map (λ t. t.now) table.entry) e.fault) }
 {
     let rules = read_rules(rt, table)?;
     Ok(world_height(&rules))

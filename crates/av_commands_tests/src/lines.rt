@@ -1,12 +1,15 @@
 //! Names and lines. What the program answers, `scripts/check_words.sh` asks of the built one.
 use crate::expecting::expect_equal;
 use av_commands::block::block_text;
-use av_commands::checking::findings;
+use av_commands::checking::{findings, write_unread};
+use av_commands::failure::{Failure, Reason, UnreadFile};
 use av_commands::names::{file_name, region_of_name, split_path};
 use av_commands::output::report_fault;
+use av_commands::reasons::report_failure;
 use av_survey::Finding;
 use av_types::{ChunkPos, Fault, Height, Pos, RegionPos};
-use std::io::Cursor;
+use std::alloc::Global;
+use std::io::{Cursor, ErrorKind};
 use std::test::Fail;
 
 /// How files of other compressions are made readable.
@@ -91,6 +94,92 @@ fn a_line_for_each_finding(rt: HostRuntime) -> Result<(), Fail> {
     Ok(())
 }
 
+/// What is written of two files that could not be read.
+fn said_of_unread(alloc: Global, explains: bool) -> Result<Vec<u8>, Fail> {
+    let mut unread = Vec::new(alloc);
+    for (name, path) in [("r.0.0.mca", "w/r.0.0.mca"), ("r.-1.2.mca", "w/r.-1.2.mca")] {
+        unread.push(UnreadFile {
+            name: String::from_str(alloc, name)?,
+            path: String::from_str(alloc, path)?,
+            error: ErrorKind::IsADirectory.into(),
+        })?;
+    }
+    let mut err = Vec::new(alloc);
+    write_unread(alloc, &mut err, unread, explains)?;
+    Ok(err)
+}
+
+#[test]
+fn files_that_are_not_read(rt: HostRuntime) -> Result<(), Fail> {
+    expect_equal(
+        &rt,
+        said_of_unread(rt.alloc(), false)?.as_slice(),
+        b"fault 25: Device r.0.0.mca\nfault 25: Device r.-1.2.mca\n".as_slice(),
+    );
+    expect_equal(
+        &rt,
+        said_of_unread(rt.alloc(), true)?.as_slice(),
+        b"fault 25: Device r.0.0.mca\n  w/r.0.0.mca: is a directory\n  a folder has that name, where a file is wanted\nfault 25: Device r.-1.2.mca\n  w/r.-1.2.mca: is a directory\n  a folder has that name, where a file is wanted\n".as_slice(),
+    );
+    Ok(())
+}
+
+/// What is written of a failure that is explained.
+fn said_of(alloc: Global, fault: Fault, reason: Option<Reason>) -> Vec<u8> {
+    let mut err = Vec::new(alloc);
+    report_failure(alloc, &mut err, &Failure { fault, reason }, true);
+    err
+}
+
+#[test]
+fn counts_tables_and_chunks(rt: HostRuntime) -> Result<(), Fail> {
+    let alloc = rt.alloc();
+    let text = b"version = 2\n[[block]]\nname = \"a:b\"\nopen = true\nfloor = 1\n";
+    let table = Reason::of_table(alloc, "t.toml", text);
+    let chunk = Reason::Chunk {
+        region: RegionPos { x: 1, z: -2 },
+        chunk: Some(ChunkPos { x: 33, z: -40 }),
+    };
+    let cases: [(Fault, Option<Reason>, &[u8]); 4] = [
+        (
+            Fault::BadCount,
+            None,
+            b"fault 23: BadCount\n  there are more region files than 1024: take a part of them at a time\n",
+        ),
+        (
+            Fault::BadCount,
+            Some(Reason::Workers(9)),
+            b"fault 23: BadCount\n  --workers is 9, and 1 to 8 can work\n",
+        ),
+        (
+            Fault::BadTable,
+            table,
+            b"fault 19: BadTable\n  t.toml: row 1, a:b: open and floor have to be true or false\n",
+        ),
+        (
+            Fault::OldLayout,
+            Some(chunk),
+            b"fault 11: OldLayout\n  r.1.-2.mca, chunk 33 -40\n  `anvilwater check --in DIR` lists each file and chunk that has a fault\n",
+        ),
+    ];
+    for (fault, reason, want) in cases {
+        expect_equal(&rt, said_of(alloc, fault, reason).as_slice(), want);
+    }
+    Ok(())
+}
+
+/// The line in which a text stops to be TOML.
+#[test]
+fn a_line_of_a_table(rt: HostRuntime) {
+    let alloc = rt.alloc();
+    let reason = Reason::of_table(alloc, "t.toml", b"version = 2\n\n[[block]\n");
+    let line = match &reason {
+        Some(Reason::Table { trouble, .. }) => trouble.line,
+        _ => None,
+    };
+    expect_equal(&rt, line, Some(3));
+}
+
 /// The fault's own line comes first, and only that of a compressed chunk has another behind it.
 #[test]
 fn lines_of_a_fault(rt: HostRuntime) -> Result<(), Fail> {
@@ -104,7 +193,7 @@ fn lines_of_a_fault(rt: HostRuntime) -> Result<(), Fail> {
     Ok(())
 }
 
-/// Of the line `unloaded` an output with room for 4 bytes has the first 4.
+/// Of the line `unloaded` an output with room for 4 bytes has the first 4, and why it has no more is said.
 #[test]
 fn a_line_that_finds_no_room(rt: HostRuntime) {
     let alloc = rt.alloc();
@@ -123,5 +212,9 @@ fn a_line_that_finds_no_room(rt: HostRuntime) {
     );
     expect_equal(&rt, status, 1);
     expect_equal(&rt, room.as_slice(), b"unlo".as_slice());
-    expect_equal(&rt, err.len(), 0);
+    expect_equal(
+        &rt,
+        err.as_slice(),
+        b"standard output: write zero\n".as_slice(),
+    );
 }

@@ -3,7 +3,8 @@ ghost use Rattle.std.specs.Prelude.{◌≡◌, [], ◌∷◌, ◌++◌, OnOk, On
 ghost use Rattle.av_sink.specs.Account.{Account, file_named};
 
 use crate::expecting::expect_equal;
-use av_sink::{RegionFile, Sink, SinkFailed, region_name, save_all};
+use av_region_files::{RegionFile, region_name};
+use av_sink::{Sink, SinkFailed, save_all};
 use av_types::RegionPos;
 use std::alloc::{AllocError, Global};
 use std::process::Abort;

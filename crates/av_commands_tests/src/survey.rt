@@ -1,7 +1,7 @@
 //! What is found wrong with small region files.
 use crate::chunks::{Layer, add_chunk};
 use crate::expecting::expect_equal;
-use av_sink::RegionFile;
+use av_region_files::RegionFile;
 use av_survey::survey;
 use av_types::{ChunkPos, Fault, Height, RegionPos};
 use std::alloc::{AllocError, Global};

@@ -10,7 +10,12 @@ use std::test::Fail;
 /// The values of `block`.
 fn block_of<'a>(command: Words<'a>) -> Option<(&'a str, Pos, Option<&'a str>)> {
     match command {
-        Words::Block { file, pos, table } => Some((file, pos, table)),
+        Words::Block {
+            file,
+            pos,
+            table,
+            ..
+        } => Some((file, pos, table)),
         _ => None,
     }
 }
@@ -48,6 +53,7 @@ fn check_of<'a>(command: Words<'a>) -> Option<(&'a str, Option<&'a str>, bool)> 
             input,
             table,
             progress,
+            ..
         } => Some((input, table, progress)),
         _ => None,
     }
@@ -123,6 +129,7 @@ fn map_of<'a>(command: Words<'a>) -> Option<Drawn<'a>> {
             table,
             colours,
             light,
+            ..
         } => Some(Drawn {
             input,
             picture,
@@ -162,7 +169,7 @@ fn words_of_map(rt: HostRuntime) -> Result<(), Fail> {
 /// The values of `states`.
 fn states_of<'a>(command: Words<'a>) -> Option<(&'a str, Option<&'a str>)> {
     match command {
-        Words::States { input, table } => Some((input, table)),
+        Words::States { input, table, .. } => Some((input, table)),
         _ => None,
     }
 }
@@ -178,6 +185,41 @@ fn words_of_states(rt: HostRuntime) -> Result<(), Fail> {
     let (_, table) = states_of(words(alloc, all.as_slice())?).ok_or("another command")?;
     expect_equal(&rt, table, Some("t.toml"));
     Ok(())
+}
+
+/// Whether words ask how far the command is, and why it failed.
+fn asked<'a>(alloc: Global, given: &'a [&'a str]) -> Option<(bool, bool)> {
+    let command = words(alloc, given).ok()?;
+    Some((command.wants_progress(), command.wants_reasons()))
+}
+
+#[test]
+fn words_that_ask_for_more(rt: HostRuntime) {
+    let cases: [(&[&str], (bool, bool)); 7] = [
+        (&["block", "--explain", "f", "1", "2", "3"], (false, true)),
+        (&["block", "f", "1", "2", "3"], (false, false)),
+        (&["check", "--in=a", "--progress"], (true, false)),
+        (&["check", "--in=a", "--explain"], (false, true)),
+        (&["map", "--in=a", "--out=b", "--explain"], (false, true)),
+        (
+            &[
+                "run",
+                "--in=a",
+                "--out=b",
+                "--table=t",
+                "--edits=e",
+                "--ticks=1",
+                "--workers=1",
+                "--progress",
+                "--explain",
+            ],
+            (true, true),
+        ),
+        (&["states", "--in=a", "--explain"], (false, true)),
+    ];
+    for (given, want) in cases {
+        expect_equal(&rt, asked(rt.alloc(), given), Some(want));
+    }
 }
 
 /// Why words are refused.

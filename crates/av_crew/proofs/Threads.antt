@@ -1,5 +1,5 @@
 -- What workers in threads give back.
-use Rattle.std.proofs.Common.{◌≡◌, ℕ, suc, List, [], ◌∷◌, ◌++◌, length, map, false, refl, sym, ap, ◌∙◌, subst, All, append-nil, arith}
+use Rattle.std.proofs.Common.{◌≡◌, ◌<◌, ℕ, suc, List, [], ◌∷◌, ◌++◌, length, map, false, refl, sym, ap, ◌∙◌, subst, All, append-nil, arith}
 use Rattle.std.specs.List.{AllZip, AllByRecursion, flat_map}
 use Rattle.std.specs.List.Sorted.{IsPermutation}
 use Rattle.std.proofs.lemmas.List.Elements.{recursion_from_All, All-from_recursion}
@@ -73,6 +73,11 @@ answers_all k now jobs ss ps left z p e =
       permuted = subst (IsPermutation jobs) (ap (λ l. flat_map (λ s. s.taken) (map first ps) ++ l) e ∙ append-nil (flat_map (λ s. s.taken) (map first ps))) p;
       answered = all_answered k now ss ps z;
     }
+
+-- what holds of what each seat was told holds of the jobs, where each was told these
+pub whole_of_each : (jobs taken : List Job) (ss : List (SeatShown Job)) → 0 < length ss → All (λ s. s.jobs ≡ jobs) ss → All (λ s. IsPermutation s.jobs taken) ss → IsPermutation jobs taken
+whole_of_each jobs taken [] some told whole = absurd (omega (arith, some))
+whole_of_each jobs taken (s ∷ ss) some told whole = subst (λ (l : List Job). IsPermutation l taken) (told 0 s (omega arith)) (whole 0 s (omega arith))
 
 pub no_element : {X : Type 0} (xs : List X) → length xs ≡ 0 → xs ≡ []
 no_element [] e = refl

@@ -29,7 +29,7 @@ use Rattle.av_document.proofs.Ints.{ints_read, less_nothing}
 use Rattle.av_land.specs.Land.{Land, has_chunk, is_loaded}
 use Rattle.av_land.specs.Good.{Good, IsEntryOf, IsTimely}
 use Rattle.av_files.specs.Files.{File, in_order}
-use Rattle.av_sink.specs.Regions.{region_order, same_region}
+use Rattle.av_region_files.specs.Regions.{region_order, same_region}
 use Rattle.av_files.specs.Denotes.{Rest, IsSlot, absent, kept, full, DenotesFile, Denotes}
 use Rattle.av_files.specs.Lawful.{IsLawfulLand, AreStorable}
 use Rattle.av_files.specs.Run.{stated}

@@ -16,7 +16,7 @@ use Rattle.av_rules.specs.Rows.{BlockTable}
 use Rattle.av_land.specs.Land.{Land, has_chunk}
 use Rattle.av_document.specs.Law.{sooner}
 use Rattle.av_files.specs.Files.{in_order, regions_rise, chunks_rise}
-use Rattle.av_sink.specs.Regions.{region_order}
+use Rattle.av_region_files.specs.Regions.{region_order}
 use Rattle.av_files.specs.Denotes.{Rest, DenotesFile, Denotes}
 use Rattle.av_files.specs.Layout.{Lights, sources_of, payload_of, indices, payloads, stamps, file_layout, layout, first_or, too_large_in}
 use Rattle.av_files.specs.Lawful.{IsLawfulLand, AreLights}

@@ -23,7 +23,7 @@ use Rattle.av_document.specs.Law.{IsSameChunk}
 use Rattle.av_document.specs.Layout.{chunk_layout, section_at, section_layout, section_numbers, all_of, compounds, entry_layout, fluid_name, block_at}
 use Rattle.av_land.specs.Land.{Land, has_chunk}
 use Rattle.av_land.specs.Resumed.{sooner, shifted, early, late}
-use Rattle.av_sink.specs.Regions.{same_region}
+use Rattle.av_region_files.specs.Regions.{same_region}
 use Rattle.av_files.specs.Denotes.{Rest}
 use Rattle.av_files.specs.Layout.{Lights, sources_of, chunk_bytes, payload_of, file_layout, layout}
 use Rattle.av_files.specs.Light.{IsLit}

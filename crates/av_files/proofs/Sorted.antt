@@ -11,7 +11,7 @@ use Rattle.std.proofs.lemmas.Bool.{and_parts, false≢true}
 use Rattle.av_types.specs.declared.place.RegionPos.{RegionPos}
 use Rattle.av_ticks.specs.Order.{inserted, ordered}
 use Rattle.av_files.specs.Files.{File, in_order, region_after, regions_rise}
-use Rattle.av_sink.specs.Regions.{region_order}
+use Rattle.av_region_files.specs.Regions.{region_order}
 
 -- two orders of two pairs of numbers, turned round
 flipped : (a b c d : Ordering) (x y z w : ℤ) → MatchOrdering a (x <ℤ y) (x ≡ y) (y <ℤ x) → MatchOrdering b (y <ℤ x) (y ≡ x) (x <ℤ y)

@@ -21,7 +21,7 @@ use Rattle.av_document.specs.Chunk.{DenotesChunk, root_tags, is_full}
 use Rattle.av_document.specs.Law.{IsSameChunk}
 use Rattle.av_land.specs.Land.{Land, has_chunk, is_loaded}
 use Rattle.av_files.specs.Files.{File, in_order}
-use Rattle.av_sink.specs.Regions.{region_order, same_region}
+use Rattle.av_region_files.specs.Regions.{region_order, same_region}
 use Rattle.av_files.specs.Denotes.{Rest, IsSlot, absent, kept, full, DenotesFile, Denotes}
 use Rattle.av_files.specs.Laws.{DenoteOne}
 use Rattle.av_files.proofs.Sorted.{all_ordered}

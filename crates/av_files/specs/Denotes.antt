@@ -14,7 +14,7 @@ use Rattle.av_state.specs.BlockState.{BlockState, air}
 use Rattle.av_document.specs.Chunk.{RestOfChunk, DenotesChunk, root_tags, is_full, faults}
 use Rattle.av_land.specs.Land.{Land, has_chunk, is_loaded}
 use Rattle.av_files.specs.Files.{File, in_order, chunks_rise, regions_rise}
-use Rattle.av_sink.specs.Regions.{same_region}
+use Rattle.av_region_files.specs.Regions.{same_region}
 
 -- all that files have beside the blocks, the water entries and the light of loaded chunks
 pub record Rest : Type 0 where

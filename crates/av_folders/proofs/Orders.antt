@@ -1,5 +1,5 @@
 -- Region files in the order of their names.
-use Rattle.std.proofs.Common.{◌≡◌, ◌∙◌, ap₂, sym, List, [], ◌∷◌, All, map, string_bytes}
+use Rattle.std.proofs.Common.{◌≡◌, ◌∙◌, ap₂, sym, List, [], ◌∷◌, map}
 use Rattle.std.specs.List.{AllByRecursion}
 use Rattle.std.specs.List.Sorted.{IsStrictlySortedBy}
 use Rattle.std.specs.Ordering.{nat_cmp}
@@ -7,7 +7,7 @@ use Rattle.std.specs.Cmp.Lexicographic.{slice_cmp}
 use Rattle.std.specs.declared.cmp.Ordering.TheVariants.{Less}
 use Rattle.std.specs.Prelude.{string_cmp}
 use Rattle.av_types.specs.declared.place.RegionPos.{RegionPos}
-use Rattle.av_sink.specs.Names.{region_name_of}
+use Rattle.av_region_files.specs.Names.{region_name_of}
 use Rattle.av_folders.specs.declared.reading.Listed.{Listed}
 use Rattle.av_folders.specs.Folders.{AreInNameOrder, IsListed}
 

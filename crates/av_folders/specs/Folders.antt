@@ -1,5 +1,5 @@
 -- Folders of region files: which are read, and what is known of one that files are written to.
-use Rattle.std.specs.Prelude.{◌≡◌, ℕ, List, Option, None, string_bytes}
+use Rattle.std.specs.Prelude.{◌≡◌, ◌⊎◌, ℕ, List, [], ◌∷◌, Option, None, map, string_bytes}
 use Rattle.std.specs.List.Sorted.{IsStrictlySortedBy}
 use Rattle.std.specs.Ordering.{nat_cmp}
 use Rattle.std.specs.Cmp.Lexicographic.{slice_cmp}
@@ -7,8 +7,13 @@ use Rattle.av_types.specs.declared.place.RegionPos.{RegionPos}
 use Rattle.av_types.specs.declared.fault.Fault.{Fault}
 use Rattle.av_types.specs.declared.fault.Fault.TheVariants.{OutOfMemory}
 use Rattle.av_sink.specs.Account.{Account, IsDevice}
-use Rattle.av_sink.specs.Names.{region_name_of}
+use Rattle.av_region_files.specs.Names.{region_name_of}
+use Rattle.av_folders.specs.declared.reading.FolderFiles.{FolderFiles}
 use Rattle.av_folders.specs.declared.reading.Listed.{Listed}
+
+-- why a folder itself is refused: it can't be listed, or written to
+abbrev pub IsFolderFault : List ℕ → Fault → Type 0
+IsFolderFault folder e = (e ≡ OutOfMemory) ⊎ IsDevice folder e
 
 -- why a folder was not read: it can't be listed, or one of its region files can't be read, whose name is said without the
 -- folder's
@@ -24,6 +29,22 @@ folder_account folder failures handed = record { folder = folder; failures = fai
 -- region files as they are read: in the byte order of their names, each name once
 abbrev pub AreInNameOrder : List RegionPos → Type 0
 AreInNameOrder regions = IsStrictlySortedBy (λ a b. slice_cmp nat_cmp (region_name_of a) (region_name_of b)) regions
+
+-- names, each of which is the next of one of two lists
+pub data AreSharedOut : List (List ℕ) → List (List ℕ) → List (List ℕ) → Type 0 where
+  none : AreSharedOut [] [] []
+  first : (name : List ℕ) (all left right : List (List ℕ)) → AreSharedOut all left right → AreSharedOut (name ∷ all) (name ∷ left) right
+  second : (name : List ℕ) (all left right : List (List ℕ)) → AreSharedOut all left right → AreSharedOut (name ∷ all) left (name ∷ right)
+
+-- what was read are the files of some of these regions, and the names of the others' are said, both in the order of the regions
+abbrev pub AreRead : List RegionPos → FolderFiles → Type 0
+AreRead regions read = AreSharedOut (map region_name_of regions) (map (λ f. region_name_of f.pos) read.files.items) (map (λ u. string_bytes u.name) read.unread.items)
+
+-- each region file of a folder was read or is named, in the byte order of their names, each name once
+pub record IsFolderRead (read : FolderFiles) : Type 0 where
+  pub listed : List RegionPos
+  pub order : AreInNameOrder listed
+  pub all : AreRead listed read
 
 -- ---- working definition
 

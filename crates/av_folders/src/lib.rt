@@ -1,9 +1,12 @@
 //! Folders: region files that are read from one, and files that are written to one.
 #![tactic(auto)]
 
+pub mod bare;
 pub mod folder_sink;
 pub mod progress;
 pub mod reading;
+pub mod trying;
 
 pub use folder_sink::FolderSink;
-pub use reading::read_folder;
+pub use reading::{FolderFiles, read_folder, read_readable};
+pub use trying::try_folder;

@@ -1,16 +1,40 @@
 //! How far long work is.
+use av_commands::manner::Progress;
 use std::io::Write;
 
-/// Says how many of some files were read, where that is wanted, as well as it can be written.
-pub fn note_read<E: Write>(err: &mut E, wanted: bool, done: usize, all: usize) {
-    if wanted {
-        let _ = writeln!(err, "{done} of {all} files read");
-    }
+/// What takes a terminal's line away: the carriage's return, and what a terminal clears to the line's end.
+const CLEAR: &str = "\r\x1b[K";
+
+/// Says which step comes next, as well as it can be written.
+pub fn note_step<E: Write>(err: &mut E, progress: Progress, step: &str) {
+    let _ = match progress {
+        Progress::Silent => Ok(()),
+        Progress::Lines => writeln!(err, "{step}"),
+        Progress::OneLine => write!(err, "{CLEAR}{step}"),
+    };
 }
 
-/// Says which step comes next, where that is wanted, as well as it can be written.
-pub fn note_step<E: Write>(err: &mut E, wanted: bool, step: &str) {
-    if wanted {
-        let _ = writeln!(err, "{step}");
+/// Says how many of some files were read, as well as it can be written.
+pub fn note_read<E: Write>(err: &mut E, progress: Progress, done: usize, all: usize) {
+    let _ = match progress {
+        Progress::Silent => Ok(()),
+        Progress::Lines => writeln!(err, "{done} of {all} files read"),
+        Progress::OneLine => write!(err, "{CLEAR}{done} of {all} files read"),
+    };
+}
+
+/// Says how many files were written, as well as it can be written.
+pub fn note_written<E: Write>(err: &mut E, progress: Progress, files: usize) {
+    let _ = match progress {
+        Progress::Silent => Ok(()),
+        Progress::Lines => writeln!(err, "{files} files written"),
+        Progress::OneLine => write!(err, "{CLEAR}{files} files written"),
+    };
+}
+
+/// Takes the line that steps write anew away, before anything else is written.
+pub fn end_steps<E: Write>(err: &mut E, progress: Progress) {
+    if progress == Progress::OneLine {
+        let _ = write!(err, "{CLEAR}");
     }
 }

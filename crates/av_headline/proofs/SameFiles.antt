@@ -22,7 +22,7 @@ use Rattle.av_document.specs.Chunk.{RestOfChunk}
 use Rattle.av_document.specs.Law.{IsSameChunk}
 use Rattle.av_document.specs.Layout.{chunk_layout, section_at, section_layout, section_numbers, all_of, compounds, entry_layout, block_at}
 use Rattle.av_land.specs.Land.{Land, has_chunk}
-use Rattle.av_sink.specs.Regions.{same_region}
+use Rattle.av_region_files.specs.Regions.{same_region}
 use Rattle.av_files.specs.Denotes.{Rest}
 use Rattle.av_files.specs.Layout.{Lights, sources_of, chunk_bytes, payload_of, payloads, file_layout, layout, first_or, too_large_in, too_large}
 use Rattle.av_files.specs.Laws.{SameRest}

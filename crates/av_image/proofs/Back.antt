@@ -9,7 +9,7 @@ use Rattle.av_types.proofs.Coordinates.{region_back, index_back}
 use Rattle.av_types.proofs.SamePlaces.{same_chunk_is, same_chunk-refl}
 use Rattle.av_chunk.specs.declared.chunk.Chunk.{Chunk}
 use Rattle.av_cells.specs.Positions.{same_chunk}
-use Rattle.av_sink.specs.Regions.{same_region}
+use Rattle.av_region_files.specs.Regions.{same_region}
 use Rattle.av_files.proofs.Coordinates.{same_region_is, same_region-refl}
 use Rattle.av_image.specs.declared.places.Place.{Place}
 use Rattle.av_image.specs.declared.places.Place.TheVariants.{Absent, Kept, Full}

@@ -27,7 +27,7 @@ use Rattle.av_world.specs.declared.worlds.World.{World}
 use Rattle.av_land.specs.Land.{has_chunk, is_loaded}
 use Rattle.av_ticks.specs.Order.{inserted, ordered}
 use Rattle.av_files.specs.Files.{File, in_order, chunks_rise, regions_rise, region_after}
-use Rattle.av_sink.specs.Regions.{region_order, same_region}
+use Rattle.av_region_files.specs.Regions.{region_order, same_region}
 use Rattle.av_files.specs.Run.{stated}
 use Rattle.av_files.specs.Denotes.{IsSlot, DenotesFile, Denotes}
 use Rattle.av_files.proofs.Coordinates.{same_region_is, same_region-refl}

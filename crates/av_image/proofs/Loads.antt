@@ -41,10 +41,10 @@ use Rattle.av_world.specs.Inserted.{IsNewChunk}
 use Rattle.av_world.specs.declared.worlds.World.{World}
 use Rattle.av_ticks.specs.Order.{inserted, ordered}
 use Rattle.av_files.specs.Files.{File, in_order, regions_rise, region_after, share_a_region}
-use Rattle.av_sink.specs.Regions.{region_order, same_region}
+use Rattle.av_region_files.specs.Regions.{region_order, same_region}
 use Rattle.av_files.specs.FirstFault.{AllInLimits}
 use Rattle.av_files.specs.Laws.{StampsFit}
-use Rattle.av_sink.specs.declared.files.RegionFile.{RegionFile}
+use Rattle.av_region_files.specs.declared.files.RegionFile.{RegionFile}
 use Rattle.av_image.specs.declared.places.Place.{Place}
 use Rattle.av_image.specs.declared.places.Place.TheVariants.{Absent, Kept, Full}
 use Rattle.av_image.specs.declared.regions.ReadRegion.{ReadRegion}

@@ -13,7 +13,7 @@ use Rattle.av_types.specs.declared.place.RegionPos.{RegionPos}
 use Rattle.av_world.specs.Index.{before, IsRising}
 use Rattle.av_world.proofs.Search.{lt_tells}
 use Rattle.av_files.specs.Files.{region_after, regions_rise, chunk_order, chunks_rise}
-use Rattle.av_sink.specs.Regions.{region_order, same_region}
+use Rattle.av_region_files.specs.Regions.{region_order, same_region}
 use Rattle.av_files.proofs.Coordinates.{same_region_is}
 
 abbrev Below : RegionPos → RegionPos → Type 0

@@ -21,7 +21,7 @@ use Rattle.av_chunk.specs.declared.light.ChunkLight.{ChunkLight}
 use Rattle.av_world.specs.Views.{height_of, positions_of, lists, is_broken}
 use Rattle.av_world.specs.declared.worlds.World.{World}
 use Rattle.av_files.specs.Files.{File, regions_rise, region_after}
-use Rattle.av_sink.specs.Regions.{same_region}
+use Rattle.av_region_files.specs.Regions.{same_region}
 use Rattle.av_files.specs.Layout.{payload_of, payloads, stamps, file_layout, chunk_bytes, indices, first_or, too_large_in}
 use Rattle.av_files.proofs.Sorted.{all_both}
 use Rattle.av_image.specs.declared.rest.Slot.{Slot}

@@ -6,9 +6,9 @@ use Rattle.av_types.specs.declared.place.RegionPos.{RegionPos}
 use Rattle.av_document.specs.Chunk.{RestOfChunk}
 use Rattle.av_chunk.specs.Views.{rest_of}
 use Rattle.av_files.specs.Files.{File}
-use Rattle.av_sink.specs.Regions.{same_region}
+use Rattle.av_region_files.specs.Regions.{same_region}
 use Rattle.av_files.specs.Denotes as files
-use Rattle.av_sink.specs.declared.files.RegionFile.{RegionFile}
+use Rattle.av_region_files.specs.declared.files.RegionFile.{RegionFile}
 use Rattle.av_image.specs.declared.rest.Slot.{Slot}
 use Rattle.av_image.specs.declared.rest.Slot.TheVariants as slots
 use Rattle.av_image.specs.declared.rest.RegionRest.{RegionRest}

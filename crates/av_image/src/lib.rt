@@ -15,7 +15,7 @@ mod saving;
 mod saving_on;
 mod splits;
 
-pub use av_sink::RegionFile;
+pub use av_region_files::RegionFile;
 pub use loading::load;
 pub use loading_on::load_on;
 pub use rest::{RegionRest, Rest, Slot};

@@ -20,8 +20,8 @@ ghost use Rattle.av_image.specs.Loading.{placed_order, region_before, comes_afte
 use crate::regions::{ReadRegion, read_regions};
 use crate::rest::Rest;
 use crate::splits::{Placed, split_regions, world_of};
+use av_region_files::RegionFile;
 use av_rules::Rules;
-use av_sink::RegionFile;
 use av_state::StateTable;
 use av_types::{Fault, Height, RegionPos};
 use av_world::World;

@@ -12,7 +12,7 @@ ghost use Rattle.av_image.specs.Placed.{ArePlacesRead, IsRegionRead, AreRegionsR
 
 use crate::places::{Place, read_place};
 use av_region::Region;
-use av_sink::RegionFile;
+use av_region_files::RegionFile;
 use av_state::StateTable;
 use av_types::{Fault, Height, RegionPos};
 use std::alloc::{AllocError, Global};

@@ -17,7 +17,7 @@ use crate::places::{Place, read_place_by};
 use crate::regions::{ReadRegion, read_stamps};
 use av_chunk::Reading;
 use av_region::Region;
-use av_sink::RegionFile;
+use av_region_files::RegionFile;
 use av_state::StateTable;
 use av_types::{Fault, Height, RegionPos};
 use std::alloc::Global;

@@ -14,8 +14,8 @@ ghost use Rattle.av_image.specs.SavingSteps.{payload_items, loaded_bytes, slot_p
 use crate::rest::{RegionRest, Rest, Slot};
 use av_chunk::{Chunk, ChunkLight, ChunkRest};
 use av_nbt::encode;
+use av_region_files::RegionFile;
 use av_rules::Kinds;
-use av_sink::RegionFile;
 use av_types::{ChunkPos, Fault};
 use av_world::World;
 use std::alloc::{AllocError, Global};

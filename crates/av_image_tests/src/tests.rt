@@ -2,8 +2,8 @@
 use crate::flat::{Block, Flat, Waiting, chunk, flat_region, push_chunk, push_pad, region};
 use crate::saves::{saved, saved_broken, saved_broken_on, saved_on};
 use av_image::{Rest, Slot, load, load_on};
+use av_region_files::RegionFile;
 use av_rules::Rules;
-use av_sink::RegionFile;
 use av_state::StateTable;
 use av_types::{ChunkPos, Fault, Height, Pos, RegionPos};
 use av_world::World;

@@ -6,8 +6,8 @@ use Rattle.av_types.specs.declared.fault.Fault.TheVariants.{OutOfMemory}
 use Rattle.av_types.specs.declared.place.Height.{Height}
 use Rattle.av_types.specs.declared.place.RegionPos.{RegionPos}
 use Rattle.av_region.specs.Region.{IsShort}
-use Rattle.av_sink.specs.Regions.{same_region}
-use Rattle.av_sink.specs.declared.files.RegionFile.{RegionFile}
+use Rattle.av_region_files.specs.Regions.{same_region}
+use Rattle.av_region_files.specs.declared.files.RegionFile.{RegionFile}
 use Rattle.av_survey.specs.Listing.{IsList, IsListFault, in_order}
 use Rattle.av_png.specs.Pictures.{rows_of, width_of}
 use Rattle.av_map.specs.Colours.{NamedColour}

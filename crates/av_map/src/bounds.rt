@@ -4,7 +4,7 @@ ghost use Rattle.std.specs.List.{All};
 ghost use Rattle.av_types.specs.Places.{IsInLimits};
 ghost use Rattle.av_map.specs.Maps.{greater, lesser};
 
-use av_sink::RegionFile;
+use av_region_files::RegionFile;
 use av_types::RegionPos;
 
 /// The most regions of a picture along each side: 16,384 pixels.

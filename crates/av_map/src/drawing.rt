@@ -13,7 +13,7 @@ use crate::reading::Scene;
 use crate::refusal::Refusal;
 use crate::view::View;
 use av_png::Picture;
-use av_sink::RegionFile;
+use av_region_files::RegionFile;
 use av_survey::listing::judged;
 use av_types::Height;
 use std::alloc::{AllocError, Global};

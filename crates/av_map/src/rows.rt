@@ -6,13 +6,13 @@ ghost use Rattle.av_types.specs.Places.{IsInLimits};
 ghost use Rattle.av_map.specs.Maps.{ArePatches, IsPatchRow, Shows, file_of, index_at, region_at};
 ghost use Rattle.av_map.specs.Views.{colours_of};
 ghost use Rattle.av_map.specs.Within.{AreWithin};
-ghost use Rattle.av_sink.specs.Regions.{same_region};
+ghost use Rattle.av_region_files.specs.Regions.{same_region};
 
 use crate::bounds::Bounds;
 use crate::patch::Patch;
 use crate::reading::Scene;
 use av_region::Region;
-use av_sink::RegionFile;
+use av_region_files::RegionFile;
 use av_types::RegionPos;
 use std::alloc::{AllocError, Global};
 

@@ -3,7 +3,7 @@ use crate::chunks::{Layer, region};
 use crate::expecting::expect_equal;
 use av_map::{Colours, Map, View, draw};
 use av_png::Pixel;
-use av_sink::RegionFile;
+use av_region_files::RegionFile;
 use av_types::{Height, RegionPos};
 use std::alloc::Global;
 use std::process::Abort;

@@ -1,7 +1,7 @@
 //! Worlds that are not drawn.
 use crate::expecting::expect_equal;
 use av_map::{Colours, View, draw};
-use av_sink::RegionFile;
+use av_region_files::RegionFile;
 use av_types::{Height, RegionPos};
 use std::process::Abort;
 use std::test::Fail;

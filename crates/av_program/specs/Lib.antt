@@ -1,3 +1,4 @@
+pub mod CheckCommand
 pub mod RunCommand
 pub mod MapCommand
 pub mod StatesCommand

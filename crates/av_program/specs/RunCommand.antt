@@ -1,5 +1,5 @@
 -- What `run` reads, writes and prints.
-use Rattle.std.specs.Prelude.{◌≡◌, ◌⊎◌, ℕ, Bool, List, ◌++◌, Option, None, codes, map, Result, Ok, Err}
+use Rattle.std.specs.Prelude.{◌≡◌, ◌⊎◌, ℕ, Bool, List, ◌++◌, Option, codes, map, Result, Ok, Err}
 use Rattle.std.specs.Fmt.{decimal}
 use Rattle.std.specs.Io.KnownBytes.{Appends}
 use Rattle.av_types.specs.declared.fault.Fault.{Fault}
@@ -14,6 +14,7 @@ use Rattle.av_run.specs.declared.runs.Outcome.{Outcome}
 use Rattle.av_program.specs.declared.running.Inputs.{Inputs}
 use Rattle.av_folders.specs.Folders.{IsUnreadFolder}
 use Rattle.av_commands.specs.Output.{line}
+use Rattle.av_commands.specs.declared.failure.Failure.{Failure}
 
 -- `chunks C turns T`
 abbrev pub counts_text : ℕ → ℕ → List ℕ
@@ -55,13 +56,14 @@ pub data HasRunInto (i : Inputs) (ticks workers : ℕ) (strict : Bool) (old new 
   refused : (e : Fault) → IsRunOf i ticks workers strict (Err e) → new ≡ old → HasRunInto i ticks workers strict old new (Err e)
   stopped : (e : Fault) (r : Ran) → IsRunOf i ticks workers strict (Ok r) → IsNotHandedOver r old new e → HasRunInto i ticks workers strict old new (Err e)
 
--- The same of a run whose input is read first: nothing where it can't be read.
-pub data HasRunOver (ticks workers : ℕ) (strict : Bool) (old new : Account) : Result Ran Fault → Type 0 where
-  unread : (e : Fault) → new ≡ old → HasRunOver ticks workers strict old new (Err e)
-  read : (i : Inputs) (answer : Result Ran Fault) → HasRunInto i ticks workers strict old new answer → HasRunOver ticks workers strict old new answer
+-- The same of a run whose input is read first, with why it failed: nothing where the input can't be read either.
+pub data HasRunOver (ticks workers : ℕ) (strict : Bool) (old new : Account) : Result Ran Failure → Type 0 where
+  read : (i : Inputs) (r : Ran) → IsRunOf i ticks workers strict (Ok r) → IsHandedOver r old new → HasRunOver ticks workers strict old new (Ok r)
+  unread : (e : Failure) → new ≡ old → HasRunOver ticks workers strict old new (Err e)
+  stopped_at : (i : Inputs) (r : Ran) (e : Failure) → IsRunOf i ticks workers strict (Ok r) → IsNotHandedOver r old new e.fault → HasRunOver ticks workers strict old new (Err e)
 
 -- what is told of a run, and the status: the counts, or nothing and 1
-abbrev pub HasReported : Result Ran Fault → Option (List ℕ) → Option (List ℕ) → ℕ → Type 0
+abbrev pub HasReported : Result Ran Failure → Option (List ℕ) → Option (List ℕ) → ℕ → Type 0
 HasReported (Ok (Done o without_row)) before after status = HasCounts o.chunks o.turns before after status
 HasReported (Ok (Uncovered without_row)) before after status = (after ≡ before) × (status ≡ 1)
 HasReported (Err e) before after status = (after ≡ before) × (status ≡ 1)

@@ -8,46 +8,26 @@ use Rattle.av_types.specs.declared.place.Pos.{Pos}
 use Rattle.av_types.specs.declared.place.Height.{Height}
 use Rattle.av_types.specs.declared.fault.Fault.{Fault}
 use Rattle.av_sink.specs.Account.{Account, IsDevice, in_folder}
-use Rattle.av_sink.specs.declared.files.RegionFile.{RegionFile}
-use Rattle.av_survey.specs.Survey.{IsSurvey}
-use Rattle.av_survey.specs.declared.finding.Finding.{Finding}
 use Rattle.av_words.specs.declared.command_line.commands.Words.{Words}
 use Rattle.av_words.specs.declared.command_line.commands.Words.TheVariants.{Block, Check, Map, Run, States}
 use Rattle.av_commands.specs.BlockCommand.{HasAnswered}
 use Rattle.av_words.specs.CommandLine.{IsReadFrom, IsWordsRefusal}
-use Rattle.av_commands.specs.CheckCommand.{HasFindings}
+use Rattle.av_program.specs.CheckCommand.{HasChecked}
 use Rattle.av_program.specs.MapCommand.{HasMapped}
 use Rattle.av_program.specs.RunCommand.{HasRunRegions}
 use Rattle.av_program.specs.StatesCommand.{HasListed}
-use Rattle.av_folders.specs.Folders.{IsUnreadFolder}
 use Rattle.av_commands.specs.Tables.{IsHeightBy, IsUnreadTable}
 
 -- why the table and the file of `block` were not read
 abbrev pub IsUnread : List ℕ → Option (List ℕ) → Fault → Type 0
 IsUnread file table e = IsUnreadTable table e ⊎ IsDevice file e
 
--- why the table and the folder of `check` were not read
-abbrev pub IsUnreadCheck : List ℕ → Option (List ℕ) → Fault → Type 0
-IsUnreadCheck folder table e = IsUnreadTable table e ⊎ IsUnreadFolder folder e
-
--- all that is wrong with some region files, under the table's height
-pub record IsSurveyBy (table : Option (List ℕ)) (found : List Finding) : Type 0 where
-  pub height : Height
-  pub by_table : IsHeightBy table height
-  pub files : List RegionFile
-  pub all : IsSurvey height files found
-
 -- what a run of `block` leaves on its output, and its status: the answer for the bytes that it read, or nothing and 1
 pub data HasRun (file : List ℕ) (at : Pos) (table : Option (List ℕ)) (before after : Option (List ℕ)) (status : ℕ) : Type 0 where
   answered : (bytes : List ℕ) (h : Height) → IsHeightBy table h → HasAnswered file bytes at h before after status → HasRun file at table before after status
   unread : after ≡ before → status ≡ 1 → HasRun file at table before after status
 
--- the same of `check`: the findings of a survey, or nothing and 1
-pub data HasChecked (table : Option (List ℕ)) (before after : Option (List ℕ)) (status : ℕ) : Type 0 where
-  surveyed : (found : List Finding) → IsSurveyBy table found → HasFindings found before after status → HasChecked table before after status
-  refused : after ≡ before → status ≡ 1 → HasChecked table before after status
-
--- the same of `run`: what its files leave in the folder of that name, or nothing and 1 where memory for the name runs out
+-- the same of `run`: what its files leave in the folder of that name, or nothing and 1 where the folder is refused or memory for the name runs out
 pub data HasRunInFolder (folder : List ℕ) (ticks workers : ℕ) (strict : Bool) (old new : Account) (before after : Option (List ℕ)) (status : ℕ) : Type 0 where
   opened : HasRunRegions ticks workers strict (in_folder folder old) new before after status → HasRunInFolder folder ticks workers strict old new before after status
   unopened : new ≡ old → after ≡ before → status ≡ 1 → HasRunInFolder folder ticks workers strict old new before after status
@@ -55,13 +35,13 @@ pub data HasRunInFolder (folder : List ℕ) (ticks workers : ℕ) (strict : Bool
 -- the same of a command: `run` hands its files to the folder that its words name, `map` its picture to that of its path, and no other
 -- command hands any to a sink
 abbrev pub HasRunCommand : Words → Account → Account → Option (List ℕ) → Option (List ℕ) → ℕ → Type 0
-HasRunCommand (Block file at table) old new before after status = (new ≡ old) × HasRun file.now at (option_map (λ t. t.now) table) before after status
-HasRunCommand (Check input table progress) old new before after status = (new ≡ old) × HasChecked (option_map (λ t. t.now) table) before after status
-HasRunCommand (Run input output table edits ticks workers strict progress) old new before after status =
+HasRunCommand (Block file at table explain) old new before after status = (new ≡ old) × HasRun file.now at (option_map (λ t. t.now) table) before after status
+HasRunCommand (Check input table progress explain) old new before after status = (new ≡ old) × HasChecked (option_map (λ t. t.now) table) before after status
+HasRunCommand (Run input output table edits ticks workers strict progress explain) old new before after status =
     HasRunInFolder output.now ticks workers strict old new before after status
-HasRunCommand (Map input picture table colours light) old new before after status =
+HasRunCommand (Map input picture table colours light explain) old new before after status =
     (after ≡ before) × HasMapped picture.now (option_map (λ t. t.now) table) (option_map (λ t. t.now) colours) light old new status
-HasRunCommand (States input table) old new before after status = (new ≡ old) × HasListed (option_map (λ t. t.now) table) before after status
+HasRunCommand (States input table explain) old new before after status = (new ≡ old) × HasListed (option_map (λ t. t.now) table) before after status
 
 -- the same of words: the run of the command that they name, or a refusal, which may print help
 pub data HasRunWords (words : List Text) (old new : Account) (before after : Option (List ℕ)) (status : ℕ) : Type 0 where

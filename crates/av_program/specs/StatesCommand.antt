@@ -3,7 +3,7 @@ use Rattle.std.specs.Prelude.{◌≡◌, ℕ, zero, suc, List, Option}
 use Rattle.std.specs.Io.KnownBytes.{Appends}
 use Rattle.av_types.specs.declared.place.Height.{Height}
 use Rattle.av_rules.specs.Rows.{BlockTable}
-use Rattle.av_sink.specs.declared.files.RegionFile.{RegionFile}
+use Rattle.av_region_files.specs.declared.files.RegionFile.{RegionFile}
 use Rattle.av_census.specs.Census.{IsCensus}
 use Rattle.av_census.specs.Listing.{listing}
 use Rattle.av_census.specs.declared.counts.Census.{Census}

@@ -6,10 +6,13 @@ ghost use Rattle.av_map.specs.Views.{colours_of};
 ghost use Rattle.av_program.specs.MapCommand.{AreColoursBy, HasMapped, IsMapBy, IsNotSaved, IsSaved, view_by};
 
 use av_commands::device::read_file;
+use av_commands::failure::Failure;
+use av_commands::manner::Manner;
 use av_commands::names::split_path;
 use av_commands::output::{FAULT, report_fault, write_left_out};
+use av_commands::reasons::report_failure;
 use av_commands::tables::read_height;
-use av_folders::progress::note_step;
+use av_folders::progress::{end_steps, note_step};
 use av_folders::read_folder;
 use av_map::{Colours, Map, Refusal, View, draw};
 use av_png::{Picture, write_png};
@@ -42,30 +45,49 @@ fn view_by(light: bool) -> View
 }
 
 /// The colours of a file, where one is named.
-fn read_colours<R: Files + AllocGlobal>(rt: &R, name: Option<&str>) -> Result<Colours, Fault>
+fn read_colours<R: Files + AllocGlobal>(rt: &R, name: Option<&str>) -> Result<Colours, Failure>
     ensures { IfOk result (λ c. AreColoursBy (option_map (λ t. t.now) name.entry) (colours_of c)) }
 {
     let Some(name) = name else {
         return Ok(Colours::none(rt.alloc()));
     };
     let text = read_file(rt, name)?;
-    Colours::read(rt.alloc(), text.as_slice())
+    Ok(Colours::read(rt.alloc(), text.as_slice())?)
+}
+
+/// Why there is no picture.
+#[derive(Debug, Drop)]
+enum NoPicture {
+    Unread(Failure),
+    Undrawn(Refusal),
+}
+
+impl From<Failure> for NoPicture {
+    fn from(failure: Failure) -> NoPicture {
+        NoPicture::Unread(failure)
+    }
+}
+
+impl From<Refusal> for NoPicture {
+    fn from(refusal: Refusal) -> NoPicture {
+        NoPicture::Undrawn(refusal)
+    }
 }
 
 /// Reads what is asked for, and draws it.
 fn draw_map<R: Files + AllocGlobal + Clone + Drop, E: Write>(
     rt: &R,
     order: Order<'_>,
-    progress: bool,
+    manner: Manner,
     err: &mut E,
-) -> Result<Map, Refusal>
+) -> Result<Map, NoPicture>
     ensures { IfOk result (IsMapBy (option_map (λ t. t.now) order.entry.table) (option_map (λ t. t.now) order.entry.colours) order.entry.light) }
 {
     let height = read_height(rt, order.table)?;
     let colours = read_colours(rt, order.colours)?;
-    let files = read_folder(rt, order.input, progress, err)?;
-    note_step(err, progress, "drawing");
-    draw(rt.alloc(), files, height, &colours, view_by(order.light))
+    let files = read_folder(rt, order.input, manner, err)?;
+    note_step(err, manner.progress, "drawing");
+    Ok(draw(rt.alloc(), files, height, &colours, view_by(order.light))?)
 }
 
 /// The bytes of a picture's file.
@@ -119,14 +141,18 @@ fn note_left_out<E: Write>(err: &mut E, map: &Map) {
 }
 
 /// Writes why there is no map, as well as that can be written, and answers the status.
-fn report_refusal<E: Write>(err: &mut E, refusal: &Refusal) -> u8
+fn report_no_picture<E: Write>(alloc: Global, err: &mut E, none: &NoPicture, manner: Manner) -> u8
     ensures { result ≡ FAULT }
 {
-    if let Refusal::Fault(fault) = refusal {
-        return report_fault(err, fault);
+    end_steps(err, manner.progress);
+    match none {
+        NoPicture::Unread(failure) => report_failure(alloc, err, failure, manner.explains),
+        NoPicture::Undrawn(Refusal::Fault(fault)) => report_fault(err, fault),
+        NoPicture::Undrawn(refusal) => {
+            let _ = writeln!(err, "{refusal}");
+            FAULT
+        }
     }
-    let _ = writeln!(err, "{refusal}");
-    FAULT
 }
 
 /// Runs `map`. The answer is the program's status: 0, even where chunks with a fault are not shown; 1 where there is no picture, or
@@ -135,17 +161,18 @@ pub(crate) fn run_map<R: Files + AllocGlobal + Clone + Drop, S: OutputFolder, E:
     rt: &R,
     order: Order<'_>,
     sink: &mut S,
-    progress: bool,
+    manner: Manner,
     err: &mut E,
 ) -> u8
     requires fresh { IsFresh (S.account sink.old) }
     ensures { HasMapped order.entry.picture.now (option_map (λ t. t.now) order.entry.table) (option_map (λ t. t.now) order.entry.colours) order.entry.light
         (S.account sink.old) (S.account sink.new) result }
 {
-    let map = match draw_map(rt, order, progress, err) {
+    let map = match draw_map(rt, order, manner, err) {
         Ok(map) => map,
-        Err(refusal) => return report_refusal(err, &refusal),
+        Err(none) => return report_no_picture(rt.alloc(), err, &none, manner),
     };
+    end_steps(err, manner.progress);
     match save_picture(rt.alloc(), order.picture, &map.picture, sink) {
         Ok(()) => {
             note_left_out(err, &map);

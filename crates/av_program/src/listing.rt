@@ -3,10 +3,12 @@ ghost use Rattle.std.specs.Prelude.{◌≡◌, IfOk, option_map};
 ghost use Rattle.av_program.specs.StatesCommand.{HasListed, IsListingBy, status_after};
 
 use av_census::{census, listing};
-use av_commands::output::{FAULT, report_fault, write_first, write_left_out};
+use av_commands::failure::Failure;
+use av_commands::manner::Manner;
+use av_commands::output::{FAULT, report_output, write_first, write_left_out};
+use av_commands::reasons::report_failure;
 use av_commands::tables::{read_rules, world_height};
 use av_folders::read_folder;
-use av_types::Fault;
 use std::io::Write;
 use std::rt::Files;
 
@@ -23,13 +25,13 @@ fn list_states<R: Files + AllocGlobal + Clone + Drop, E: Write>(
     rt: &R,
     folder: &str,
     table: Option<&str>,
-    progress: bool,
+    manner: Manner,
     err: &mut E,
-) -> Result<Listing, Fault>
+) -> Result<Listing, Failure>
     ensures { IfOk result (λ l. IsListingBy (option_map (λ t. t.now) table.entry) l.text.items l.left_out) }
 {
     let rules = read_rules(rt, table)?;
-    let files = read_folder(rt, folder, progress, err)?;
+    let files = read_folder(rt, folder, manner, err)?;
     let census = census(rt.alloc(), files, world_height(&rules))?;
     let text = listing(rt.alloc(), census.counts.as_slice(), rules.as_ref())?;
     Ok(Listing {
@@ -55,17 +57,17 @@ pub(crate) fn run_states<R: Files + AllocGlobal + Clone + Drop, O: Write, E: Wri
     rt: &R,
     folder: &str,
     table: Option<&str>,
-    progress: bool,
+    manner: Manner,
     out: &mut O,
     err: &mut E,
 ) -> u8
     ensures { HasListed (option_map (λ t. t.now) table.entry) (O.contents out.old) (O.contents out.new) result }
 {
-    match list_states(rt, folder, table, progress, err) {
+    match list_states(rt, folder, table, manner, err) {
         Ok(listing) => match write_first(out, listing.text.as_slice()) {
             Ok(()) => report_left_out(err, listing.left_out),
-            Err(_) => FAULT,
+            Err(error) => report_output(err, &error),
         },
-        Err(fault) => report_fault(err, &fault),
+        Err(failure) => report_failure(rt.alloc(), err, &failure, manner.explains),
     }
 }

@@ -2,21 +2,25 @@
 ghost use Rattle.std.specs.Prelude.{◌≡◌, ◌≢◌, ◌≤◌, IfErr, IfOk, map, option_map};
 ghost use Rattle.clap.specs.Words.{kind_of};
 ghost use Rattle.av_program.specs.RunCommand.{HasRunRegions};
-ghost use Rattle.av_program.specs.Running.{HasChecked, HasRun, HasRunCommand, HasRunInFolder, HasRunProgram, HasRunWords, IsSurveyBy, IsUnread, IsUnreadCheck};
+ghost use Rattle.av_program.specs.Running.{HasRun, HasRunCommand, HasRunInFolder, HasRunProgram, HasRunWords, IsUnread};
 ghost use Rattle.av_sink.specs.Account.{IsFresh};
 ghost use Rattle.av_commands.specs.Tables.{IsHeightBy};
 
+use crate::checking::run_check;
 use crate::drawing::{Order, run_map};
 use crate::listing::run_states;
 use crate::running::{Request, report, run_over};
-use av_commands::block::block_text;
-use av_commands::checking::findings;
+use av_commands::block::{block_text, note_other_file};
 use av_commands::device::read_file;
+use av_commands::failure::Failure;
+use av_commands::manner::Manner;
 use av_commands::output::{FAULT, REFUSED, report_fault};
+use av_commands::reasons::report_failure;
 use av_commands::tables::read_height;
-use av_folders::read_folder;
-use av_sink::{OutputFolder, RegionFile, Sink};
-use av_survey::{Finding, survey};
+use av_folders::progress::{end_steps, note_written};
+use av_folders::try_folder;
+use av_run::Ran;
+use av_sink::{OutputFolder, Sink};
 use av_types::{Fault, Height, Pos};
 use av_words::{Words, words};
 use clap::Error;
@@ -49,20 +53,21 @@ fn read_inputs<R: Files + AllocGlobal>(
     rt: &R,
     file: &str,
     table: Option<&str>,
-) -> Result<(Height, Vec<u8>), Fault>
+) -> Result<(Height, Vec<u8>), Failure>
     ensures height { IfOk result (λ read. IsHeightBy (option_map (λ t. t.now) table.entry) read.0) }
-    ensures unread { IfErr result (IsUnread file.now (option_map (λ t. t.now) table.entry)) }
+    ensures unread { IfErr result (λ e. IsUnread file.now (option_map (λ t. t.now) table.entry) e.fault) }
 {
     let height = read_height(rt, table)?;
     Ok((height, read_file(rt, file)?))
 }
 
-/// Runs `block`.
-fn run_block<R: Files + AllocGlobal, O: Write, E: Write>(
+/// Reads a region file, and answers what block it has at a position.
+fn answer_block<R: Files + AllocGlobal, O: Write, E: Write>(
     rt: &R,
     file: &str,
     pos: Pos,
     table: Option<&str>,
+    manner: Manner,
     out: &mut O,
     err: &mut E,
 ) -> u8
@@ -79,53 +84,36 @@ fn run_block<R: Files + AllocGlobal, O: Write, E: Write>(
             out,
             err,
         ),
-        Err(fault) => report_fault(err, &fault),
+        Err(failure) => report_failure(rt.alloc(), err, &failure, manner.explains),
     }
 }
 
-/// What `check` reads: the world's height, by the block table, and then the folder's region files.
-fn read_check_inputs<R: Files + AllocGlobal + Clone + Drop, E: Write>(
+/// Runs `block`.
+fn run_block<R: Files + AllocGlobal, O: Write, E: Write>(
     rt: &R,
-    folder: &str,
+    file: &str,
+    pos: Pos,
     table: Option<&str>,
-    progress: bool,
-    err: &mut E,
-) -> Result<(Height, Vec<RegionFile>), Fault>
-    ensures height { IfOk result (λ read. IsHeightBy (option_map (λ t. t.now) table.entry) read.0) }
-    ensures unread { IfErr result (IsUnreadCheck folder.now (option_map (λ t. t.now) table.entry)) }
-{
-    let height = read_height(rt, table)?;
-    Ok((height, read_folder(rt, folder, progress, err)?))
-}
-
-/// What is wrong with the region files of a folder.
-fn survey_folder<R: Files + AllocGlobal + Clone + Drop, E: Write>(
-    rt: &R,
-    folder: &str,
-    table: Option<&str>,
-    progress: bool,
-    err: &mut E,
-) -> Result<Vec<Finding>, Fault>
-    ensures { IfOk result (λ found. IsSurveyBy (option_map (λ t. t.now) table.entry) found.items) }
-{
-    let (height, files) = read_check_inputs(rt, folder, table, progress, err)?;
-    survey(rt.alloc(), files, height)
-}
-
-/// Runs `check`.
-fn run_check<R: Files + AllocGlobal + Clone + Drop + Threads + Sync, O: Write, E: Write>(
-    rt: &R,
-    folder: &str,
-    table: Option<&str>,
-    progress: bool,
+    manner: Manner,
     out: &mut O,
     err: &mut E,
 ) -> u8
     ensures status { result ≤ REFUSED }
-    ensures ran { HasChecked (option_map (λ t. t.now) table.entry) (O.contents out.old) (O.contents out.new) result }
+    ensures ran { HasRun file.now pos (option_map (λ t. t.now) table.entry) (O.contents out.old) (O.contents out.new) result }
 {
-    let surveyed = survey_folder(rt, folder, table, progress, err);
-    findings(&surveyed, out, err)
+    let status = answer_block(rt, file, pos, table, manner, out, err);
+    if manner.explains && status == 0 {
+        note_other_file(rt.alloc(), file, pos, err);
+    }
+    status
+}
+
+/// Says how many files a run has written, where it has.
+fn note_end<E: Write>(ran: &Result<Ran, Failure>, manner: Manner, err: &mut E) {
+    if let Ok(Ran::Done { outcome, .. }) = ran {
+        note_written(err, manner.progress, outcome.files.len());
+    }
+    end_steps(err, manner.progress);
 }
 
 /// Runs `run`, and hands its files to a sink that has taken none yet and has not failed.
@@ -134,17 +122,18 @@ fn run_regions<
     S: Sink,
     O: Write,
     E: Write,
->(rt: &R, request: Request<'_>, sink: &mut S, progress: bool, out: &mut O, err: &mut E) -> u8
+>(rt: &R, request: Request<'_>, sink: &mut S, manner: Manner, out: &mut O, err: &mut E) -> u8
     requires failures { (S.account sink.old).failures ≡ 0 }
     requires handed { (S.account sink.old).handed ≡ 0 }
     ensures status { result ≤ REFUSED }
     ensures ran { HasRunRegions request.entry.ticks request.entry.workers request.entry.strict (S.account sink.old) (S.account sink.new) (O.contents out.old) (O.contents out.new) result }
 {
-    let ran = run_over(rt, request, sink, progress, err);
-    report(&ran, out, err)
+    let ran = run_over(rt, request, sink, manner, err);
+    note_end(&ran, manner, err);
+    report(rt.alloc(), &ran, manner.explains, out, err)
 }
 
-/// Runs `run`, and hands its files to the folder of that name.
+/// Runs `run`, and hands its files to the folder of that name, which is looked at before anything is read.
 fn run_in_folder<
     R: Files + AllocGlobal + Clone + Drop + Threads + Wait + Sync,
     S: OutputFolder,
@@ -155,7 +144,7 @@ fn run_in_folder<
     request: Request<'_>,
     folder: &str,
     sink: &mut S,
-    progress: bool,
+    manner: Manner,
     out: &mut O,
     err: &mut E,
 ) -> u8
@@ -163,13 +152,16 @@ fn run_in_folder<
     ensures status { result ≤ REFUSED }
     ensures ran { HasRunInFolder folder.now request.entry.ticks request.entry.workers request.entry.strict (S.account sink.old) (S.account sink.new) (O.contents out.old) (O.contents out.new) result }
 {
+    if let Err(failure) = try_folder(rt, folder) {
+        return report_failure(rt.alloc(), err, &failure, manner.explains);
+    }
     match sink.open(folder) {
-        Ok(()) => run_regions(rt, request, sink, progress, out, err),
+        Ok(()) => run_regions(rt, request, sink, manner, out, err),
         Err(_) => report_fault(err, &Fault::OutOfMemory),
     }
 }
 
-/// Runs a command. Where standard error is a terminal, it says how far long work is.
+/// Runs a command. Where standard error is a terminal, it says how far long work is, and why it failed.
 fn run_command<
     R: Files + AllocGlobal + Clone + Drop + Threads + Wait + Sync,
     S: OutputFolder,
@@ -180,13 +172,19 @@ fn run_command<
     ensures status { result ≤ REFUSED }
     ensures ran { HasRunCommand command.entry (S.account sink.old) (S.account sink.new) (O.contents out.old) (O.contents out.new) result }
 {
+    let manner = Manner::new(
+        is_terminal,
+        command.wants_progress(),
+        command.wants_reasons(),
+    );
     match command {
-        Words::Block { file, pos, table } => run_block(rt, file, pos, table, out, err),
-        Words::Check {
-            input,
+        Words::Block {
+            file,
+            pos,
             table,
-            progress,
-        } => run_check(rt, input, table, progress || is_terminal, out, err),
+            ..
+        } => run_block(rt, file, pos, table, manner, out, err),
+        Words::Check { input, table, .. } => run_check(rt, input, table, manner, out, err),
         Words::Run {
             input,
             output,
@@ -195,7 +193,7 @@ fn run_command<
             ticks,
             workers,
             strict,
-            progress,
+            ..
         } => {
             let request = Request {
                 input,
@@ -205,7 +203,7 @@ fn run_command<
                 workers,
                 strict,
             };
-            run_in_folder(rt, request, output, sink, progress || is_terminal, out, err)
+            run_in_folder(rt, request, output, sink, manner, out, err)
         }
         Words::Map {
             input,
@@ -213,6 +211,7 @@ fn run_command<
             table,
             colours,
             light,
+            ..
         } => {
             let order = Order {
                 input,
@@ -221,9 +220,9 @@ fn run_command<
                 colours,
                 light,
             };
-            run_map(rt, order, sink, is_terminal, err)
+            run_map(rt, order, sink, manner, err)
         }
-        Words::States { input, table } => run_states(rt, input, table, is_terminal, out, err),
+        Words::States { input, table, .. } => run_states(rt, input, table, manner, out, err),
     }
 }
 

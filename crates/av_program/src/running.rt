@@ -4,13 +4,18 @@ ghost use Rattle.std.specs.Io.KnownBytes.{Appends};
 ghost use Rattle.av_commands.specs.Output.{line};
 ghost use Rattle.av_program.specs.RunCommand.{HasCounts, HasReported, HasRunInto, HasRunOver, IsHandedOver, IsNotHandedOver, IsUnreadRun, strict_text, uncovered_text};
 
+use crate::causes::failure_of_run;
 use av_commands::device::read_file;
-use av_commands::output::{FAULT, report_fault};
+use av_commands::failure::Failure;
+use av_commands::manner::Manner;
+use av_commands::output::{FAULT, report_output};
+use av_commands::reasons::report_failure;
 use av_crew::NoGate;
 use av_folders::progress::note_step;
 use av_folders::read_folder;
+use av_region_files::RegionFile;
 use av_run::{Outcome, Ran, run_checked};
-use av_sink::{RegionFile, Sink, save_all};
+use av_sink::{Sink, save_all};
 use av_types::Fault;
 use std::alloc::Global;
 use std::io::{self, Write};
@@ -46,14 +51,14 @@ pub(crate) struct Inputs {
 fn read_inputs<R: Files + AllocGlobal + Clone + Drop, E: Write>(
     rt: &R,
     request: Request<'_>,
-    progress: bool,
+    manner: Manner,
     err: &mut E,
-) -> Result<Inputs, Fault>
-    ensures { IfErr result (IsUnreadRun request.entry.table.now request.entry.edits.now request.entry.input.now) }
+) -> Result<Inputs, Failure>
+    ensures { IfErr result (λ e. IsUnreadRun request.entry.table.now request.entry.edits.now request.entry.input.now e.fault) }
 {
     let table = read_file(rt, request.table)?;
     let edits = read_file(rt, request.edits)?;
-    let files = read_folder(rt, request.input, progress, err)?;
+    let files = read_folder(rt, request.input, manner, err)?;
     Ok(Inputs {
         table,
         edits,
@@ -66,7 +71,7 @@ fn hand_over<S: Sink, E: Write>(
     alloc: Global,
     ran: &Ran,
     sink: &mut S,
-    progress: bool,
+    manner: Manner,
     err: &mut E,
 ) -> Result<(), Fault>
     requires failures { (S.account sink.old).failures ≡ 0 }
@@ -76,7 +81,7 @@ fn hand_over<S: Sink, E: Write>(
 {
     match ran {
         Ran::Done { outcome, .. } => {
-            note_step(err, progress, "writing");
+            note_step(err, manner.progress, "writing");
             save_all(alloc, sink, outcome.files.as_slice())
         }
         Ran::Uncovered(_) => Ok(()),
@@ -89,14 +94,14 @@ fn run_into<R: Files + AllocGlobal + Threads + Wait + Sync, S: Sink, E: Write>(
     inputs: Inputs,
     request: Request<'_>,
     sink: &mut S,
-    progress: bool,
+    manner: Manner,
     err: &mut E,
 ) -> Result<Ran, Fault>
     requires failures { (S.account sink.old).failures ≡ 0 }
     requires handed { (S.account sink.old).handed ≡ 0 }
     ensures { HasRunInto inputs request.entry.ticks request.entry.workers request.entry.strict (S.account sink.old) (S.account sink.new) result }
 {
-    note_step(err, progress, "running");
+    note_step(err, manner.progress, "running");
     let ran = run_checked(
         rt,
         rt.alloc(),
@@ -108,7 +113,7 @@ fn run_into<R: Files + AllocGlobal + Threads + Wait + Sync, S: Sink, E: Write>(
         request.strict,
         &NoGate,
     )?;
-    hand_over(rt.alloc(), &ran, sink, progress, err)?;
+    hand_over(rt.alloc(), &ran, sink, manner, err)?;
     Ok(ran)
 }
 
@@ -117,24 +122,27 @@ pub(crate) fn run_over<
     R: Files + AllocGlobal + Clone + Drop + Threads + Wait + Sync,
     S: Sink,
     E: Write,
->(rt: &R, request: Request<'_>, sink: &mut S, progress: bool, err: &mut E) -> Result<Ran, Fault>
+>(rt: &R, request: Request<'_>, sink: &mut S, manner: Manner, err: &mut E) -> Result<Ran, Failure>
     requires failures { (S.account sink.old).failures ≡ 0 }
     requires handed { (S.account sink.old).handed ≡ 0 }
     ensures { HasRunOver request.entry.ticks request.entry.workers request.entry.strict (S.account sink.old) (S.account sink.new) result }
 {
-    let inputs = read_inputs(rt, request, progress, err)?;
-    run_into(rt, inputs, request, sink, progress, err)
+    let inputs = read_inputs(rt, request, manner, err)?;
+    match run_into(rt, inputs, request, sink, manner, err) {
+        Ok(ran) => Ok(ran),
+        Err(fault) => Err(failure_of_run(rt, request, fault, manner.explains)),
+    }
 }
 
-/// Writes the counts of a run, and answers the program's status.
-fn write_counts<O: Write>(outcome: &Outcome, out: &mut O) -> u8
+/// Writes the counts of a run, or why they could not be written, and answers the program's status.
+fn write_counts<O: Write, E: Write>(outcome: &Outcome, out: &mut O, err: &mut E) -> u8
     ensures { HasCounts outcome.now.chunks outcome.now.turns (O.contents out.old) (O.contents out.new) result }
 {
     let chunks = outcome.chunks;
     let turns = outcome.turns;
     match writeln!(out, "chunks {chunks} turns {turns}") {
         Ok(()) => 0,
-        Err(_) => FAULT,
+        Err(error) => report_output(err, &error),
     }
 }
 
@@ -168,7 +176,13 @@ fn note_uncovered<E: Write>(err: &mut E, without_row: u32) {
 /// Writes `chunks C turns T`, how many chunks were loaded and how many entries taken, and on standard error how many states have no
 /// row; or why there was no run. The answer is the program's status: 0; 1 where nothing was run, and where the line could not be
 /// written.
-pub fn report<O: Write, E: Write>(ran: &Result<Ran, Fault>, out: &mut O, err: &mut E) -> u8
+pub fn report<O: Write, E: Write>(
+    alloc: Global,
+    ran: &Result<Ran, Failure>,
+    explains: bool,
+    out: &mut O,
+    err: &mut E,
+) -> u8
     ensures { HasReported ran.now (O.contents out.old) (O.contents out.new) result }
 {
     match ran {
@@ -179,12 +193,12 @@ pub fn report<O: Write, E: Write>(ran: &Result<Ran, Fault>, out: &mut O, err: &m
             },
         ) => {
             note_uncovered(err, *without_row);
-            write_counts(outcome, out)
+            write_counts(outcome, out, err)
         }
         Ok(Ran::Uncovered(without_row)) => {
             let _ = write_strict(err, *without_row);
             FAULT
         }
-        Err(fault) => report_fault(err, fault),
+        Err(failure) => report_failure(alloc, err, failure, explains),
     }
 }

@@ -1,12 +1,12 @@
 -- What the view of a seat allows.
-use Rattle.std.proofs.Common.{◌≡◌, ◌<◌, ◌+◌, ◌-◌, ℕ, Bool, true, false, ◌||◌, List, [], ◌∷◌, ◌++◌, length, length-append, append_assoc, Option, Some, None, sym, refl, ap, ◌∙◌, subst, inl, inr, arith, All}
+use Rattle.std.proofs.Common.{◌≡◌, ◌<◌, ◌+◌, ◌-◌, ℕ, Bool, true, false, ◌||◌, List, [], ◌∷◌, ◌++◌, length, length-append, append_assoc, Option, Some, None, sym, refl, ap, ◌∙◌, subst, inl, inr, arith, All, map}
 use Rattle.crossbeam_queue.specs.Fifo.{Pushes, Pops, Forks, Learns}
 use Rattle.av_ring.specs.declared.view.View.{View}
 use Rattle.av_ring.specs.Ring.{Took, Shows, Counts, Kept, view_of, put, without_seat, seat_of, together, IsPart}
 use Rattle.atomic_table.specs.Seated.{TableId}
 use Rattle.std.specs.List.{flat_map, list_any}
 use Rattle.std.proofs.lemmas.Grind.{flat_map-append}
-use Rattle.std.proofs.lemmas.List.{append-nil}
+use Rattle.std.proofs.lemmas.List.{append-nil, map-append}
 use Rattle.std.proofs.lemmas.List.Folds.{list_any-append}
 use Rattle.std.proofs.lemmas.List.Sorted.{length_permutation}
 use Rattle.av_ring.specs.Shown.{RingShown, SeatShown, seat_shown, seat_view, IsSeatOf}
@@ -40,7 +40,7 @@ module _ {J : Type 0} where
   pub puts-job : (n port : ℕ) (v : View J) (x : J) (jobs : List J) → v ≡ view_of 1 0 1 jobs [] false → Pushes Kept n port v (Some x) (λ w. w ≡ put v (Some x)) × Learns Kept port v (Counts v)
   puts-job n port v x jobs is =
       let p : v.parts ≡ 1 = ap (λ (u : View J). u.parts) is in let a : v.all ≡ 1 = ap (λ (u : View J). u.all) is in (
-        puts_job n port v x (omega arith) (omega arith) (ap (λ (u : View J). u.ends) is) (ap (λ (u : View J). u.dry) is),
+        puts_job n port v x (omega arith) (omega arith) (ap (λ (u : View J). u.ends) is) (ap (λ (u : View J). u.dry) is) (ap (λ (u : View J). u.heard) is),
         learns-counts port v,
       )
 
@@ -63,17 +63,19 @@ module _ {J : Type 0} where
       omega (arith, ap length is, length-append first left, length-append (taken ++ x ∷ []) part.0, length-append taken (x ∷ []))
 
   -- a seat has come back
-  pub back-more : (v u w : View J) (first : List J) (wet : Bool) (seen : List (SeatShown J)) (s : SeatShown J) (ring : TableId) (n : ℕ) (jobs taken : List J) (dry : Bool)
+  pub back-more : (v u w : View J) (first : List J) (told : List (List J)) (wet : Bool) (seen : List (SeatShown J)) (s : SeatShown J) (ring : TableId) (n : ℕ) (jobs taken : List J) (dry : Bool)
       → w ≡ together v u → u ≡ seat_view n jobs taken dry → s ≡ seat_shown ring n jobs taken dry
-      → v.taken ≡ first ++ flat_map (λ (r : SeatShown J). r.taken) seen → v.dry ≡ (wet || list_any (λ (r : SeatShown J). r.dry) seen)
-      → (w.parts ≡ v.parts + 1) × (w.told ≡ v.told) × (w.all ≡ v.all) × (w.taken ≡ first ++ flat_map (λ (r : SeatShown J). r.taken) (seen ++ s ∷ [])) × (w.dry ≡ (wet || list_any (λ (r : SeatShown J). r.dry) (seen ++ s ∷ [])))
-  back-more v u w first wet seen s ring n jobs taken dry w_is u_is s_is taken_is dry_is =
+      → v.heard ≡ told ++ map (λ (r : SeatShown J). r.jobs) seen → v.taken ≡ first ++ flat_map (λ (r : SeatShown J). r.taken) seen → v.dry ≡ (wet || list_any (λ (r : SeatShown J). r.dry) seen)
+      → (w.parts ≡ v.parts + 1) × (w.told ≡ v.told) × (w.all ≡ v.all) × (w.heard ≡ told ++ map (λ (r : SeatShown J). r.jobs) (seen ++ s ∷ [])) × (w.taken ≡ first ++ flat_map (λ (r : SeatShown J). r.taken) (seen ++ s ∷ [])) × (w.dry ≡ (wet || list_any (λ (r : SeatShown J). r.dry) (seen ++ s ∷ [])))
+  back-more v u w first told wet seen s ring n jobs taken dry w_is u_is s_is heard_is taken_is dry_is =
+      let theirs : u.told ∷ u.heard ≡ s.jobs ∷ [] = ap (λ (x : View J). x.told ∷ x.heard) u_is ∙ sym (ap (λ (r : SeatShown J). r.jobs ∷ []) s_is) in
       let t : u.taken ≡ s.taken = ap (λ (x : View J). x.taken) u_is ∙ sym (ap (λ (r : SeatShown J). r.taken) s_is) in
       let d : u.dry ≡ s.dry = ap (λ (x : View J). x.dry) u_is ∙ sym (ap (λ (r : SeatShown J). r.dry) s_is) in
       let some = flat_map (λ (r : SeatShown J). r.taken) seen in let any = list_any (λ (r : SeatShown J). r.dry) seen in (
         ap (λ (x : View J). x.parts) w_is ∙ ap (λ (k : ℕ). v.parts + k) (ap (λ (x : View J). x.parts) u_is),
         ap (λ (x : View J). x.told) w_is,
         ap (λ (x : View J). x.all) w_is,
+        ap (λ (x : View J). x.heard) w_is ∙ (λ i. heard_is i ++ theirs i) ∙ append_assoc told (map (λ (r : SeatShown J). r.jobs) seen) (s.jobs ∷ []) ∙ ap (λ (l : List (List J)). told ++ l) (sym (map-append (λ (r : SeatShown J). r.jobs) seen (s ∷ []))),
         ap (λ (x : View J). x.taken) w_is ∙ (λ i. taken_is i ++ t i) ∙ append_assoc first some s.taken ∙ ap (λ (l : List J). first ++ (some ++ l)) (sym (append-nil s.taken)) ∙ ap (λ (l : List J). first ++ l) (sym (flat_map-append (λ (r : SeatShown J). r.taken) seen (s ∷ []))),
         ap (λ (x : View J). x.dry) w_is ∙ (λ i. dry_is i || d i) ∙ or_assoc wet any s.dry ∙ ap (λ (b : Bool). wet || (any || b)) (or_false s.dry) ∙ ap (λ (b : Bool). wet || b) (sym (list_any-append (λ (r : SeatShown J). r.dry) seen (s ∷ []))),
       )

@@ -3,19 +3,23 @@ use Rattle.std.proofs.Common.{◌≡◌, ◌≢◌, ◌<◌, ◌+◌, ◌-◌, �
 use mathlib.Core.Option.{some, some-injective, some-ne-none}
 use lib.ListN.{get_elem?}
 use Rattle.std.proofs.lemmas.List.{append-nil}
-use Rattle.std.specs.List.{flat_map}
+use Rattle.std.specs.List.{flat_map, AllByRecursion}
 use Rattle.std.specs.List.Sorted.{IsPermutation}
 use Rattle.std.proofs.lemmas.Grind.{flat_map-append}
 use Rattle.std.proofs.lemmas.List.Sorted.{IsPermutation-refl, IsPermutation-append_left, IsPermutation-append_right, IsPermutation-trans, IsPermutation-sym, IsPermutation-middle, length_permutation}
 use Rattle.crossbeam_queue.specs.Fifo.{Pushes, Pops, Forks, Merges, Learns}
 use Rattle.crossbeam_queue.proofs.Lists.{at_snoc, set_else}
 use Rattle.av_ring.specs.declared.view.View.{View}
-use Rattle.av_ring.specs.Ring.{jobs_of, ends_of, InLine, view_of, filler, idle, seat_of, without_seat, together, put, Took, Shows, Counts, Fits, Kept}
+use Rattle.av_ring.specs.Ring.{jobs_of, ends_of, InLine, filler, idle, seat_of, without_seat, together, put, Took, Shows, Counts, Fits, Kept}
 use Rattle.av_ring.proofs.Totals.{total_set, total_snoc, total_at, total_two, total_alone, each_set, flat_same, flat_grow, flat_part, flat_alone, flat_out}
 
 not_true : (b : Bool) → (b ≡ true → ⊥) → b ≡ false
 not_true true n = absurd (n refl)
 not_true false n = refl
+
+all_joined : {X : Type 0} (P : X → Type 0) (xs ys : List X) → AllByRecursion P xs → AllByRecursion P ys → AllByRecursion P (xs ++ ys)
+all_joined P [] ys a b = b
+all_joined P (x ∷ xs) ys a b = (a.0, all_joined P xs ys a.1 b)
 
 one_of : (a b : Bool) → (a || b) ≡ true → (a ≡ true) ⊎ (b ≡ true)
 one_of true b e = inl refl
@@ -60,18 +64,18 @@ module _ {J : Type 0} where
 
   fits-idle : (filled : List J) (all : ℕ) (items : List (Option J)) (u : View J) → u ≡ idle → Fits filled all items u
   fits-idle filled all items u is =
-      subst (Fits filled all items) (sym is) (record { idle_is = λ e. refl; told_is = λ lt. absurd (omega arith); dry_is = λ d. absurd (true≢false (sym d)) })
+      subst (Fits filled all items) (sym is) (record { idle_is = λ e. refl; told_is = λ lt. absurd (omega arith); heard_is = tt; dry_is = λ d. absurd (true≢false (sym d)) })
 
   first_fits : (port : ℕ) (v : View J) → get_elem? (filler ∷ []) port ≡ some v → Fits [] 1 [] v
-  first_fits zero v e = subst (Fits [] 1 []) (some-injective filler v e) (record { idle_is = λ p. absurd (omega arith); told_is = λ lt. (refl, refl); dry_is = λ d. refl })
+  first_fits zero v e = subst (Fits [] 1 []) (some-injective filler v e) (record { idle_is = λ p. absurd (omega arith); told_is = λ lt. (refl, refl); heard_is = tt; dry_is = λ d. refl })
   first_fits (suc port) v e = absurd (some-ne-none v (sym e))
 
   pub begins : Kept {J = J} [] (filler ∷ [])
   begins = record { filled = []; all = 1; parts_are = refl; ends_are = refl; in_line = tt; whole = IsPermutation-refl []; each = first_fits }
 
   -- a job is put in by who has all parts, before any end
-  pub puts_job : (n port : ℕ) (v : View J) (x : J) → 0 < v.parts → v.parts ≡ v.all → v.ends ≡ 0 → v.dry ≡ false → Pushes Kept n port v (Some x) (λ w. w ≡ put v (Some x))
-  puts_job n port v x some_part all none wet items views room k at =
+  pub puts_job : (n port : ℕ) (v : View J) (x : J) → 0 < v.parts → v.parts ≡ v.all → v.ends ≡ 0 → v.dry ≡ false → v.heard ≡ [] → Pushes Kept n port v (Some x) (λ w. w ≡ put v (Some x))
+  puts_job n port v x some_part all none wet first items views room k at =
       let w : View J = put v (Some x) in
       let others = alone items views port v k at some_part all in
       let mine = k.each port v at in
@@ -89,7 +93,7 @@ module _ {J : Type 0} where
           in_line = line-job items x no_ends;
           whole = rw (flat_same (λ (u : View J). u.taken) views port v w at refl, jobs_of-append items (Some x ∷ []), sym (append_assoc (flat_map (λ (u : View J). u.taken) views) (jobs_of items) (x ∷ []))) (IsPermutation-append_left (x ∷ []) _ _ k.whole);
           each = each_set (Fits (k.filled ++ x ∷ []) k.all (items ++ Some x ∷ [])) views port w
-              (record { idle_is = λ e. absurd (omega arith); told_is = λ lt. let t = mine.told_is some_part in (ap (λ (l : List J). l ++ x ∷ []) t.0, t.1); dry_is = λ d. absurd (true≢false (sym d ∙ wet)) })
+              (record { idle_is = λ e. absurd (omega arith); told_is = λ lt. let t = mine.told_is some_part in (ap (λ (l : List J). l ++ x ∷ []) t.0, t.1); heard_is = subst (AllByRecursion (λ (l : List J). l ≡ k.filled ++ x ∷ [])) (sym first) tt; dry_is = λ d. absurd (true≢false (sym d ∙ wet)) })
               (λ j u n e. fits-idle (k.filled ++ x ∷ []) k.all (items ++ Some x ∷ []) u (others j u n e));
         },
         refl,
@@ -115,7 +119,7 @@ module _ {J : Type 0} where
           in_line = line-end items k.in_line;
           whole = rw (flat_same (λ (u : View J). u.taken) views port v w at refl, same) k.whole;
           each = each_set (Fits k.filled (v.ends + 1) (items ++ None ∷ [])) views port w
-              (record { idle_is = λ e. absurd (omega arith); told_is = λ lt. ((mine.told_is some_part).0, refl); dry_is = λ d. same ∙ mine.dry_is d })
+              (record { idle_is = λ e. absurd (omega arith); told_is = λ lt. ((mine.told_is some_part).0, refl); heard_is = mine.heard_is; dry_is = λ d. same ∙ mine.dry_is d })
               (λ j u n e. fits-idle k.filled (v.ends + 1) (items ++ None ∷ []) u (others j u n e));
         },
         refl,
@@ -140,7 +144,7 @@ module _ {J : Type 0} where
   -- a job is taken out by a seat
   takes_job : (port : ℕ) (v : View J) (x : J) (items : List (Option J)) (views : List (View J)) → 0 < v.parts → Kept (Some x ∷ items) views → get_elem? views port ≡ some v → (w : View J) × Kept items (set views port w) × Took v (Some x) w
   takes_job port v x items views some_part k at =
-      let w : View J = view_of v.parts v.ends v.all v.told (v.taken ++ x ∷ []) v.dry in
+      let w : View J = record v { taken = v.taken ++ x ∷ [] } in
       let taken = λ (u : View J). u.taken in
       let mine = k.each port v at in
       let parts = total_set (λ (u : View J). u.parts) views port v w at in
@@ -159,8 +163,8 @@ module _ {J : Type 0} where
           in_line = k.in_line;
           whole = IsPermutation-trans _ _ _ k.whole (rw (sym (append_assoc (flat_map taken views) (x ∷ []) (jobs_of items))) (IsPermutation-append_left (jobs_of items) _ _ (flat_grow taken views port v w (x ∷ []) at refl)));
           each = each_set (Fits k.filled k.all items) views port w
-              (record { idle_is = λ e. absurd (omega arith); told_is = mine.told_is; dry_is = λ d. absurd (wet v mine d) })
-              (λ j u n e. let theirs = k.each j u e in record { idle_is = theirs.idle_is; told_is = theirs.told_is; dry_is = λ d. absurd (wet u theirs d) });
+              (record { idle_is = λ e. absurd (omega arith); told_is = mine.told_is; heard_is = mine.heard_is; dry_is = λ d. absurd (wet v mine d) })
+              (λ j u n e. let theirs = k.each j u e in record { idle_is = theirs.idle_is; told_is = theirs.told_is; heard_is = theirs.heard_is; dry_is = λ d. absurd (wet u theirs d) });
         },
         (refl, not_true v.dry (wet v mine), (part.0 ++ jobs_of items, subst Part (sym told) (part_more k.filled (flat_map taken views) v.taken part.0 (jobs_of items) x k.whole part.1))),
       )
@@ -168,7 +172,7 @@ module _ {J : Type 0} where
   -- an end is taken out
   takes_end : (port : ℕ) (v : View J) (items : List (Option J)) (views : List (View J)) → 0 < v.parts → 0 < v.ends → Kept (None ∷ items) views → get_elem? views port ≡ some v → (w : View J) × Kept items (set views port w) × Took v None w
   takes_end port v items views some_part some_end k at =
-      let w : View J = view_of v.parts (v.ends - 1) v.all v.told v.taken true in
+      let w : View J = record v { ends = v.ends - 1; dry = true } in
       let mine = k.each port v at in
       let parts = total_set (λ (u : View J). u.parts) views port v w at in
       let ends = total_set (λ (u : View J). u.ends) views port v w at in
@@ -182,8 +186,8 @@ module _ {J : Type 0} where
           in_line = line-rest items k.in_line;
           whole = rw (flat_same (λ (u : View J). u.taken) views port v w at refl) k.whole;
           each = each_set (Fits k.filled k.all items) views port w
-              (record { idle_is = λ e. absurd (omega arith); told_is = mine.told_is; dry_is = λ d. k.in_line })
-              (λ j u n e. let theirs = k.each j u e in record { idle_is = theirs.idle_is; told_is = theirs.told_is; dry_is = λ d. k.in_line });
+              (record { idle_is = λ e. absurd (omega arith); told_is = mine.told_is; heard_is = mine.heard_is; dry_is = λ d. k.in_line })
+              (λ j u n e. let theirs = k.each j u e in record { idle_is = theirs.idle_is; told_is = theirs.told_is; heard_is = theirs.heard_is; dry_is = λ d. k.in_line });
         },
         refl,
       )
@@ -210,9 +214,9 @@ module _ {J : Type 0} where
       let ends' = total_snoc (λ (u : View J). u.ends) vs r in
       let ends_in = k.ends_are in let parts_in = k.parts_are in
       let old = each_set (Fits k.filled k.all items) views port l
-      (record { idle_is = λ e. absurd (omega arith); told_is = λ lt. mine.told_is (omega arith); dry_is = mine.dry_is })
+      (record { idle_is = λ e. absurd (omega arith); told_is = λ lt. mine.told_is (omega arith); heard_is = mine.heard_is; dry_is = mine.dry_is })
       (λ j u n e. k.each j u e) in
-      let new : Fits k.filled k.all items r = record { idle_is = λ e. absurd (omega arith); told_is = λ lt. mine.told_is (omega arith); dry_is = λ d. absurd (true≢false (sym d)) } in
+      let new : Fits k.filled k.all items r = record { idle_is = λ e. absurd (omega arith); told_is = λ lt. mine.told_is (omega arith); heard_is = tt; dry_is = λ d. absurd (true≢false (sym d)) } in
       record {
         filled = k.filled;
         all = k.all;
@@ -224,8 +228,8 @@ module _ {J : Type 0} where
       }
 
   -- a seat comes back
-  pub merges : (port : ℕ) (v : View J) (other : ℕ) (u : View J) → 0 < v.parts → Merges Kept port v other u (together v u) idle
-  merges port v other u some_part items views k at n at' =
+  pub merges : (port : ℕ) (v : View J) (other : ℕ) (u : View J) → 0 < v.parts → 0 < u.parts → Merges Kept port v other u (together v u) idle
+  merges port v other u some_part some_other items views k at n at' =
       let both : View J = together v u in let taken = λ (x : View J). x.taken in
       let vs : List (View J) = set views port both in let rest : List (View J) = set views other idle in
       let was : get_elem? views other ≡ some u = sym (set_else views port other both n) ∙ at' in
@@ -252,6 +256,7 @@ module _ {J : Type 0} where
             (record {
               idle_is = λ z. absurd (omega arith);
               told_is = λ lt. mine.told_is some_part;
+              heard_is = all_joined (λ (l : List J). l ≡ k.filled) v.heard (u.told ∷ u.heard) mine.heard_is ((theirs.told_is some_other).0, theirs.heard_is);
               dry_is = λ d. ⊎_elim mine.dry_is theirs.dry_is (one_of v.dry u.dry d);
             })
             (λ i y off f. k.each i y f) j x e);
@@ -263,6 +268,7 @@ module _ {J : Type 0} where
         (λ some_end. omega arith),
         λ all. let only = flat_alone (λ (u : View J). u.taken) views port v at (λ j u n e. ap (λ (u : View J). u.taken) (alone items views port v k at some_part all j u n e)) in
             rw ((k.each port v at).told_is some_part).0 (rw (sym only) k.whole),
+        (let Same : List J → Type 0 = λ l. AllByRecursion (λ (t : List J). t ≡ l) v.heard in subst Same (sym ((k.each port v at).told_is some_part).0) (k.each port v at).heard_is),
       )
 
   pub learns-counts : (port : ℕ) (v : View J) → Learns Kept port v (Counts v)

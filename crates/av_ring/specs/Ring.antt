@@ -1,6 +1,6 @@
 -- The rule of the ring. It holds jobs, and behind them an end for each seat that is not dry.
 use Rattle.std.specs.Prelude.{◌≡◌, ℕ, ◌+◌, ◌-◌, ◌<◌, ◌||◌, List, [], ◌∷◌, ◌++◌, length, Option, Some, None, Bool, true, false}
-use Rattle.std.specs.List.{flat_map}
+use Rattle.std.specs.List.{flat_map, AllByRecursion}
 use Rattle.std.specs.List.Sorted.{IsPermutation}
 use mathlib.Core.Option.{some}
 use lib.ListN.{get_elem?}
@@ -30,8 +30,9 @@ module _ {J : Type 0} where
   InLine (Some x ∷ items) = InLine items
   InLine (None ∷ items) = jobs_of items ≡ []
 
+  -- the view of one to whom no seat came back
   abbrev pub view_of : ℕ → ℕ → ℕ → List J → List J → Bool → View J
-  view_of parts ends all told taken dry = record { parts = parts; ends = ends; all = all; told = told; taken = taken; dry = dry }
+  view_of parts ends all told taken dry = record { parts = parts; ends = ends; all = all; told = told; heard = []; taken = taken; dry = dry }
 
   -- the view that fills, which has the only part
   abbrev pub filler : View J
@@ -46,14 +47,20 @@ module _ {J : Type 0} where
   seat_of v = view_of 1 1 v.all v.told [] false
 
   abbrev pub without_seat : View J → View J
-  without_seat v = view_of (v.parts - 1) (v.ends - 1) v.all v.told v.taken v.dry
+  without_seat v = record v { parts = v.parts - 1; ends = v.ends - 1 }
 
   abbrev pub together : View J → View J → View J
-  together v w = view_of (v.parts + w.parts) (v.ends + w.ends) v.all v.told (v.taken ++ w.taken) (v.dry || w.dry)
+  together v w = record v {
+    parts = v.parts + w.parts;
+    ends = v.ends + w.ends;
+    heard = v.heard ++ w.told ∷ w.heard;
+    taken = v.taken ++ w.taken;
+    dry = v.dry || w.dry;
+  }
 
   abbrev pub put : View J → Option J → View J
-  put v (Some x) = view_of v.parts v.ends v.all (v.told ++ x ∷ []) v.taken v.dry
-  put v None = view_of (v.ends + 1) (v.ends + 1) (v.ends + 1) v.told v.taken v.dry
+  put v (Some x) = record v { told = v.told ++ x ∷ [] }
+  put v None = record v { parts = v.ends + 1; ends = v.ends + 1; all = v.ends + 1 }
 
   -- part is among whole, each as often
   abbrev pub IsPart : List J → List J → Type 0
@@ -61,12 +68,12 @@ module _ {J : Type 0} where
 
   -- a job that was filled and not taken before, of a ring that no seat found dry; or an end
   abbrev pub Took : View J → Option J → View J → Type 0
-  Took v (Some x) w = (w ≡ view_of v.parts v.ends v.all v.told (v.taken ++ x ∷ []) v.dry) × (v.dry ≡ false) × IsPart v.told (v.taken ++ x ∷ [])
-  Took v None w = w ≡ view_of v.parts (v.ends - 1) v.all v.told v.taken true
+  Took v (Some x) w = (w ≡ record v { taken = v.taken ++ x ∷ [] }) × (v.dry ≡ false) × IsPart v.told (v.taken ++ x ∷ [])
+  Took v None w = w ≡ record v { ends = v.ends - 1; dry = true }
 
-  -- a seat that has an end to come finds the ring not empty. Who has all parts sees the whole
+  -- a seat that has an end to come finds the ring not empty. Who has all parts sees the whole. All seats were told the same
   abbrev pub Shows : View J → List (Option J) → Type 0
-  Shows v items = (0 < v.ends → 0 < length items) × (v.parts ≡ v.all → IsPermutation v.told (v.taken ++ jobs_of items))
+  Shows v items = (0 < v.ends → 0 < length items) × (v.parts ≡ v.all → IsPermutation v.told (v.taken ++ jobs_of items)) × AllByRecursion (λ t. t ≡ v.told) v.heard
 
   -- who has all parts and has taken nothing knows how much the ring holds
   abbrev pub Counts : View J → List (Option J) → Type 0
@@ -75,6 +82,7 @@ module _ {J : Type 0} where
   pub record Fits (filled : List J) (all : ℕ) (items : List (Option J)) (v : View J) : Type 0 where
     pub idle_is : v.parts ≡ 0 → v ≡ idle
     pub told_is : 0 < v.parts → (v.told ≡ filled) × (v.all ≡ all)
+    pub heard_is : AllByRecursion (λ t. t ≡ filled) v.heard
     pub dry_is : v.dry ≡ true → jobs_of items ≡ []
 
   pub record Kept (items : List (Option J)) (views : List (View J)) : Type 0 where

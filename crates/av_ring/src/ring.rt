@@ -1,6 +1,6 @@
 //! The ring and its seats.
-ghost use Rattle.std.specs.Prelude.{◌≡◌, ◌≢◌, ◌+◌, ◌-◌, ◌<◌, ◌≤◌, ◌++◌, ◌||◌, [], ◌∷◌, ℕ, length, true, false, All, IfOk, IfErr, IfSome, IfNone, None, vec_len, vec_capacity, List};
-ghost use Rattle.std.specs.List.{flat_map, list_any};
+ghost use Rattle.std.specs.Prelude.{◌≡◌, ◌≢◌, ◌+◌, ◌-◌, ◌<◌, ◌≤◌, ◌++◌, ◌||◌, [], ◌∷◌, ℕ, length, true, false, All, IfOk, IfErr, IfSome, IfNone, None, vec_len, vec_capacity, map};
+ghost use Rattle.std.specs.List.{AllByRecursion, flat_map, list_any};
 ghost use Rattle.std.specs.List.Sorted.{IsPermutation};
 ghost use Rattle.crossbeam_queue.specs.Passes.{view as known, IsPassOf, ruled_capacity};
 ghost use Rattle.av_types.specs.declared.fault.Fault.TheVariants.{OutOfMemory};
@@ -90,7 +90,7 @@ impl<J: Numbered + Drop + Send> JobRing<J> {
     }
 
     /// Ends the ring, whose seats have all come back, and hands out the jobs that are left. Those and what was taken at
-    /// all seats are together the jobs that were filled, each once. Where a seat is dry, nothing is left.
+    /// all seats are together the jobs that were filled, which each seat tells, each once. Where a seat is dry, nothing is left.
     ///
     /// # Errors
     /// `OutOfMemory`, with the ring and the seats as they were given.
@@ -102,7 +102,7 @@ impl<J: Numbered + Drop + Send> JobRing<J> {
     ) -> Result<Vec<J>, (Fault, JobRing<J>, Vec<Seat<J>>)>
         requires all { vec_len seats ≡ self.seats }
         requires seats { All (IsSeatOf self) seats.items }
-        ensures whole { IfOk result (λ left. (jobs : List J) → All (λ s. s.jobs ≡ jobs) seats.items → IsPermutation jobs (flat_map (λ s. s.taken) seats.items ++ left.items)) }
+        ensures whole { IfOk result (λ left. All (λ s. IsPermutation s.jobs (flat_map (λ r. r.taken) seats.items ++ left.items)) seats.items) }
         ensures dry { IfOk result (λ left. list_any (λ s. s.dry) seats.items ≡ true → left.items ≡ []) }
         ensures err { IfErr result (λ e. (e.0 ≡ OutOfMemory) × (e.1 ≡ self) × (e.2 ≡ seats)) }
     {
@@ -236,6 +236,7 @@ fn take_back<J: Numbered + Drop + Send>(
     ensures parts { (known pass.new).parts ≡ (known pass.old).parts + vec_len seats }
     ensures told { ((known pass.new).told ≡ (known pass.old).told) × ((known pass.new).all ≡ (known pass.old).all) }
     ensures taken { (known pass.new).taken ≡ (known pass.old).taken ++ flat_map (λ s. s.taken) seats.items }
+    ensures heard { (known pass.new).heard ≡ (known pass.old).heard ++ map (λ s. s.jobs) seats.items }
     ensures dry { (known pass.new).dry ≡ ((known pass.old).dry || list_any (λ s. s.dry) seats.items) }
 {
     for seat in seats {
@@ -258,6 +259,7 @@ fn drain<J: Numbered + Drop + Send, R: Wait>(
     requires parts { (0 < (known pass.old).parts) × ((known pass.old).parts ≡ (known pass.old).all) }
     requires room { (left.items ≡ []) × (length (known pass.old).told ≤ vec_capacity left) }
     ensures whole { IsPermutation (known pass.old).told ((known pass.old).taken ++ result.items) }
+    ensures heard { AllByRecursion (λ t. t ≡ (known pass.old).told) (known pass.old).heard }
     ensures dry { (known pass.old).dry ≡ true → result.items ≡ [] }
 {
     for _ in rt.forever() {

@@ -14,6 +14,8 @@ pub struct View<J> {
     pub all: u64,
     /// The jobs that were filled.
     pub told: LinkedList<J>,
+    /// What the seats that came back here were told of them.
+    pub heard: LinkedList<LinkedList<J>>,
     /// Those that were taken here.
     pub taken: LinkedList<J>,
     /// Whether an end marker was taken here.

@@ -5,7 +5,7 @@ use Rattle.av_types.specs.declared.place.Height.{Height}
 use Rattle.av_types.specs.declared.place.ChunkPos.{ChunkPos}
 use Rattle.av_types.specs.declared.place.Pos.{Pos}
 use Rattle.av_types.specs.declared.fault.Fault.{Fault}
-use Rattle.av_types.specs.declared.fault.Fault.TheVariants.{OutOfMemory, BadCount, BadEdit, EditTick, EditOutside, TooManyStates}
+use Rattle.av_types.specs.declared.fault.Fault.TheVariants.{OutOfMemory, BadCount, EditTick, EditOutside, TooManyStates}
 use Rattle.av_state.specs.BlockState.{BlockState}
 use Rattle.av_state.specs.StateList.{first_states, with_state, most_states}
 use Rattle.av_document.specs.Chunk.{root_tags}

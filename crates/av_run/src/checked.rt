@@ -1,9 +1,10 @@
-//! A run that may ask for a row for each state.
+//! A run from files to files, which may ask for a row for each state.
 ghost use Rattle.std.specs.Prelude.{◌≡◌, ◌≢◌, ◌&&◌, nat_lt, IfOk, IfErr, map};
 ghost use Rattle.av_types.specs.declared.fault.Fault.TheVariants.{OutOfMemory};
 ghost use Rattle.av_state.specs.Table.{states};
 ghost use Rattle.av_rules.specs.Tables.{table_of};
 ghost use Rattle.av_image.specs.Views.{file_in};
+ghost use Rattle.av_run.specs.Answer.{IsRunAnswer};
 ghost use Rattle.av_run.specs.Input.{IsInputFault};
 ghost use Rattle.av_run.specs.Checked.{IsCheckedAnswer, IsCountedInput, without_row};
 
@@ -11,8 +12,8 @@ use crate::counts::are_counts_good;
 use crate::input::{Input, load_new_on, read_rules, with_edits};
 use crate::runs::{Outcome, finish};
 use av_crew::Gate;
+use av_region_files::RegionFile;
 use av_rules::Rules;
-use av_sink::RegionFile;
 use av_state::StateTable;
 use av_types::Fault;
 use std::alloc::Global;
@@ -104,4 +105,39 @@ pub fn run_checked<R: Threads + Wait + Sync, G: Gate + Sync>(
         outcome,
         without_row,
     })
+}
+
+/// Runs edits and water over the world of region files, lights it, and answers the files that it is written as. `table`
+/// is a block table, `edits` are lines of edits, and `workers` is how many threads turn blocks at most, the calling one
+/// among them; the answer is the same for each number of them. One worker's blocks, and in a tick those of few entries or
+/// of one large part, are turned by the calling thread on the world itself; else the workers turn the tick's parts. Where
+/// `gate` watches, all ticks are turned in parts. It is told of each part before and after its turns. A refused run hands
+/// out nothing.
+///
+/// # Errors
+/// The first of these: `BadCount` where there are not 1 to 8 workers, or more than 1,000,000 ticks or 1,024 files;
+/// `BadTable` where the table is none; `RegionRange` and then `RepeatedRegion` of the list of files; the first fault of the
+/// files by (z, x) of their regions, of each `ShortHeader` before those of its chunks by index, of a chunk the
+/// least-numbered one from `BadLocation` to `TooManyStates`; the fault of the first line of edits that has one, `BadEdit`,
+/// `EditTick`, `EditOutside` or `TooManyStates`; `ChunkTooLarge` for the first chunk that does not fit its file when all is
+/// done. `OutOfMemory` may stand in place of any.
+pub fn run<R: Threads + Wait + Sync, G: Gate + Sync>(
+    rt: &R,
+    alloc: Global,
+    files: Vec<RegionFile>,
+    table: &[u8],
+    edits: &[u8],
+    ticks: u32,
+    workers: u32,
+    gate: &G,
+) -> Result<Outcome, Fault>
+    ensures { IsRunAnswer (map file_in files.items) table.now edits.now ticks workers result }
+{
+    match run_checked(rt, alloc, files, table, edits, ticks, workers, false, gate)? {
+        Ran::Done {
+            outcome,
+            without_row: _,
+        } => Ok(outcome),
+        Ran::Uncovered(_) => unreachable!(),
+    }
 }

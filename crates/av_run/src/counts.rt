@@ -4,7 +4,7 @@ ghost use Rattle.av_files.specs.FirstFault.{AreCountsGood};
 ghost use Rattle.av_image.specs.Views.{file_in};
 ghost use Rattle.av_run.specs.Input.{AreFew};
 
-use av_sink::RegionFile;
+use av_region_files::RegionFile;
 
 const MOST_WORKERS: u32 = 8;
 

@@ -16,8 +16,8 @@ ghost use Rattle.av_run.specs.Input.{IsLoadedFrom, IsInput, IsInputFault, IsInpu
 use crate::counts::are_few;
 use av_edits::Edit;
 use av_image::{Rest, load, load_on};
+use av_region_files::RegionFile;
 use av_rules::{Kinds, Rules};
-use av_sink::RegionFile;
 use av_state::StateTable;
 use av_types::Fault;
 use av_world::World;
@@ -132,23 +132,6 @@ fn read_few(
     with_edits(alloc, loaded, &rules, edits, ticks)
 }
 
-/// The same. Several threads read the files.
-fn read_few_on(
-    rt: &(impl Threads + Sync),
-    alloc: Global,
-    files: Vec<RegionFile>,
-    table: &[u8],
-    edits: &[u8],
-    ticks: u32,
-) -> Result<Input, Fault>
-    ensures ok { IfOk result (IsInput (map file_in files.items) table.now edits.now ticks) }
-    ensures err { IfErr result (λ e. e ≢ OutOfMemory → IsInputFault (map file_in files.items) table.now edits.now ticks e) }
-{
-    let rules = read_rules(alloc, table)?;
-    let loaded = load_new_on(rt, alloc, files, &rules)?;
-    with_edits(alloc, loaded, &rules, edits, ticks)
-}
-
 /// What a run begins with, from its files, its block table and its edits, in this order.
 ///
 /// # Errors
@@ -167,21 +150,4 @@ pub fn read_input(
         return Err(Fault::BadCount);
     }
     read_few(alloc, files, table, edits, ticks)
-}
-
-/// What `read_input` answers, of the same. Several threads read the files.
-pub(crate) fn read_input_on(
-    rt: &(impl Threads + Sync),
-    alloc: Global,
-    files: Vec<RegionFile>,
-    table: &[u8],
-    edits: &[u8],
-    ticks: u32,
-) -> Result<Input, Fault>
-    ensures { IsInputAnswer (map file_in files.items) table.now edits.now ticks result }
-{
-    if !are_few(files.as_slice(), ticks) {
-        return Err(Fault::BadCount);
-    }
-    read_few_on(rt, alloc, files, table, edits, ticks)
 }

@@ -13,8 +13,8 @@ ghost use Rattle.av_run.specs.Input.{AreKindsBy};
 
 use av_image::{Rest, save_on};
 use av_light::light_all;
+use av_region_files::RegionFile;
 use av_rules::Kinds;
-use av_sink::RegionFile;
 use av_types::Fault;
 use av_world::World;
 use std::alloc::Global;

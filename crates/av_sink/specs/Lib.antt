@@ -1,4 +1,2 @@
-pub mod Names
 pub mod Account
 pub mod Saving
-pub mod Regions

@@ -4,9 +4,8 @@ ghost use Rattle.av_types.specs.declared.fault.Fault.TheVariants.{OutOfMemory};
 ghost use Rattle.av_sink.specs.Account.{IsDevice, with_failure, with_files};
 ghost use Rattle.av_sink.specs.Saving.{IsStopped, entry_of, named_file};
 
-use crate::files::RegionFile;
-use crate::names::region_name;
 use crate::sink::Sink;
+use av_region_files::{RegionFile, region_name};
 use av_types::Fault;
 use std::alloc::{AllocError, Global};
 

@@ -16,7 +16,7 @@ use Rattle.av_document.specs.Chunk.{root_tags, first_fault}
 use Rattle.av_chunk.specs.declared.chunk.Reading.{Reading}
 use Rattle.av_chunk.specs.declared.chunk.Reading.TheVariants.{Full, Kept}
 use Rattle.av_chunk.specs.Reading.{IsReading}
-use Rattle.av_sink.specs.declared.files.RegionFile.{RegionFile}
+use Rattle.av_region_files.specs.declared.files.RegionFile.{RegionFile}
 use Rattle.av_survey.specs.declared.finding.Finding.{Finding}
 use Rattle.av_survey.specs.Survey.{FindsInAll, FindsInFile, FindsUpTo, IsFirstAt, IsFirstIn, IsFaultAlone, chunk, noted, spelling, document}
 use Rattle.av_chunk.specs.Payload.{IsPayloadFault, no_document, bad_document}

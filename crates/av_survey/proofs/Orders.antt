@@ -4,8 +4,8 @@ use Rattle.std.specs.declared.cmp.Ordering.{Ordering}
 use Rattle.std.specs.Cmp.{IsStrictWeakOrder}
 use Rattle.std.proofs.lemmas.Cmp.{then_total, on_total, int_cmp_total}
 use Rattle.std.proofs.lemmas.List.Sorted.{ranks_by}
-use Rattle.av_sink.specs.declared.files.RegionFile.{RegionFile}
-use Rattle.av_sink.specs.Regions.{region_order}
+use Rattle.av_region_files.specs.declared.files.RegionFile.{RegionFile}
+use Rattle.av_region_files.specs.Regions.{region_order}
 
 abbrev pub file_order : RegionFile → RegionFile → Ordering
 file_order a b = region_order a.pos b.pos

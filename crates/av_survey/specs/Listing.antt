@@ -4,9 +4,9 @@ use Rattle.std.specs.List.{All}
 use Rattle.av_types.specs.Places.{IsInLimits}
 use Rattle.av_types.specs.declared.fault.Fault.{Fault}
 use Rattle.av_types.specs.declared.fault.Fault.TheVariants.{BadCount, RegionRange, RepeatedRegion}
-use Rattle.av_sink.specs.Regions.{region_order, repeats_a_region}
+use Rattle.av_region_files.specs.Regions.{region_order, repeats_a_region}
 use Rattle.av_ticks.specs.Order.{ordered}
-use Rattle.av_sink.specs.declared.files.RegionFile.{RegionFile}
+use Rattle.av_region_files.specs.declared.files.RegionFile.{RegionFile}
 
 -- by (z, x) of their regions
 abbrev pub in_order : List RegionFile → List RegionFile

@@ -4,9 +4,9 @@ ghost use Rattle.std.specs.List.{All, list_any};
 ghost use Rattle.av_types.specs.declared.fault.Fault.TheVariants.{OutOfMemory};
 ghost use Rattle.av_types.specs.Places.{IsInLimits};
 ghost use Rattle.av_survey.specs.Listing.{IsListInOrder, IsListFault, in_order, share_a_region};
-ghost use Rattle.av_sink.specs.Regions.{same_region};
+ghost use Rattle.av_region_files.specs.Regions.{same_region};
 
-use av_sink::RegionFile;
+use av_region_files::RegionFile;
 use av_types::{Fault, RegionPos};
 use std::alloc::AllocError;
 

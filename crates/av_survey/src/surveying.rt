@@ -10,7 +10,7 @@ use crate::finding::Finding;
 use crate::listing::judged;
 use crate::places::fault_at;
 use av_region::Region;
-use av_sink::RegionFile;
+use av_region_files::RegionFile;
 use av_types::{Fault, Height, RegionPos};
 use std::alloc::{AllocError, Global};
 

@@ -35,21 +35,23 @@ count_rule name = record (option_rule name true) { parser = Some (Signed (pos 0)
 abbrev pub flag_rule : Text → Rule
 flag_rule name = record (new_rule name) { long = Some name; action = Some SetTrue }
 
--- `block [--table FILE] FILE X Y Z`
+-- `block [--table FILE] [--explain] FILE X Y Z`
 abbrev pub block_app : App
-block_app = with_rule (with_rule (with_rule (with_rule (with_rule (new_app (codes "block"))
+block_app = with_rule (with_rule (with_rule (with_rule (with_rule (with_rule (new_app (codes "block"))
     (file_rule (codes "FILE")))
     (number_rule (codes "X")))
     (number_rule (codes "Y")))
     (number_rule (codes "Z")))
-    (option_rule (codes "table") false)
+    (option_rule (codes "table") false))
+    (flag_rule (codes "explain"))
 
--- `check --in DIR [--table FILE] [--progress]`
+-- `check --in DIR [--table FILE] [--progress] [--explain]`
 abbrev pub check_app : App
-check_app = with_rule (with_rule (with_rule (new_app (codes "check"))
+check_app = with_rule (with_rule (with_rule (with_rule (new_app (codes "check"))
     (option_rule (codes "in") true))
     (option_rule (codes "table") false))
-    (flag_rule (codes "progress"))
+    (flag_rule (codes "progress")))
+    (flag_rule (codes "explain"))
 
 -- `--in DIR --out DIR --table FILE --edits FILE`
 abbrev pub with_files : App → App
@@ -59,28 +61,31 @@ with_files app = with_rule (with_rule (with_rule (with_rule app
     (option_rule (codes "table") true))
     (option_rule (codes "edits") true)
 
--- `run` with these, `--ticks N --workers N [--strict] [--progress]`
+-- `run` with these, `--ticks N --workers N [--strict] [--progress] [--explain]`
 abbrev pub run_app : App
-run_app = with_rule (with_rule (with_rule (with_rule (with_files (new_app (codes "run")))
+run_app = with_rule (with_rule (with_rule (with_rule (with_rule (with_files (new_app (codes "run")))
     (count_rule (codes "ticks")))
     (count_rule (codes "workers")))
     (flag_rule (codes "strict")))
-    (flag_rule (codes "progress"))
+    (flag_rule (codes "progress")))
+    (flag_rule (codes "explain"))
 
--- `map --in DIR --out FILE [--table FILE] [--colours FILE] [--light]`
+-- `map --in DIR --out FILE [--table FILE] [--colours FILE] [--light] [--explain]`
 abbrev pub map_app : App
-map_app = with_rule (with_rule (with_rule (with_rule (with_rule (new_app (codes "map"))
+map_app = with_rule (with_rule (with_rule (with_rule (with_rule (with_rule (new_app (codes "map"))
     (option_rule (codes "in") true))
     (option_rule (codes "out") true))
     (option_rule (codes "table") false))
     (option_rule (codes "colours") false))
-    (flag_rule (codes "light"))
+    (flag_rule (codes "light")))
+    (flag_rule (codes "explain"))
 
--- `states --in DIR [--table FILE]`
+-- `states --in DIR [--table FILE] [--explain]`
 abbrev pub states_app : App
-states_app = with_rule (with_rule (new_app (codes "states"))
+states_app = with_rule (with_rule (with_rule (new_app (codes "states"))
     (option_rule (codes "in") true))
-    (option_rule (codes "table") false)
+    (option_rule (codes "table") false))
+    (flag_rule (codes "explain"))
 
 -- the program, without its own name among the words
 abbrev pub program_shape : Shape
@@ -129,15 +134,17 @@ MayHaveText rows name text = first_of name rows ≡ option_map (λ t. t.now) tex
 
 -- the values of a command, as the words give them
 abbrev pub HasValues : List Row → Words → Type 0
-HasValues rows (Block file at table) = HasText rows (codes "FILE") file
+HasValues rows (Block file at table explain) = HasText rows (codes "FILE") file
     × HasNumber rows (codes "X") at.x
     × HasNumber rows (codes "Y") at.y
     × HasNumber rows (codes "Z") at.z
     × MayHaveText rows (codes "table") table
-HasValues rows (Check input table progress) = HasText rows (codes "in") input
+    × HasFlag rows (codes "explain") explain
+HasValues rows (Check input table progress explain) = HasText rows (codes "in") input
     × MayHaveText rows (codes "table") table
     × HasFlag rows (codes "progress") progress
-HasValues rows (Run input output table edits ticks workers strict progress) = HasText rows (codes "in") input
+    × HasFlag rows (codes "explain") explain
+HasValues rows (Run input output table edits ticks workers strict progress explain) = HasText rows (codes "in") input
     × HasText rows (codes "out") output
     × HasText rows (codes "table") table
     × HasText rows (codes "edits") edits
@@ -145,20 +152,39 @@ HasValues rows (Run input output table edits ticks workers strict progress) = Ha
     × HasCount rows (codes "workers") workers
     × HasFlag rows (codes "strict") strict
     × HasFlag rows (codes "progress") progress
-HasValues rows (Map input picture table colours light) = HasText rows (codes "in") input
+    × HasFlag rows (codes "explain") explain
+HasValues rows (Map input picture table colours light explain) = HasText rows (codes "in") input
     × HasText rows (codes "out") picture
     × MayHaveText rows (codes "table") table
     × MayHaveText rows (codes "colours") colours
     × HasFlag rows (codes "light") light
-HasValues rows (States input table) = HasText rows (codes "in") input
+    × HasFlag rows (codes "explain") explain
+HasValues rows (States input table explain) = HasText rows (codes "in") input
     × MayHaveText rows (codes "table") table
+    × HasFlag rows (codes "explain") explain
 
 abbrev pub name_of : Words → Text
-name_of (Block file at table) = codes "block"
-name_of (Check input table progress) = codes "check"
-name_of (Run input output table edits ticks workers strict progress) = codes "run"
-name_of (Map input picture table colours light) = codes "map"
-name_of (States input table) = codes "states"
+name_of (Block file at table explain) = codes "block"
+name_of (Check input table progress explain) = codes "check"
+name_of (Run input output table edits ticks workers strict progress explain) = codes "run"
+name_of (Map input picture table colours light explain) = codes "map"
+name_of (States input table explain) = codes "states"
+
+-- whether a command is to say how far it is, where it has a word for that
+abbrev pub progress_of : Words → Bool
+progress_of (Check input table progress explain) = progress
+progress_of (Run input output table edits ticks workers strict progress explain) = progress
+progress_of (Block file at table explain) = false
+progress_of (Map input picture table colours light explain) = false
+progress_of (States input table explain) = false
+
+-- whether it is to say why it failed
+abbrev pub explain_of : Words → Bool
+explain_of (Block file at table explain) = explain
+explain_of (Check input table progress explain) = explain
+explain_of (Run input output table edits ticks workers strict progress explain) = explain
+explain_of (Map input picture table colours light explain) = explain
+explain_of (States input table explain) = explain
 
 -- the command is the one that the words name, with the values that they give
 pub record IsReadFrom (words : List Text) (command : Words) : Type 0 where
@@ -173,18 +199,18 @@ pub record IsWordsRefusal (words : List Text) (e : Error) : Type 0 where
 -- ---- working definitions: the words of a command lack one of its values
 
 abbrev pub LacksBlock : List Row → Type 0
-LacksBlock rows = (file : Bor Text) (at : Pos) (table : Option (Bor Text)) → HasValues rows (Block file at table) → ⊥
+LacksBlock rows = (file : Bor Text) (at : Pos) (table : Option (Bor Text)) (explain : Bool) → HasValues rows (Block file at table explain) → ⊥
 
 abbrev pub LacksCheck : List Row → Type 0
-LacksCheck rows = (input : Bor Text) (table : Option (Bor Text)) (progress : Bool) → HasValues rows (Check input table progress) → ⊥
+LacksCheck rows = (input : Bor Text) (table : Option (Bor Text)) (progress explain : Bool) → HasValues rows (Check input table progress explain) → ⊥
 
 abbrev pub LacksRun : List Row → Type 0
-LacksRun rows = (input output table edits : Bor Text) (ticks workers : ℕ) (strict progress : Bool)
-    → HasValues rows (Run input output table edits ticks workers strict progress) → ⊥
+LacksRun rows = (input output table edits : Bor Text) (ticks workers : ℕ) (strict progress explain : Bool)
+    → HasValues rows (Run input output table edits ticks workers strict progress explain) → ⊥
 
 abbrev pub LacksMap : List Row → Type 0
-LacksMap rows = (input picture : Bor Text) (table colours : Option (Bor Text)) (light : Bool)
-    → HasValues rows (Map input picture table colours light) → ⊥
+LacksMap rows = (input picture : Bor Text) (table colours : Option (Bor Text)) (light explain : Bool)
+    → HasValues rows (Map input picture table colours light explain) → ⊥
 
 abbrev pub LacksStates : List Row → Type 0
-LacksStates rows = (input : Bor Text) (table : Option (Bor Text)) → HasValues rows (States input table) → ⊥
+LacksStates rows = (input : Bor Text) (table : Option (Bor Text)) (explain : Bool) → HasValues rows (States input table explain) → ⊥

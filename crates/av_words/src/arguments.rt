@@ -81,6 +81,16 @@ pub(crate) fn progress_flag<'a>(alloc: Global) -> Arg<'a>
     flag(alloc, "progress", help)
 }
 
+/// `--explain`.
+pub(crate) fn explain_flag<'a>(alloc: Global) -> Arg<'a>
+    ensures rule { rule_of result ≡ flag_rule (codes "explain") }
+    ensures local { result.global ≡ false }
+{
+    let help =
+        "Says on standard error why it failed and what can be done, as it does on a terminal";
+    flag(alloc, "explain", help)
+}
+
 /// A command without arguments yet.
 pub(crate) fn command<'a>(
     alloc: Global,

@@ -8,7 +8,7 @@ ghost use Rattle.av_words.specs.CommandLine.{HasCount, HasFlag, HasNumber, HasTe
 ghost use Rattle.av_words.specs.CommandLine.{anvilwater, bare_app, block_app, check_app, map_app, name_of, run_app, states_app, with_files};
 
 use crate::arguments::{
-    command, coordinate, counted, file, flag, height_table, named, progress_flag,
+    command, coordinate, counted, explain_flag, file, flag, height_table, named, progress_flag,
 };
 use av_types::Pos;
 use clap::error::ErrorKind;
@@ -19,31 +19,33 @@ pub mod commands;
 
 use commands::Words;
 
-/// `block [--table FILE] FILE X Y Z`.
+/// `block [--table FILE] [--explain] FILE X Y Z`.
 fn block_command<'a>(alloc: Global) -> Result<Command<'a>, Error>
     ensures app { IfOk result (λ c. app_of c ≡ block_app) }
     ensures local { IfOk result (λ c. (out-Command c).has_globals ≡ false) }
     ensures memory { IfErr result (λ e. kind_of e ≡ ErrorKind.OutOfMemory) }
 {
     let about = "Prints the block state at a position of a region file, or unloaded";
-    let usage = "anvilwater block [--table FILE] [--] FILE X Y Z, negative numbers behind --";
+    let usage =
+        "anvilwater block [--table FILE] [--explain] [--] FILE X Y Z, negative numbers behind --";
     let block = command(alloc, "block", about, usage)
         .arg(file(alloc, "FILE", "The region file, r.X.Z.mca"))?
         .arg(coordinate(alloc, "X", "The block's position to the east"))?
         .arg(coordinate(alloc, "Y", "Its height"))?
         .arg(coordinate(alloc, "Z", "Its position to the south"))?
-        .arg(height_table(alloc))?;
+        .arg(height_table(alloc))?
+        .arg(explain_flag(alloc))?;
     Ok(block)
 }
 
-/// `check --in DIR [--table FILE] [--progress]`.
+/// `check --in DIR [--table FILE] [--progress] [--explain]`.
 fn check_command<'a>(alloc: Global) -> Result<Command<'a>, Error>
     ensures app { IfOk result (λ c. app_of c ≡ check_app) }
     ensures local { IfOk result (λ c. (out-Command c).has_globals ≡ false) }
     ensures memory { IfErr result (λ e. kind_of e ≡ ErrorKind.OutOfMemory) }
 {
     let about = "Lists what is wrong with the region files of a folder";
-    let usage = "anvilwater check --in DIR [--table FILE] [--progress]";
+    let usage = "anvilwater check --in DIR [--table FILE] [--progress] [--explain]";
     let check = command(alloc, "check", about, usage)
         .arg(named(
             alloc,
@@ -53,7 +55,8 @@ fn check_command<'a>(alloc: Global) -> Result<Command<'a>, Error>
             "The folder whose files r.X.Z.mca are read",
         ))?
         .arg(height_table(alloc))?
-        .arg(progress_flag(alloc))?;
+        .arg(progress_flag(alloc))?
+        .arg(explain_flag(alloc))?;
     Ok(check)
 }
 
@@ -74,7 +77,7 @@ fn with_files<'a>(alloc: Global, run: Command<'a>) -> Result<Command<'a>, Error>
     Ok(run)
 }
 
-/// `run --in DIR --out DIR --table FILE --edits FILE --ticks N --workers N [--strict] [--progress]`.
+/// `run --in DIR --out DIR --table FILE --edits FILE --ticks N --workers N [--strict] [--progress] [--explain]`.
 fn run_command<'a>(alloc: Global) -> Result<Command<'a>, Error>
     ensures app { IfOk result (λ c. app_of c ≡ run_app) }
     ensures local { IfOk result (λ c. (out-Command c).has_globals ≡ false) }
@@ -82,24 +85,26 @@ fn run_command<'a>(alloc: Global) -> Result<Command<'a>, Error>
 {
     let about = "Runs edits, water and block light over the region files of a folder";
     let usage =
-        "anvilwater run --in DIR --out DIR --table FILE --edits FILE --ticks N --workers N [--strict] [--progress]";
+        "anvilwater run --in DIR --out DIR --table FILE --edits FILE --ticks N --workers N [--strict] [--progress] [--explain]";
     let strict = "Runs nothing where a block state of the world has no row in the table";
     let run = with_files(alloc, command(alloc, "run", about, usage))?
         .arg(counted(alloc, "ticks", "How many ticks are run"))?
         .arg(counted(alloc, "workers", "How many workers run them, 1 to 8"))?
         .arg(flag(alloc, "strict", strict))?
-        .arg(progress_flag(alloc))?;
+        .arg(progress_flag(alloc))?
+        .arg(explain_flag(alloc))?;
     Ok(run)
 }
 
-/// `map --in DIR --out FILE [--table FILE] [--colours FILE] [--light]`.
+/// `map --in DIR --out FILE [--table FILE] [--colours FILE] [--light] [--explain]`.
 fn map_command<'a>(alloc: Global) -> Result<Command<'a>, Error>
     ensures app { IfOk result (λ c. app_of c ≡ map_app) }
     ensures local { IfOk result (λ c. (out-Command c).has_globals ≡ false) }
     ensures memory { IfErr result (λ e. kind_of e ≡ ErrorKind.OutOfMemory) }
 {
     let about = "Draws the region files of a folder from above, a pixel for each column of blocks";
-    let usage = "anvilwater map --in DIR --out FILE [--table FILE] [--colours FILE] [--light]";
+    let usage =
+        "anvilwater map --in DIR --out FILE [--table FILE] [--colours FILE] [--light] [--explain]";
     let read = "The folder whose files r.X.Z.mca are read";
     let colours = "The colours of blocks by name; without it each name has one of its letters";
     let light = "Draws the block light on the highest blocks in place of their colours";
@@ -114,11 +119,12 @@ fn map_command<'a>(alloc: Global) -> Result<Command<'a>, Error>
         ))?
         .arg(height_table(alloc))?
         .arg(named(alloc, "colours", "FILE", false, colours))?
-        .arg(flag(alloc, "light", light))?;
+        .arg(flag(alloc, "light", light))?
+        .arg(explain_flag(alloc))?;
     Ok(map)
 }
 
-/// `states --in DIR [--table FILE]`.
+/// `states --in DIR [--table FILE] [--explain]`.
 fn states_command<'a>(alloc: Global) -> Result<Command<'a>, Error>
     ensures app { IfOk result (λ c. app_of c ≡ states_app) }
     ensures local { IfOk result (λ c. (out-Command c).has_globals ≡ false) }
@@ -126,12 +132,13 @@ fn states_command<'a>(alloc: Global) -> Result<Command<'a>, Error>
 {
     let about =
         "Lists the block states of the region files of a folder, with how many blocks have each";
-    let usage = "anvilwater states --in DIR [--table FILE]";
+    let usage = "anvilwater states --in DIR [--table FILE] [--explain]";
     let read = "The folder whose files r.X.Z.mca are read";
     let table = "A block table, whose height the world has, and whose row for each state is listed";
     let states = command(alloc, "states", about, usage)
         .arg(named(alloc, "in", "DIR", true, read))?
-        .arg(named(alloc, "table", "FILE", false, table))?;
+        .arg(named(alloc, "table", "FILE", false, table))?
+        .arg(explain_flag(alloc))?;
     Ok(states)
 }
 
@@ -206,10 +213,12 @@ fn block_words<'a>(matches: &ArgMatches<'a>) -> Option<Words<'a>>
     let y = number(matches, "Y")?;
     let z = number(matches, "Z")?;
     let table = text_of(matches, "table");
+    let explain = is_given(matches, "explain");
     Some(Words::Block {
         file,
         pos: Pos { x, y, z },
         table,
+        explain,
     })
 }
 
@@ -221,10 +230,12 @@ fn check_words<'a>(matches: &ArgMatches<'a>) -> Option<Words<'a>>
     let input = text_of(matches, "in")?;
     let table = text_of(matches, "table");
     let progress = is_given(matches, "progress");
+    let explain = is_given(matches, "explain");
     Some(Words::Check {
         input,
         table,
         progress,
+        explain,
     })
 }
 
@@ -241,6 +252,7 @@ fn run_words<'a>(matches: &ArgMatches<'a>) -> Option<Words<'a>>
     let workers = count_of(matches, "workers")?;
     let strict = is_given(matches, "strict");
     let progress = is_given(matches, "progress");
+    let explain = is_given(matches, "explain");
     Some(Words::Run {
         input,
         output,
@@ -250,6 +262,7 @@ fn run_words<'a>(matches: &ArgMatches<'a>) -> Option<Words<'a>>
         workers,
         strict,
         progress,
+        explain,
     })
 }
 
@@ -263,12 +276,14 @@ fn map_words<'a>(matches: &ArgMatches<'a>) -> Option<Words<'a>>
     let table = text_of(matches, "table");
     let colours = text_of(matches, "colours");
     let light = is_given(matches, "light");
+    let explain = is_given(matches, "explain");
     Some(Words::Map {
         input,
         picture,
         table,
         colours,
         light,
+        explain,
     })
 }
 
@@ -279,7 +294,12 @@ fn states_words<'a>(matches: &ArgMatches<'a>) -> Option<Words<'a>>
 {
     let input = text_of(matches, "in")?;
     let table = text_of(matches, "table");
-    Some(Words::States { input, table })
+    let explain = is_given(matches, "explain");
+    Some(Words::States {
+        input,
+        table,
+        explain,
+    })
 }
 
 /// The command, where one was given with its values.

@@ -1,5 +1,5 @@
 //! A digest of results, in their order.
-use av_sink::RegionFile;
+use av_region_files::RegionFile;
 use av_types::{ChunkPos, Fault, RegionPos};
 
 /// A number that depends on all that was added.

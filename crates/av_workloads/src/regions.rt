@@ -2,7 +2,7 @@
 use crate::chunks::{Flaw, Scene, put_chunk};
 use crate::dice::Dice;
 use crate::pool::Pool;
-use av_sink::RegionFile;
+use av_region_files::RegionFile;
 use av_types::{ChunkPos, RegionPos};
 use std::alloc::{AllocError, Global};
 

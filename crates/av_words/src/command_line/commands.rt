@@ -1,4 +1,6 @@
 //! The commands.
+ghost use Rattle.std.specs.Prelude.{◌≡◌};
+
 use av_types::Pos;
 
 /// A command with its values.
@@ -11,6 +13,8 @@ pub enum Words<'a> {
         pos: Pos,
         /// A block table, whose height the world has. Without one it has the game's.
         table: Option<&'a str>,
+        /// Whether to say why it failed.
+        explain: bool,
     },
     /// Lists what is wrong with the region files of a folder.
     Check {
@@ -20,6 +24,8 @@ pub enum Words<'a> {
         table: Option<&'a str>,
         /// Whether to say how far it is.
         progress: bool,
+        /// Whether to say why it failed.
+        explain: bool,
     },
     /// Runs edits, water and light over the region files of a folder, and writes them.
     Run {
@@ -37,6 +43,8 @@ pub enum Words<'a> {
         strict: bool,
         /// Whether to say how far it is.
         progress: bool,
+        /// Whether to say why it failed.
+        explain: bool,
     },
     /// Draws the region files of a folder from above.
     Map {
@@ -50,6 +58,8 @@ pub enum Words<'a> {
         colours: Option<&'a str>,
         /// Whether the block light is drawn in place of the colours.
         light: bool,
+        /// Whether to say why it failed.
+        explain: bool,
     },
     /// Lists the block states of the region files of a folder, with how many blocks have each.
     States {
@@ -58,5 +68,37 @@ pub enum Words<'a> {
         /// A block table, whose height the world has, and whose row for each state is listed. Without one the world has the
         /// game's height, and no row is listed.
         table: Option<&'a str>,
+        /// Whether to say why it failed.
+        explain: bool,
     },
+}
+
+impl<'a> Words<'a> {
+    ghost use Rattle.av_words.specs.CommandLine.{explain_of, progress_of};
+
+    /// Whether it is to say how far it is, where it has a word for that.
+    pub fn wants_progress(&self) -> bool
+        ensures { result ≡ progress_of self.now }
+    {
+        match self {
+            Words::Check { progress, .. } => *progress,
+            Words::Run { progress, .. } => *progress,
+            Words::Block { .. } => false,
+            Words::Map { .. } => false,
+            Words::States { .. } => false,
+        }
+    }
+
+    /// Whether it is to say why it failed.
+    pub fn wants_reasons(&self) -> bool
+        ensures { result ≡ explain_of self.now }
+    {
+        match self {
+            Words::Block { explain, .. } => *explain,
+            Words::Check { explain, .. } => *explain,
+            Words::Run { explain, .. } => *explain,
+            Words::Map { explain, .. } => *explain,
+            Words::States { explain, .. } => *explain,
+        }
+    }
 }

@@ -1,5 +1,5 @@
 use Rattle.std.proofs.Common.{◌≡◌, ◌≤◌, List, length, ap, ◌∙◌, subst, arith}
-use Rattle.av_sink.specs.declared.files.RegionFile.{RegionFile}
+use Rattle.av_region_files.specs.declared.files.RegionFile.{RegionFile}
 use Rattle.av_census.specs.Census.{HaveBlocks}
 use Rattle.av_census.proofs.Files.{ordered-length}
 use Rattle.av_census.proofs.counting.census.Goals as goal

@@ -8,7 +8,7 @@ returns-in-Ok-write_first g c =
 
 pub returns-in-Ok : goal.returns-in-Ok
 returns-in-Ok g c =
-    unwritten c.in-Ok.line.items c.in-Ok.ensures.line (rw c.as_slice.ensures.value at c.in-Err-write_first.ensures.err) refl
+    unwritten c.in-Ok.line.items c.in-Ok.ensures.line (rw c.as_slice.ensures.value at c.in-Err-write_first.ensures.err) c.report_output.ensures
 
 pub returns : goal.returns
 returns g c = refused c.in-Err.refusal c.in-Err.ensures.refused refl c.explain.ensures

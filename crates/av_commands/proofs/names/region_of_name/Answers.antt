@@ -1,7 +1,7 @@
 use Rattle.std.proofs.Common.{rules, ◌≡◌, sym, ◌∙◌, ap₂, string_bytes}
 use Rattle.std.specs.Fmt.{signed_decimal}
 use Rattle.std.proofs.lemmas.Option.{none-some, same_Some}
-use Rattle.av_sink.specs.Names.{name_with}
+use Rattle.av_region_files.specs.Names.{name_with}
 use Rattle.av_commands.proofs.Texts.{signed_no_dot}
 use Rattle.av_commands.proofs.names.region_of_name.Goals as goal
 

@@ -5,5 +5,5 @@ use Rattle.av_commands.proofs.tables.read_rules.Goals as goal
 pub returns-in_default-clause-table : goal.returns-in_default-clause-table
 returns-in_default-clause-table g c = rw c.in_default.is none
 
-pub returns-clause-table : goal.returns-clause-table
-returns-clause-table g c = rw c.in-Some.is (read c.in-Some.name.now c.as_slice.result.now (table_of c.in_ok-read.field-0) c.in_ok-read.ensures.ok)
+pub returns-in-Ok-clause-table : goal.returns-in-Ok-clause-table
+returns-in-Ok-clause-table g c = rw c.in-Some.is (read c.in-Some.name.now c.as_slice.result.now (table_of c.in-Ok.rules) c.in-Ok.ensures.ok)

@@ -3,7 +3,7 @@ use Rattle.std.proofs.lemmas.Bool.{false≢true}
 use Rattle.av_types.specs.Places.{IsInLimits}
 use Rattle.av_files.specs.Files.{File, in_order, regions_rise}
 use Rattle.av_files.specs.FirstFault.{AllInLimits}
-use Rattle.av_sink.specs.declared.files.RegionFile.{RegionFile}
+use Rattle.av_region_files.specs.declared.files.RegionFile.{RegionFile}
 use Rattle.av_image.specs.Loading.{range, repeated}
 use Rattle.av_image.specs.Views.{file_in}
 use Rattle.av_image.proofs.Loads.{all_limits, limits_all, limits_ordered, rises_apart, rises_not}

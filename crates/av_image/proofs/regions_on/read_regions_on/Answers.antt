@@ -8,7 +8,7 @@ use Rattle.av_chunk.proofs.Found.{err_from}
 use Rattle.av_chunk.proofs.Slots.{OnlyGrows-trans}
 use Rattle.av_files.specs.Files.{File}
 use Rattle.av_files.specs.FirstFault.{IsFirstOfFiles}
-use Rattle.av_sink.specs.declared.files.RegionFile.{RegionFile}
+use Rattle.av_region_files.specs.declared.files.RegionFile.{RegionFile}
 use Rattle.av_image.specs.Placed.{file_of}
 use Rattle.av_image.specs.Ways.{FilesSoFar}
 use Rattle.av_image.proofs.Ways.{files_stop, files_more}

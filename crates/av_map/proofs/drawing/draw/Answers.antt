@@ -1,5 +1,5 @@
 use Rattle.std.proofs.Common.{rules, ◌≡◌, ◌∙◌, ◌∷◌, List, sym, subst}
-use Rattle.av_sink.specs.declared.files.RegionFile.{RegionFile}
+use Rattle.av_region_files.specs.declared.files.RegionFile.{RegionFile}
 use Rattle.av_survey.specs.Listing.{in_order}
 use Rattle.av_map.specs.Maps.{IsDrawable, IsMapOf}
 use Rattle.av_map.specs.Views.{colours_of}

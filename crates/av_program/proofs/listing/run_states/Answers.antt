@@ -8,7 +8,7 @@ returns-in-Ok-write_first g c =
 
 pub returns-in-Ok : goal.returns-in-Ok
 returns-in-Ok g c =
-    unwritten c.in-Ok.listing.text.items c.in-Ok.listing.left_out c.in-Ok.ensures (rw c.as_slice.ensures.value at c.in-Err-write_first.ensures.err) refl
+    unwritten c.in-Ok.listing.text.items c.in-Ok.listing.left_out c.in-Ok.ensures (rw c.as_slice.ensures.value at c.in-Err-write_first.ensures.err) c.report_output.ensures
 
 pub returns : goal.returns
-returns g c = refused refl c.report_fault.ensures
+returns g c = refused refl c.report_failure.ensures

@@ -1,19 +1,18 @@
-use Rattle.std.proofs.Common.{◌≡◌, ℕ, Bool, List, Option, Result}
-use Rattle.av_types.specs.declared.fault.Fault.{Fault}
+use Rattle.std.proofs.Common.{ℕ, Bool, List, Option, Result}
 use Rattle.av_sink.specs.Account.{Account}
+use Rattle.av_commands.specs.declared.failure.Failure.{Failure}
 use Rattle.av_run.specs.declared.checked.Ran.{Ran}
 use Rattle.av_run.specs.declared.checked.Ran.TheVariants.{Done, Uncovered}
-use Rattle.av_program.specs.RunCommand.{HasReported, HasRunOver, HasRunRegions, ran, refused, stopped, unread, read, ran_all, not_run, not_written}
+use Rattle.av_program.specs.RunCommand.{HasReported, HasRunOver, HasRunRegions, read, unread, stopped_at, ran_all, not_run, not_written}
 use Rattle.av_program.proofs.program.run_regions.Goals as goal
 
-regions : (n k : ℕ) (s : Bool) (old new : Account) (r : Result Ran Fault) (before after : Option (List ℕ)) (status : ℕ) → HasRunOver n k s old new r
+regions : (n k : ℕ) (s : Bool) (old new : Account) (r : Result Ran Failure) (before after : Option (List ℕ)) (status : ℕ) → HasRunOver n k s old new r
     → HasReported r before after status → HasRunRegions n k s old new before after status
 regions n k s old new _ before after status (unread e same) has = not_run same has.0 has.1
-regions n k s old new _ before after status (read i _ (ran (Done o m) answer files)) has = ran_all i o m answer files has
-regions n k s old new _ before after status (read i _ (ran (Uncovered m) answer same)) has = not_run same has.0 has.1
-regions n k s old new _ before after status (read i _ (refused e answer same)) has = not_run same has.0 has.1
-regions n k s old new _ before after status (read i _ (stopped e (Done o m) answer stops)) has = not_written i o m e answer stops has.0 has.1
-regions n k s old new _ before after status (read i _ (stopped e (Uncovered m) answer none)) has = absurd none
+regions n k s old new _ before after status (read i (Done o m) answer files) has = ran_all i o m answer files has
+regions n k s old new _ before after status (read i (Uncovered m) answer same) has = not_run same has.0 has.1
+regions n k s old new _ before after status (stopped_at i (Done o m) e answer stops) has = not_written i o m e.fault answer stops has.0 has.1
+regions n k s old new _ before after status (stopped_at i (Uncovered m) e answer none) has = absurd none
 
 pub returns-clause-ran : goal.returns-clause-ran
 returns-clause-ran g c =

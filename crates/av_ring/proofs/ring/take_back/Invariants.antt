@@ -1,4 +1,4 @@
-use Rattle.std.proofs.Common.{◌≡◌, ◌+◌, ◌++◌, ◌||◌, All, length}
+use Rattle.std.proofs.Common.{◌≡◌, ◌+◌, ◌++◌, ◌||◌, All, length, map}
 use Rattle.std.specs.List.{flat_map, list_any}
 use Rattle.std.specs.Vec.Iter.{into_iter_items}
 use Rattle.crossbeam_queue.specs.Passes.{view as known}
@@ -15,6 +15,7 @@ invariant-loop-seat g l =
       parts : (known l.pass).parts ≡ (known l.initial.pass).parts + length l.yielded;
       told : (known l.pass).told ≡ (known l.initial.pass).told;
       all_is : (known l.pass).all ≡ (known l.initial.pass).all;
+      heard : (known l.pass).heard ≡ (known l.initial.pass).heard ++ map (λ s. s.jobs) l.yielded;
       taken : (known l.pass).taken ≡ (known l.initial.pass).taken ++ flat_map (λ s. s.taken) l.yielded;
       dry : (known l.pass).dry ≡ ((known l.initial.pass).dry || list_any (λ s. s.dry) l.yielded);
     }

@@ -1,4 +1,4 @@
-use Rattle.std.proofs.Common.{◌≡◌, ℕ, ◌+◌, ◌≤◌, Bool, not, cond, take, sym, ap, ◌∙◌, arith}
+use Rattle.std.proofs.Common.{◌≡◌, ℕ, ◌+◌, Bool, not, cond, take, sym, ap, ◌∙◌, arith}
 use Rattle.av_state.specs.States.{state_of}
 use Rattle.av_state.specs.Table.{states}
 use Rattle.av_rules.specs.Rows.{has_row}

@@ -1,4 +1,4 @@
-use Rattle.std.proofs.Common.{◌≢◌, map, refl}
+use Rattle.std.proofs.Common.{◌≢◌, map}
 use Rattle.std.proofs.lemmas.Result.{err_from_is_err_and}
 use Rattle.av_types.specs.declared.fault.Fault.TheVariants.{OutOfMemory}
 use Rattle.av_state.specs.Table.{states}

@@ -1,4 +1,4 @@
-use Rattle.std.proofs.Common.{◌≡◌, ◌≢◌, ◌&&◌, nat_lt, Err, true, false, map, rules, refl, sym, ◌∙◌}
+use Rattle.std.proofs.Common.{Err, map, rules, refl, sym, ◌∙◌}
 use Rattle.std.proofs.lemmas.Result.{err_from_is_err_and}
 use Rattle.av_types.specs.declared.fault.Fault.TheVariants.{BadCount}
 use Rattle.av_files.specs.FirstFault.{AreCountsGood, counts}

@@ -1,5 +1,5 @@
 use Rattle.std.proofs.Common.{List, map, rules, subst, sym, true≢false, ◌∙◌}
-use Rattle.av_sink.specs.declared.files.RegionFile.{RegionFile}
+use Rattle.av_region_files.specs.declared.files.RegionFile.{RegionFile}
 use Rattle.av_image.specs.Views.{file_in}
 use Rattle.av_run.specs.Input.{AreFew}
 use Rattle.av_run.proofs.InputAnswers.{too_many, answer_of_few}

@@ -8,4 +8,5 @@ returns-clause-app c =
     let two = c.in_ok-arg-2.ensures.shape c.coordinate.ensures.local ∙ ap₂ with_rule one c.coordinate.ensures.rule in
     let three = c.in_ok-arg-3.ensures.shape c.coordinate-2.ensures.local ∙ ap₂ with_rule two c.coordinate-2.ensures.rule in
     let four = c.in_ok-arg-4.ensures.shape c.coordinate-3.ensures.local ∙ ap₂ with_rule three c.coordinate-3.ensures.rule in
-    c.in_ok-block.ensures.shape c.height_table.ensures.local ∙ ap₂ with_rule four c.height_table.ensures.rule
+    let five = c.in_ok-arg-5.ensures.shape c.height_table.ensures.local ∙ ap₂ with_rule four c.height_table.ensures.rule in
+    c.in_ok-block.ensures.shape c.explain_flag.ensures.local ∙ ap₂ with_rule five c.explain_flag.ensures.rule

@@ -50,39 +50,39 @@ no_values m n r name has lacks w rows is h =
     (subst (λ (rs : List Row). HasValues rs w) (one_rows (subcommand_rows_of m) (name_of w) rows r has is) h)
 
 lacks_block : (r : List Row) → LacksBlock r → Lacks r (codes "block")
-lacks_block r lacks (Block file at table) is h = lacks file at table h
-lacks_block r lacks (Check input table progress) is h = unlike (codes "check") (codes "block") (λ e. absurd (omega arith)) is
-lacks_block r lacks (Run input output table edits ticks workers strict progress) is h = unlike (codes "run") (codes "block") (λ e. absurd (omega arith)) is
-lacks_block r lacks (Map input output table colours light) is h = unlike (codes "map") (codes "block") (λ e. absurd (omega arith)) is
-lacks_block r lacks (States input table) is h = unlike (codes "states") (codes "block") (λ e. absurd (omega arith)) is
+lacks_block r lacks (Block file at table explain) is h = lacks file at table explain h
+lacks_block r lacks (Check input table progress explain) is h = unlike (codes "check") (codes "block") (λ e. absurd (omega arith)) is
+lacks_block r lacks (Run input output table edits ticks workers strict progress explain) is h = unlike (codes "run") (codes "block") (λ e. absurd (omega arith)) is
+lacks_block r lacks (Map input output table colours light explain) is h = unlike (codes "map") (codes "block") (λ e. absurd (omega arith)) is
+lacks_block r lacks (States input table explain) is h = unlike (codes "states") (codes "block") (λ e. absurd (omega arith)) is
 
 lacks_check : (r : List Row) → LacksCheck r → Lacks r (codes "check")
-lacks_check r lacks (Block file at table) is h = unlike (codes "block") (codes "check") (λ e. absurd (omega arith)) is
-lacks_check r lacks (Check input table progress) is h = lacks input table progress h
-lacks_check r lacks (Run input output table edits ticks workers strict progress) is h = unlike (codes "run") (codes "check") (λ e. absurd (omega arith)) is
-lacks_check r lacks (Map input output table colours light) is h = unlike (codes "map") (codes "check") (λ e. absurd (omega arith)) is
-lacks_check r lacks (States input table) is h = unlike (codes "states") (codes "check") (λ e. absurd (omega arith)) is
+lacks_check r lacks (Block file at table explain) is h = unlike (codes "block") (codes "check") (λ e. absurd (omega arith)) is
+lacks_check r lacks (Check input table progress explain) is h = lacks input table progress explain h
+lacks_check r lacks (Run input output table edits ticks workers strict progress explain) is h = unlike (codes "run") (codes "check") (λ e. absurd (omega arith)) is
+lacks_check r lacks (Map input output table colours light explain) is h = unlike (codes "map") (codes "check") (λ e. absurd (omega arith)) is
+lacks_check r lacks (States input table explain) is h = unlike (codes "states") (codes "check") (λ e. absurd (omega arith)) is
 
 lacks_run : (r : List Row) → LacksRun r → Lacks r (codes "run")
-lacks_run r lacks (Block file at table) is h = unlike (codes "block") (codes "run") (λ e. absurd (omega arith)) is
-lacks_run r lacks (Check input table progress) is h = unlike (codes "check") (codes "run") (λ e. absurd (omega arith)) is
-lacks_run r lacks (Run input output table edits ticks workers strict progress) is h = lacks input output table edits ticks workers strict progress h
-lacks_run r lacks (Map input output table colours light) is h = unlike (codes "map") (codes "run") (λ e. absurd (omega arith)) is
-lacks_run r lacks (States input table) is h = unlike (codes "states") (codes "run") (λ e. absurd (omega arith)) is
+lacks_run r lacks (Block file at table explain) is h = unlike (codes "block") (codes "run") (λ e. absurd (omega arith)) is
+lacks_run r lacks (Check input table progress explain) is h = unlike (codes "check") (codes "run") (λ e. absurd (omega arith)) is
+lacks_run r lacks (Run input output table edits ticks workers strict progress explain) is h = lacks input output table edits ticks workers strict progress explain h
+lacks_run r lacks (Map input output table colours light explain) is h = unlike (codes "map") (codes "run") (λ e. absurd (omega arith)) is
+lacks_run r lacks (States input table explain) is h = unlike (codes "states") (codes "run") (λ e. absurd (omega arith)) is
 
 lacks_map : (r : List Row) → LacksMap r → Lacks r (codes "map")
-lacks_map r lacks (Block file at table) is h = unlike (codes "block") (codes "map") (λ e. absurd (omega arith)) is
-lacks_map r lacks (Check input table progress) is h = unlike (codes "check") (codes "map") (λ e. absurd (omega arith)) is
-lacks_map r lacks (Run input output table edits ticks workers strict progress) is h = unlike (codes "run") (codes "map") (λ e. absurd (omega arith)) is
-lacks_map r lacks (Map input output table colours light) is h = lacks input output table colours light h
-lacks_map r lacks (States input table) is h = unlike (codes "states") (codes "map") (λ e. absurd (omega arith)) is
+lacks_map r lacks (Block file at table explain) is h = unlike (codes "block") (codes "map") (λ e. absurd (omega arith)) is
+lacks_map r lacks (Check input table progress explain) is h = unlike (codes "check") (codes "map") (λ e. absurd (omega arith)) is
+lacks_map r lacks (Run input output table edits ticks workers strict progress explain) is h = unlike (codes "run") (codes "map") (λ e. absurd (omega arith)) is
+lacks_map r lacks (Map input output table colours light explain) is h = lacks input output table colours light explain h
+lacks_map r lacks (States input table explain) is h = unlike (codes "states") (codes "map") (λ e. absurd (omega arith)) is
 
 lacks_states : (r : List Row) → LacksStates r → Lacks r (codes "states")
-lacks_states r lacks (Block file at table) is h = unlike (codes "block") (codes "states") (λ e. absurd (omega arith)) is
-lacks_states r lacks (Check input table progress) is h = unlike (codes "check") (codes "states") (λ e. absurd (omega arith)) is
-lacks_states r lacks (Run input output table edits ticks workers strict progress) is h = unlike (codes "run") (codes "states") (λ e. absurd (omega arith)) is
-lacks_states r lacks (Map input output table colours light) is h = unlike (codes "map") (codes "states") (λ e. absurd (omega arith)) is
-lacks_states r lacks (States input table) is h = lacks input table h
+lacks_states r lacks (Block file at table explain) is h = unlike (codes "block") (codes "states") (λ e. absurd (omega arith)) is
+lacks_states r lacks (Check input table progress explain) is h = unlike (codes "check") (codes "states") (λ e. absurd (omega arith)) is
+lacks_states r lacks (Run input output table edits ticks workers strict progress explain) is h = unlike (codes "run") (codes "states") (λ e. absurd (omega arith)) is
+lacks_states r lacks (Map input output table colours light explain) is h = unlike (codes "map") (codes "states") (λ e. absurd (omega arith)) is
+lacks_states r lacks (States input table explain) is h = lacks input table explain h
 
 pub returns-in-Some-clause-none : goal.returns-in-Some-clause-none
 unfolding Entered

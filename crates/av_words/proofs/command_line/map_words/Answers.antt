@@ -14,11 +14,12 @@ returns-clause-values c = (
     c.text_of-table.ensures.either,
     c.text_of-colours.ensures.either,
     c.is_given-light.ensures,
+    c.is_given-explain.ensures,
   ),
 )
 
 pub returns-in_err-input-clause-none : goal.returns-in_err-input-clause-none
-returns-in_err-input-clause-none c = if_none c.from_residual.result _ (λ i o t k l h. c.in_err-input.ensures.none i h.0)
+returns-in_err-input-clause-none c = if_none c.from_residual.result _ (λ i o t k l x h. c.in_err-input.ensures.none i h.0)
 
 pub returns-in_err-picture-clause-none : goal.returns-in_err-picture-clause-none
-returns-in_err-picture-clause-none c = if_none c.from_residual-in_err-picture.result _ (λ i o t k l h. c.in_err-picture.ensures.none o h.1)
+returns-in_err-picture-clause-none c = if_none c.from_residual-in_err-picture.result _ (λ i o t k l x h. c.in_err-picture.ensures.none o h.1)

@@ -9,4 +9,5 @@ returns-clause-app c =
     let one = c.in_ok-arg.ensures.shape c.counted.ensures.local ∙ ap₂ with_rule none c.counted.ensures.rule in
     let two = c.in_ok-arg-2.ensures.shape c.counted-2.ensures.local ∙ ap₂ with_rule one c.counted-2.ensures.rule in
     let three = c.in_ok-arg-3.ensures.shape c.flag.ensures.local ∙ ap₂ with_rule two c.flag.ensures.rule in
-    c.in_ok-run.ensures.shape c.progress_flag.ensures.local ∙ ap₂ with_rule three c.progress_flag.ensures.rule
+    let four = c.in_ok-arg-4.ensures.shape c.progress_flag.ensures.local ∙ ap₂ with_rule three c.progress_flag.ensures.rule in
+    c.in_ok-run.ensures.shape c.explain_flag.ensures.local ∙ ap₂ with_rule four c.explain_flag.ensures.rule

@@ -6,7 +6,7 @@ if_none None P p = p
 if_none (Some x) P p = tt
 
 pub returns-clause-values : goal.returns-clause-values
-returns-clause-values c = (refl, (c.in_ok-input.ensures.value, c.text_of-table.ensures.either))
+returns-clause-values c = (refl, (c.in_ok-input.ensures.value, c.text_of-table.ensures.either, c.is_given-explain.ensures))
 
 pub returns-in_err-input-clause-none : goal.returns-in_err-input-clause-none
-returns-in_err-input-clause-none c = if_none c.from_residual.result _ (λ input table h. c.in_err-input.ensures.none input h.0)
+returns-in_err-input-clause-none c = if_none c.from_residual.result _ (λ input table explain h. c.in_err-input.ensures.none input h.0)

@@ -1,8 +1,8 @@
-use Rattle.std.proofs.Common.{◌≡◌, ◌∙◌, ap, sym, arith, Some, ◌++◌, ◌||◌}
+use Rattle.std.proofs.Common.{◌∙◌, ap, sym, arith, map, Some, ◌++◌, ◌||◌}
 use Rattle.std.specs.List.{flat_map, list_any}
 use Rattle.std.proofs.lemmas.List.Elements.{All-pop}
 use Rattle.av_ring.specs.Shown.{IsSeatOf}
-use Rattle.av_ring.proofs.Ends.{all-taken, any-dry}
+use Rattle.av_ring.proofs.Ends.{all-taken, all-whole, any-dry}
 use Rattle.av_ring.proofs.ring.JobRing.close.Goals as goal
 
 pub take_back-requires-clause-pass : goal.take_back-requires-clause-pass
@@ -17,11 +17,15 @@ take_back-requires-clause-seats g c κs within =
     λ k d lt. (both.0 k d lt).ring ∙ sym (ap (λ r. r.ring) c.self.view_is)
 
 pub returns-clause-whole : goal.returns-clause-whole
-returns-clause-whole g c = λ jobs same.
-    let both = All-pop (λ s. s.jobs ≡ jobs) c.args.seats.items c.pop.new.self.items (Some c.in-Some.first) c.in-Some.ensures.items same in
-    let told = c.take_back.ensures.told.0 ∙ ap (λ s. s.jobs) c.first.view_is ∙ both.1 in
-    let taken = c.take_back.ensures.taken ∙ ap (λ s. s.taken ++ flat_map (λ r. r.taken) c.pop.new.self.items) c.first.view_is in
-    all-taken jobs c.drain.result.items c.args.seats.items c.pop.new.self.items c.in-Some.first c.in-Some.ensures.items (rw (told, taken) at c.drain.ensures.whole)
+returns-clause-whole g c =
+    let rest = c.pop.new.self.items in
+    let last = c.in-Some.first in
+    let left = c.drain.result.items in
+    let told = c.take_back.ensures.told.0 ∙ ap (λ s. s.jobs) c.first.view_is in
+    let taken = c.take_back.ensures.taken ∙ ap (λ s. s.taken ++ flat_map (λ r. r.taken) rest) c.first.view_is in
+    let heard = c.take_back.ensures.heard ∙ ap (λ v. v.heard ++ map (λ s. s.jobs) rest) c.first.invariant.1 in
+    let whole = all-taken last.jobs left c.args.seats.items rest last c.in-Some.ensures.items (rw (told, taken) at c.drain.ensures.whole) in
+    all-whole (flat_map (λ r. r.taken) c.args.seats.items ++ left) c.args.seats.items rest last c.in-Some.ensures.items whole (rw (told, heard) at c.drain.ensures.heard)
 
 pub returns-clause-dry : goal.returns-clause-dry
 returns-clause-dry g c = λ some.

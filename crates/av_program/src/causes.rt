@@ -1,0 +1,81 @@
+//! Why a run was refused, looked for once it was.
+ghost use Rattle.std.specs.Prelude.{◌≡◌};
+
+use crate::running::Request;
+use av_commands::device::read_file;
+use av_commands::failure::{Failure, Reason};
+use av_commands::manner::{Manner, Progress};
+use av_commands::tables::read_height;
+use av_folders::read_readable;
+use av_survey::{Finding, survey};
+use av_types::Fault;
+use std::io;
+use std::rt::Files;
+
+/// The most ticks that are run.
+const MOST_TICKS: u32 = 1_000_000;
+
+/// The count that is out of its limits, where it is not that of the files.
+fn count_cause(request: Request<'_>) -> Option<Reason> {
+    if request.workers < 1 || 8 < request.workers {
+        Some(Reason::Workers(request.workers))
+    } else if request.ticks > MOST_TICKS {
+        Some(Reason::Ticks(request.ticks))
+    } else {
+        None
+    }
+}
+
+/// What is wrong with the table.
+fn table_cause<R: Files + AllocGlobal>(rt: &R, request: Request<'_>) -> Option<Reason> {
+    let text = read_file(rt, request.table).ok()?;
+    Reason::of_table(rt.alloc(), request.table, text.as_slice())
+}
+
+/// The first finding with a fault of that number.
+fn first_with(found: &[Finding], number: u8) -> Option<Reason> {
+    for finding in found {
+        if finding.fault.number() == number {
+            return Some(Reason::Chunk {
+                region: finding.region,
+                chunk: finding.chunk,
+            });
+        }
+    }
+    None
+}
+
+/// The first file or chunk with a fault, where one has it by itself.
+fn chunk_cause<R: Files + AllocGlobal + Clone + Drop>(
+    rt: &R,
+    request: Request<'_>,
+    fault: &Fault,
+) -> Option<Reason> {
+    let manner = Manner {
+        progress: Progress::Silent,
+        explains: false,
+    };
+    let height = read_height(rt, Some(request.table)).ok()?;
+    let read = read_readable(rt, request.input, manner, &mut io::sink()).ok()?;
+    let found = survey(rt.alloc(), read.files, height).ok()?;
+    first_with(found.as_slice(), fault.number())
+}
+
+/// The failure of a run with a fault. Its reason is looked for where it is asked for.
+pub(crate) fn failure_of_run<R: Files + AllocGlobal + Clone + Drop>(
+    rt: &R,
+    request: Request<'_>,
+    fault: Fault,
+    explains: bool,
+) -> Failure
+    ensures { result.fault ≡ fault }
+{
+    let reason = match &fault {
+        _ if !explains => None,
+        Fault::BadCount => count_cause(request),
+        Fault::BadTable => table_cause(rt, request),
+        Fault::OutOfMemory | Fault::Device(_) => None,
+        _ => chunk_cause(rt, request, &fault),
+    };
+    Failure { fault, reason }
+}

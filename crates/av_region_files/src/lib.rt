@@ -1,0 +1,8 @@
+//! Region files as values, and their names.
+#![tactic(auto)]
+
+pub mod files;
+pub mod names;
+
+pub use files::RegionFile;
+pub use names::region_name;
