@@ -3,10 +3,10 @@
 
 pub mod bare;
 pub mod folder_sink;
+pub mod holding;
 pub mod progress;
 pub mod reading;
-pub mod trying;
 
 pub use folder_sink::FolderSink;
+pub use holding::{HeldFolder, LockFiles, hold_folder};
 pub use reading::{FolderFiles, read_folder, read_readable};
-pub use trying::try_folder;

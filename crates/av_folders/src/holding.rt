@@ -1,0 +1,118 @@
+//! Folders that one call at a time writes to.
+ghost use Rattle.std.specs.Prelude.{IfErr};
+ghost use Rattle.av_folders.specs.Folders.{IsFolderFault};
+
+use av_commands::failure::Failure;
+use std::alloc::Global;
+use std::fs::{self, File, Metadata, TryLockError};
+use std::io::{self, ErrorKind};
+use std::os::unix::fs::MetadataExt;
+use std::path::Path;
+use std::rt::Files;
+
+/// Where Linux lists the locks that are held, a line each: `1: FLOCK  ADVISORY  WRITE 4711 fe:00:131077 0 EOF`, with the process and
+/// the file's number behind the second colon of its device.
+const LOCKS: &str = "/proc/locks";
+
+/// A runtime whose open files and folders can be locked against other processes.
+pub trait LockFiles: Files {
+    /// Locks one, unless another process holds it. The lock goes with the file.
+    fn try_lock(file: &Self::File) -> Result<(), TryLockError>;
+}
+
+impl LockFiles for HostRuntime {
+    fn try_lock(file: &File) -> Result<(), TryLockError> {
+        file.try_lock()
+    }
+}
+
+/// The process of a line that tells of a lock on the file of that number.
+fn holder_in<'a>(alloc: Global, line: &'a str, file: &str) -> Option<&'a str> {
+    let words: Vec<&str> = line.split_whitespace().collect(alloc).ok()?;
+    let [_, kind, _, _, process, place, ..] = words.as_slice() else {
+        return None;
+    };
+    let (_, number) = place.rsplit_once(':')?;
+    if *kind == "FLOCK" && number == file {
+        Some(*process)
+    } else {
+        None
+    }
+}
+
+/// What is said of a folder that another process holds, with the process where the system lists it.
+fn held_text<R: Files + AllocGlobal>(rt: &R, found: &Metadata) -> Option<String> {
+    let locks = fs::read_to_string(rt, LOCKS).ok()?;
+    let number = found.ino();
+    let file = format!(in rt.alloc(); "{number}").ok()?;
+    for line in locks.as_str().lines() {
+        if let Some(process) = holder_in(rt.alloc(), line, file.as_str()) {
+            return format!(in rt.alloc();
+                "process {process} works on it: wait until it has ended"
+            ).ok();
+        }
+    }
+    None
+}
+
+/// The error of a folder that another process holds.
+fn held<R: Files + AllocGlobal>(rt: &R, found: &Metadata) -> io::Error {
+    match held_text(rt, found) {
+        Some(text) => io::Error::new(ErrorKind::WouldBlock, text.as_str()),
+        None => io::Error::new(
+            ErrorKind::WouldBlock,
+            "another process works on it: wait until it has ended",
+        ),
+    }
+}
+
+/// The name of a file that is made in such a folder and taken away again.
+const TRIAL: &str = ".anvilwater-trial";
+
+/// Makes a file in a folder and takes it away, unless one of that name is there.
+fn make_and_remove<R: Files + AllocGlobal>(rt: &R, folder: &str) -> io::Result<()> {
+    let path = Path::new(folder).join(rt.alloc(), TRIAL)?;
+    match File::create_new(rt, path.as_path()) {
+        Ok(_) => fs::remove_file(rt, path.as_path()),
+        Err(error) if error.kind() == ErrorKind::AlreadyExists => Ok(()),
+        Err(error) => Err(error),
+    }
+}
+
+/// A folder that this process alone writes to, as long as this is kept.
+#[derive(Drop)]
+pub struct HeldFolder<R: Files> {
+    _folder: R::File,
+}
+
+/// Holds a folder, and looks whether it takes files. Where its file system has no locks, nothing is held.
+fn take_hold<R: LockFiles + AllocGlobal>(rt: &R, folder: &str) -> io::Result<HeldFolder<R>> {
+    let found = fs::metadata(rt, folder)?;
+    if !found.is_dir() {
+        return Err(ErrorKind::NotADirectory.into());
+    }
+    let opened = fs::open(rt, folder)?;
+    if let Err(TryLockError::WouldBlock) = R::try_lock(&opened) {
+        return Err(held(rt, &found));
+    }
+    make_and_remove(rt, folder)?;
+    Ok(HeldFolder { _folder: opened })
+}
+
+/// Holds a folder that files are to be written to, so that no other process that asks for it writes there meanwhile, and looks whether
+/// it takes files.
+///
+/// # Errors
+/// `Device` with the folder's name as it was given, where it is not there, is no folder, is held by another process, or takes no
+/// file; and want of memory.
+pub fn hold_folder<R: LockFiles + AllocGlobal>(
+    rt: &R,
+    folder: &str,
+) -> Result<HeldFolder<R>, Failure>
+    ensures { IfErr result (λ e. IsFolderFault folder.now e.fault) }
+{
+    match take_hold(rt, folder) {
+        Ok(held) => Ok(held),
+        Err(error) => Err(Failure::of_device(rt.alloc(), error, folder, folder)),
+    }
+}

@@ -1,0 +1,156 @@
+#!/usr/bin/env python3
+"""Asks the built program to write to folders that are held, linked, of another owner, or left by a call that was killed.
+
+    scripts/check_folders.py PROGRAM           as crates/av_main/out/av_main
+
+What is written is compared with what a call writes to a folder of its own. Owners are tried where this runs as root.
+"""
+import contextlib
+import fcntl
+import os
+import pathlib
+import shutil
+import signal
+import subprocess
+import sys
+import tempfile
+import time
+
+TOP = pathlib.Path(__file__).resolve().parent.parent
+NAMES = ["r.-1.-1.mca", "r.0.0.mca"]
+wrong = []
+asked = 0
+
+
+def expect(what, want, got):
+    global asked
+    asked += 1
+    if want != got:
+        wrong.append(what)
+        print("%s: %r, and not %r" % (what, got, want))
+
+
+def words(program, source, target, *more):
+    return [program, "run", "--in", str(source), "--out", str(target), "--table", str(TOP / "tables/blocks.toml"),
+            "--edits", str(TOP / "samples/edits.txt"), "--ticks", "20", "--workers", "2", *more]
+
+
+def run(program, source, target, *more):
+    """The status of a run, and its lines on standard error."""
+    done = subprocess.run(words(program, source, target, *more), stdin=subprocess.DEVNULL, capture_output=True, text=True)
+    return done.returncode, [line for line in done.stderr.splitlines() if "no row in the table" not in line]
+
+
+def contents(folder):
+    """The names of a folder, and the bytes of those that are files."""
+    return {name.name: name.read_bytes() for name in sorted(folder.iterdir()) if name.is_file()}
+
+
+def regions(folder):
+    """A folder with the sample regions."""
+    folder.mkdir()
+    for name in NAMES:
+        shutil.copy(TOP / "samples" / name, folder / name)
+    return folder
+
+
+@contextlib.contextmanager
+def held(folder):
+    """A folder that this process holds."""
+    opened = os.open(folder, os.O_RDONLY)
+    try:
+        fcntl.flock(opened, fcntl.LOCK_EX)
+        yield
+    finally:
+        os.close(opened)
+
+
+def check_held(program, work, want):
+    """A folder that another process holds is refused, and nothing is written to it; then it is not."""
+    folder = regions(work / "held")
+    before = contents(folder)
+    with held(folder):
+        expect("a folder that is held", (1, ["fault 25: Device %s" % folder]), run(program, folder, folder))
+        status, lines = run(program, folder, folder, "--explain")
+        process = "  %s: process %d works on it: wait until it has ended" % (folder, os.getpid())
+        expect("the process that holds it", (1, ["fault 25: Device %s" % folder, process]), (status, lines))
+        expect("its files", before, contents(folder))
+    expect("the folder once it is free", (0, []), run(program, folder, folder))
+    expect("what is written then", want, contents(folder))
+
+
+def check_links(program, work, want):
+    """A region that is a link is refused; what it leads to stays. A link under the name of a new file is not followed."""
+    folder = work / "linked"
+    folder.mkdir()
+    other = work / "other"
+    other.write_bytes(b"of somebody else")
+    (folder / "r.0.0.mca").symlink_to(other)
+    status, lines = run(program, TOP / "samples", folder)
+    expect("a region that is a link", (1, ["fault 25: Device r.0.0.mca"]), (status, lines))
+    expect("the link", True, (folder / "r.0.0.mca").is_symlink())
+    expect("what it leads to", b"of somebody else", other.read_bytes())
+    (folder / "r.0.0.mca").unlink()
+    (folder / ".anvilwater-r.0.0.mca").symlink_to(other)
+    expect("a link under the name of a new file", (0, []), run(program, TOP / "samples", folder))
+    expect("what is written beside it", want, contents(folder))
+    expect("what it led to", b"of somebody else", other.read_bytes())
+
+
+def check_others(program, work, want):
+    """A folder in the place of a region's file is refused, and stays."""
+    folder = work / "foldered"
+    (folder / "r.0.0.mca").mkdir(parents=True)
+    status, lines = run(program, TOP / "samples", folder)
+    expect("a folder in the place of a file", (1, ["fault 25: Device r.0.0.mca"]), (status, lines))
+    expect("the folder", True, (folder / "r.0.0.mca").is_dir())
+
+
+def check_owners(program, work, want):
+    """A file keeps its rights, and as root its owner."""
+    folder = regions(work / "owned")
+    file = folder / "r.0.0.mca"
+    file.chmod(0o640)
+    if os.geteuid() == 0:
+        os.chown(file, 1234, 2345)
+    before = file.stat()
+    expect("a file of another owner", (0, []), run(program, folder, folder))
+    after = file.stat()
+    expect("owner and rights", (before.st_uid, before.st_gid, before.st_mode), (after.st_uid, after.st_gid, after.st_mode))
+    expect("what is written to it", want, contents(folder))
+
+
+def check_killed(program, work, want):
+    """Wherever a call is killed, each region's file is the old or the new one, and the next call into an empty way leaves nothing behind."""
+    old = contents(regions(work / "old"))
+    for turn in range(12):
+        folder = regions(work / ("killed_%d" % turn))
+        process = subprocess.Popen(words(program, TOP / "samples", folder), stdout=subprocess.DEVNULL, stderr=subprocess.DEVNULL)
+        time.sleep(0.004 * turn)
+        process.send_signal(signal.SIGKILL)
+        process.wait()
+        found = contents(folder)
+        expect("files after a kill", [True] * 2, [found[name] in (old[name], want[name]) for name in NAMES])
+        expect("the next call", (0, []), run(program, TOP / "samples", folder))
+        expect("what it writes", want, {name: file for name, file in contents(folder).items() if name != ".anvilwater-trial"})
+
+
+def main():
+    if len(sys.argv) != 2:
+        sys.exit(__doc__)
+    program = os.path.abspath(sys.argv[1])
+    with tempfile.TemporaryDirectory() as name:
+        work = pathlib.Path(name)
+        own = work / "own"
+        own.mkdir()
+        expect("a run", (0, []), run(program, TOP / "samples", own))
+        want = contents(own)
+        expect("its files", NAMES, sorted(want))
+        for check in (check_held, check_links, check_others, check_owners, check_killed):
+            check(program, work, want)
+    print("folders: %d asked, %d wrong" % (asked, len(wrong)))
+    sys.exit(1 if wrong else 0)
+
+
+if __name__ == "__main__":
+    main()
