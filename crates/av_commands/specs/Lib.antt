@@ -4,3 +4,4 @@ pub mod Reasons
 pub mod BlockCommand
 pub mod CheckCommand
 pub mod Tables
+pub mod Texts

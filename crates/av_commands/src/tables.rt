@@ -3,14 +3,15 @@ ghost use Rattle.std.specs.Prelude.{IfErr, IfOk, option_map};
 ghost use Rattle.av_rules.specs.Tables.{table_of};
 ghost use Rattle.av_commands.specs.Tables.{IsHeightBy, IsTableBy, IsUnreadTable, IsWorldHeight};
 
-use crate::device::read_file;
+use crate::device::read_text;
 use crate::failure::Failure;
 use av_rules::Rules;
 use av_types::Height;
+use std::io::Input;
 use std::rt::Files;
 
 /// The block table, where one is named.
-pub fn read_rules<R: Files + AllocGlobal>(
+pub fn read_rules<R: Files + Input + AllocGlobal>(
     rt: &R,
     table: Option<&str>,
 ) -> Result<Option<Rules>, Failure>
@@ -20,7 +21,7 @@ pub fn read_rules<R: Files + AllocGlobal>(
     let Some(name) = table else {
         return Ok(None);
     };
-    let text = read_file(rt, name)?;
+    let text = read_text(rt, name)?;
     match Rules::read(rt.alloc(), text.as_slice()) {
         Ok(rules) => Ok(Some(rules)),
         Err(fault) => Err(Failure::of_table(rt.alloc(), fault, name, text.as_slice())),
@@ -38,7 +39,10 @@ pub fn world_height(rules: &Option<Rules>) -> Height
 }
 
 /// The world's height, by the block table that is named, or the game's.
-pub fn read_height<R: Files + AllocGlobal>(rt: &R, table: Option<&str>) -> Result<Height, Failure>
+pub fn read_height<R: Files + Input + AllocGlobal>(
+    rt: &R,
+    table: Option<&str>,
+) -> Result<Height, Failure>
     ensures height { IfOk result (IsHeightBy (option_map (λ t. t.now) table.entry)) }
     ensures unread { IfErr result (λ e. IsUnreadTable (option_map (λ t. t.now) table.entry) e.fault) }
 {
