@@ -1,6 +1,5 @@
 -- What two files have at a place.
-use Rattle.std.proofs.Common.{◌≡◌, ◌∙◌, ap, sym, subst, refl, List, ℕ, Bor, Option, Some, None, Result, Ok, Err, option_map}
-use Rattle.std.proofs.lemmas.Option.{none-some, same_Some}
+use Rattle.std.proofs.Common.{◌≡◌, ◌∙◌, ap, sym, subst, List, ℕ, Bor, Option, Some, None, Result, Ok, Err, option_map}
 use Rattle.std.specs.Prelude.{MatchOption}
 use Rattle.std.specs.Option.{IsSomeAnd}
 use Rattle.std.specs.Result.{IsOkAnd}

@@ -39,16 +39,17 @@ abbrev pub listed : Option Change → List Change
 listed None = []
 listed (Some c) = c ∷ []
 
--- the changes of files, in their order
-pub data AreChangesOf : List RegionFile → List Change → Type 0 where
-  of_none : AreChangesOf [] []
-  of_next : (files : List RegionFile) (changes : List Change) (file : RegionFile) (old : Option (List ℕ)) (change : Option Change)
-      → AreChangesOf files changes → IsChangeOf file old change → AreChangesOf (files ++ file ∷ []) (changes ++ listed change)
+-- the changes of files, in their order, by the bytes of those that are there
+pub data AreChangesOf : List RegionFile → List (Option (List ℕ)) → List Change → Type 0 where
+  of_none : AreChangesOf [] [] []
+  of_next : (files : List RegionFile) (olds : List (Option (List ℕ))) (changes : List Change) (file : RegionFile) (old : Option (List ℕ)) (change : Option Change)
+      → AreChangesOf files olds changes → IsChangeOf file old change → AreChangesOf (files ++ file ∷ []) (olds ++ old ∷ []) (changes ++ listed change)
 
 -- the same in the byte order of the files' names
 pub record AreChangesByName (files : List RegionFile) (changes : List Change) : Type 0 where
+  pub olds : List (Option (List ℕ))
   pub in_order_of_files : List Change
-  pub changes_of : AreChangesOf files in_order_of_files
+  pub changes_of : AreChangesOf files olds in_order_of_files
   pub same : IsPermutation in_order_of_files changes
   pub by_name : IsSortedBy (λ a b. is_lt (string_cmp a.name b.name)) changes
 

@@ -1,5 +1,5 @@
 //! The changes of files.
-ghost use Rattle.std.specs.Prelude.{◌≡◌, ◌↔◌, ◌++◌, [], ◌∷◌, IfOk, IsTrue, IsPermutation, IsSortedBy, List, OnOk, option_map, string_cmp};
+ghost use Rattle.std.specs.Prelude.{◌≡◌, ◌↔◌, ◌++◌, [], ◌∷◌, IfOk, IsTrue, IsPermutation, IsSortedBy, List, OnOk, Option, ℕ, option_map, string_cmp};
 ghost use Rattle.std.specs.Ordering.{is_lt};
 ghost use Rattle.av_changes.specs.Changes.{AreChangesOf, IsChangeOf};
 ghost use Rattle.av_region_files.specs.declared.files.RegionFile.{RegionFile};
@@ -47,7 +47,8 @@ pub fn add_change(
     file: &RegionFile,
     old: Option<&[u8]>,
 ) -> Result<(), AllocError>
-    ensures { OnOk result ((before : List RegionFile) → AreChangesOf before changes.old.items → AreChangesOf (before ++ file.now ∷ []) changes.new.items) }
+    ensures { OnOk result ((files : List RegionFile) (olds : List (Option (List ℕ))) → AreChangesOf files olds changes.old.items
+        → AreChangesOf (files ++ file.now ∷ []) (olds ++ option_map (λ b. b.now) old.entry ∷ []) changes.new.items) }
 {
     match change_of(alloc, file, old)? {
         Some(change) => Ok(changes.push(change)?),

@@ -1,6 +1,6 @@
 use Rattle.std.proofs.Common.{◌≡◌, ◌∙◌, ap, sym, subst, refl, Bor, List, ℕ, Option, Some, None, [], false, true, option_map}
 use Rattle.std.specs.Prelude.{unwrap_or}
-use Rattle.av_changes.specs.Changes.{IsChangeCount, IsChangeOf, kept, changed}
+use Rattle.av_changes.specs.Changes.{IsChangeCount, kept, changed}
 use Rattle.av_changes.proofs.change.change_of.Goals as goal
 
 pub returns-then-is_there : goal.returns-then-is_there

@@ -1,7 +1,5 @@
-use Rattle.std.proofs.Common.{◌≡◌, ◌∙◌, ap, sym, false, true, Bool, Option, List, ℕ}
-use Rattle.av_region.specs.Region.{Holds, IsAbsent}
-use Rattle.av_changes.specs.Changes.{IsSameAt}
-use Rattle.av_changes.proofs.Places.{IsRead, bytes_of, read_has, read_is, same_reads, shared}
+use Rattle.std.proofs.Common.{◌∙◌, sym}
+use Rattle.av_changes.proofs.Places.{IsRead, read_is, same_reads, shared}
 use Rattle.av_changes.proofs.counting.is_same_at.Goals as goal
 
 pub returns : goal.returns

@@ -1,5 +1,4 @@
-use Rattle.std.proofs.Common.{◌<◌, ap, sym, subst, arith, List, ℕ, length, take}
-use Rattle.std.proofs.lemmas.List.{take_all}
+use Rattle.std.proofs.Common.{◌<◌, sym, subst, arith, List, ℕ, length, take}
 use Rattle.std.specs.Io.KnownBytes.{Appends}
 use Rattle.av_changes.specs.Changes.{change_line, change_lines}
 use Rattle.av_changes.proofs.Lines.{appends_more, appends_none, changes_more}
