@@ -5,3 +5,4 @@ pub mod BlockCommand
 pub mod CheckCommand
 pub mod Tables
 pub mod Texts
+pub mod Shipped

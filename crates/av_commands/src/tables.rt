@@ -1,10 +1,13 @@
 //! The block table that a command names, and the height that it gives the world.
-ghost use Rattle.std.specs.Prelude.{IfErr, IfOk, option_map};
+ghost use Rattle.std.specs.Prelude.{◌≡◌, IfErr, IfOk, None, option_map};
 ghost use Rattle.av_rules.specs.Tables.{table_of};
+ghost use Rattle.av_commands.specs.Shipped.{shipped_table};
+ghost use Rattle.av_commands.specs.Texts.{IsUnreadText};
 ghost use Rattle.av_commands.specs.Tables.{IsHeightBy, IsTableBy, IsUnreadTable, IsWorldHeight};
 
-use crate::device::read_text;
+use crate::device::{read_text, read_text_or};
 use crate::failure::Failure;
+use crate::shipped::SHIPPED_TABLE;
 use av_rules::Rules;
 use av_types::Height;
 use std::io::Input;
@@ -48,4 +51,15 @@ pub fn read_height<R: Files + Input + AllocGlobal>(
 {
     let rules = read_rules(rt, table)?;
     Ok(world_height(&rules))
+}
+
+/// The bytes of the block table of a run, which is the shipped one where none is named.
+pub fn read_table<R: Files + Input + AllocGlobal>(
+    rt: &R,
+    table: Option<&str>,
+) -> Result<Vec<u8>, Failure>
+    ensures left_out { IfOk result (λ text. option_map (λ t. t.now) table.entry ≡ None → text.items ≡ shipped_table) }
+    ensures unread { IfErr result (λ e. IsUnreadText (option_map (λ t. t.now) table.entry) e.fault) }
+{
+    read_text_or(rt, table, SHIPPED_TABLE)
 }
