@@ -4,3 +4,5 @@ pub mod Reasons
 pub mod BlockCommand
 pub mod CheckCommand
 pub mod Tables
+pub mod Texts
+pub mod Shipped

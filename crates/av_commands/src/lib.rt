@@ -9,5 +9,6 @@ pub mod manner;
 pub mod names;
 pub mod output;
 pub mod reasons;
+pub mod shipped;
 pub mod table_trouble;
 pub mod tables;

@@ -1,16 +1,20 @@
 //! The block table that a command names, and the height that it gives the world.
-ghost use Rattle.std.specs.Prelude.{IfErr, IfOk, option_map};
+ghost use Rattle.std.specs.Prelude.{◌≡◌, IfErr, IfOk, None, option_map};
 ghost use Rattle.av_rules.specs.Tables.{table_of};
+ghost use Rattle.av_commands.specs.Shipped.{shipped_table};
+ghost use Rattle.av_commands.specs.Texts.{IsUnreadText};
 ghost use Rattle.av_commands.specs.Tables.{IsHeightBy, IsTableBy, IsUnreadTable, IsWorldHeight};
 
-use crate::device::read_file;
+use crate::device::{read_text, read_text_or};
 use crate::failure::Failure;
+use crate::shipped::SHIPPED_TABLE;
 use av_rules::Rules;
 use av_types::Height;
+use std::io::Input;
 use std::rt::Files;
 
 /// The block table, where one is named.
-pub fn read_rules<R: Files + AllocGlobal>(
+pub fn read_rules<R: Files + Input + AllocGlobal>(
     rt: &R,
     table: Option<&str>,
 ) -> Result<Option<Rules>, Failure>
@@ -20,7 +24,7 @@ pub fn read_rules<R: Files + AllocGlobal>(
     let Some(name) = table else {
         return Ok(None);
     };
-    let text = read_file(rt, name)?;
+    let text = read_text(rt, name)?;
     match Rules::read(rt.alloc(), text.as_slice()) {
         Ok(rules) => Ok(Some(rules)),
         Err(fault) => Err(Failure::of_table(rt.alloc(), fault, name, text.as_slice())),
@@ -38,10 +42,24 @@ pub fn world_height(rules: &Option<Rules>) -> Height
 }
 
 /// The world's height, by the block table that is named, or the game's.
-pub fn read_height<R: Files + AllocGlobal>(rt: &R, table: Option<&str>) -> Result<Height, Failure>
+pub fn read_height<R: Files + Input + AllocGlobal>(
+    rt: &R,
+    table: Option<&str>,
+) -> Result<Height, Failure>
     ensures height { IfOk result (IsHeightBy (option_map (λ t. t.now) table.entry)) }
     ensures unread { IfErr result (λ e. IsUnreadTable (option_map (λ t. t.now) table.entry) e.fault) }
 {
     let rules = read_rules(rt, table)?;
     Ok(world_height(&rules))
+}
+
+/// The bytes of the block table of a run, which is the shipped one where none is named.
+pub fn read_table<R: Files + Input + AllocGlobal>(
+    rt: &R,
+    table: Option<&str>,
+) -> Result<Vec<u8>, Failure>
+    ensures left_out { IfOk result (λ text. option_map (λ t. t.now) table.entry ≡ None → text.items ≡ shipped_table) }
+    ensures unread { IfErr result (λ e. IsUnreadText (option_map (λ t. t.now) table.entry) e.fault) }
+{
+    read_text_or(rt, table, SHIPPED_TABLE)
 }

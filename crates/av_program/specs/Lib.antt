@@ -3,3 +3,5 @@ pub mod RunCommand
 pub mod MapCommand
 pub mod StatesCommand
 pub mod Running
+pub mod Skipping
+pub mod DryRun

@@ -1,20 +1,26 @@
 -- What a run of the program leaves behind: in the account of the sink that its files are handed to, before and after; on its output,
 -- before and after; and its status. Which words it was called with and which bytes a file has, no clause can say.
-use Rattle.std.specs.Prelude.{◌≡◌, ◌≢◌, ◌⊎◌, ℕ, Bool, List, Option, option_map}
+use Rattle.std.specs.Prelude.{◌≡◌, ◌⊎◌, ◌≤◌, ℕ, false, true, List, Option, option_map}
+use Rattle.std.specs.List.{All}
 use Rattle.clap.specs.Words.{Text, kind_of}
 use Rattle.clap.specs.declared.error.Error.{Error}
+use Rattle.clap.specs.declared.error.kind.ErrorKind.{ErrorKind}
 use Rattle.clap.specs.declared.error.kind.ErrorKind.TheVariants as kind
 use Rattle.av_types.specs.declared.place.Pos.{Pos}
 use Rattle.av_types.specs.declared.place.Height.{Height}
 use Rattle.av_types.specs.declared.fault.Fault.{Fault}
 use Rattle.av_sink.specs.Account.{Account, IsDevice, in_folder}
+use Rattle.av_words.specs.declared.command_line.commands.RunWords.{RunWords}
 use Rattle.av_words.specs.declared.command_line.commands.Words.{Words}
 use Rattle.av_words.specs.declared.command_line.commands.Words.TheVariants.{Block, Check, Map, Run, States}
 use Rattle.av_commands.specs.BlockCommand.{HasAnswered}
-use Rattle.av_words.specs.CommandLine.{IsReadFrom, IsWordsRefusal}
+use Rattle.av_words.specs.CommandLine.{IsReadFrom, IsWordsRefusal, asks_twice}
 use Rattle.av_program.specs.CheckCommand.{HasChecked}
 use Rattle.av_program.specs.MapCommand.{HasMapped}
-use Rattle.av_program.specs.RunCommand.{HasRunRegions}
+use Rattle.av_program.specs.declared.running.Request.{Request}
+use Rattle.av_program.specs.DryRun.{HasRunDry}
+use Rattle.av_program.specs.RunCommand.{HasRunRegions, IsRequestOf}
+use Rattle.av_program.specs.Skipping.{IsSkipped}
 use Rattle.av_program.specs.StatesCommand.{HasListed}
 use Rattle.av_commands.specs.Tables.{IsHeightBy, IsUnreadTable}
 
@@ -28,26 +34,39 @@ pub data HasRun (file : List ℕ) (at : Pos) (table : Option (List ℕ)) (before
   unread : after ≡ before → status ≡ 1 → HasRun file at table before after status
 
 -- the same of `run`: what its files leave in the folder of that name, or nothing and 1 where the folder is refused or memory for the name runs out
-pub data HasRunInFolder (folder : List ℕ) (ticks workers : ℕ) (strict : Bool) (old new : Account) (before after : Option (List ℕ)) (status : ℕ) : Type 0 where
-  opened : HasRunRegions ticks workers strict (in_folder folder old) new before after status → HasRunInFolder folder ticks workers strict old new before after status
-  unopened : new ≡ old → after ≡ before → status ≡ 1 → HasRunInFolder folder ticks workers strict old new before after status
+pub data HasRunInFolder (folder : List ℕ) (q : Request) (old new : Account) (before after : Option (List ℕ)) (status : ℕ) : Type 0 where
+  opened : HasRunRegions q (in_folder folder old) new before after status → HasRunInFolder folder q old new before after status
+  unopened : new ≡ old → after ≡ before → status ≡ 1 → HasRunInFolder folder q old new before after status
+
+-- the same by its words. It may only be asked what it would change, which hands no file over; and only region files are skipped.
+pub data HasRunBy (run : RunWords) (old new : Account) (before after : Option (List ℕ)) (status : ℕ) : Type 0 where
+  run_by : (q : Request) → IsRequestOf run q → All (λ n. IsSkipped n.now) q.skip.now → run.dry_run ≡ false → HasRunInFolder run.output.now q old new before after status
+      → HasRunBy run old new before after status
+  run_dry_by : (q : Request) → IsRequestOf run q → All (λ n. IsSkipped n.now) q.skip.now → run.dry_run ≡ true → new ≡ old → HasRunDry q before after status
+      → HasRunBy run old new before after status
+  not_skipped : new ≡ old → after ≡ before → status ≡ 1 → HasRunBy run old new before after status
 
 -- the same of a command: `run` hands its files to the folder that its words name, `map` its picture to that of its path, and no other
 -- command hands any to a sink
 abbrev pub HasRunCommand : Words → Account → Account → Option (List ℕ) → Option (List ℕ) → ℕ → Type 0
 HasRunCommand (Block file at table explain) old new before after status = (new ≡ old) × HasRun file.now at (option_map (λ t. t.now) table) before after status
 HasRunCommand (Check input table progress explain) old new before after status = (new ≡ old) × HasChecked (option_map (λ t. t.now) table) before after status
-HasRunCommand (Run input output table edits ticks workers strict progress explain) old new before after status =
-    HasRunInFolder output.now ticks workers strict old new before after status
+HasRunCommand (Run run) old new before after status = HasRunBy run old new before after status
 HasRunCommand (Map input picture table colours light explain) old new before after status =
     (after ≡ before) × HasMapped picture.now (option_map (λ t. t.now) table) (option_map (λ t. t.now) colours) light old new status
 HasRunCommand (States input table explain) old new before after status = (new ≡ old) × HasListed (option_map (λ t. t.now) table) before after status
 
--- the same of words: the run of the command that they name, or a refusal, which may print help
+-- the status after words that are refused, after a call for help, and after one for the version, which may not be written
+abbrev pub IsRefusalStatus : ErrorKind → ℕ → Type 0
+IsRefusalStatus kind.OutOfMemory status = status ≡ 1
+IsRefusalStatus kind.DisplayVersion status = status ≤ 1
+IsRefusalStatus other status = status ≡ 2
+
+-- the same of words: the run of the command that they name, unless it asks twice for standard input, or a refusal, which may print help
 pub data HasRunWords (words : List Text) (old new : Account) (before after : Option (List ℕ)) (status : ℕ) : Type 0 where
-  ran : (command : Words) → IsReadFrom words command → HasRunCommand command old new before after status → HasRunWords words old new before after status
-  refused : (e : Error) → IsWordsRefusal words e → new ≡ old → (kind_of e ≡ kind.OutOfMemory → status ≡ 1) → (kind_of e ≢ kind.OutOfMemory → status ≡ 2)
-      → HasRunWords words old new before after status
+  ran : (command : Words) → IsReadFrom words command → asks_twice command ≡ false → HasRunCommand command old new before after status → HasRunWords words old new before after status
+  twice : (command : Words) → IsReadFrom words command → asks_twice command ≡ true → new ≡ old → after ≡ before → status ≡ 2 → HasRunWords words old new before after status
+  refused : (e : Error) → IsWordsRefusal words e → new ≡ old → IsRefusalStatus (kind_of e) status → HasRunWords words old new before after status
 
 -- the same of the program: the run of the words that it was called with, or nothing and a status where it can't have them
 pub data HasRunProgram (old new : Account) (before after : Option (List ℕ)) (status : ℕ) : Type 0 where

@@ -2,14 +2,15 @@
 ghost use Rattle.std.specs.Prelude.{◌≡◌};
 
 use crate::running::Request;
+use crate::skipping::read_others;
 use av_commands::device::read_file;
 use av_commands::failure::{Failure, Reason};
 use av_commands::manner::{Manner, Progress};
 use av_commands::tables::read_height;
-use av_folders::read_readable;
 use av_survey::{Finding, survey};
 use av_types::Fault;
-use std::io;
+use av_words::STANDARD_INPUT;
+use std::io::{self, Input};
 use std::rt::Files;
 
 /// The most ticks that are run.
@@ -27,9 +28,10 @@ fn count_cause(request: Request<'_>) -> Option<Reason> {
 }
 
 /// What is wrong with the table.
-fn table_cause<R: Files + AllocGlobal>(rt: &R, request: Request<'_>) -> Option<Reason> {
-    let text = read_file(rt, request.table).ok()?;
-    Reason::of_table(rt.alloc(), request.table, text.as_slice())
+fn table_cause<R: Files + Input + AllocGlobal>(rt: &R, request: Request<'_>) -> Option<Reason> {
+    let table = request.table?;
+    let text = read_file(rt, table).ok()?;
+    Reason::of_table(rt.alloc(), table, text.as_slice())
 }
 
 /// The first finding with a fault of that number.
@@ -46,7 +48,7 @@ fn first_with(found: &[Finding], number: u8) -> Option<Reason> {
 }
 
 /// The first file or chunk with a fault, where one has it by itself.
-fn chunk_cause<R: Files + AllocGlobal + Clone + Drop>(
+fn chunk_cause<R: Files + Input + AllocGlobal + Clone + Drop>(
     rt: &R,
     request: Request<'_>,
     fault: &Fault,
@@ -55,14 +57,15 @@ fn chunk_cause<R: Files + AllocGlobal + Clone + Drop>(
         progress: Progress::Silent,
         explains: false,
     };
-    let height = read_height(rt, Some(request.table)).ok()?;
-    let read = read_readable(rt, request.input, manner, &mut io::sink()).ok()?;
-    let found = survey(rt.alloc(), read.files, height).ok()?;
+    let height = read_height(rt, request.table).ok()?;
+    let files = read_others(rt, request.input, request.skip, manner, &mut io::sink()).ok()?;
+    let found = survey(rt.alloc(), files, height).ok()?;
     first_with(found.as_slice(), fault.number())
 }
 
-/// The failure of a run with a fault. Its reason is looked for where it is asked for.
-pub(crate) fn failure_of_run<R: Files + AllocGlobal + Clone + Drop>(
+/// The failure of a run with a fault. Its reason is looked for where it is asked for, and what needs the table only where that can be
+/// read again.
+pub(crate) fn failure_of_run<R: Files + Input + AllocGlobal + Clone + Drop>(
     rt: &R,
     request: Request<'_>,
     fault: Fault,
@@ -73,6 +76,7 @@ pub(crate) fn failure_of_run<R: Files + AllocGlobal + Clone + Drop>(
     let reason = match &fault {
         _ if !explains => None,
         Fault::BadCount => count_cause(request),
+        _ if request.table == Some(STANDARD_INPUT) => None,
         Fault::BadTable => table_cause(rt, request),
         Fault::OutOfMemory | Fault::Device(_) => None,
         _ => chunk_cause(rt, request, &fault),

@@ -14,11 +14,11 @@ use av_folders::{FolderFiles, read_readable};
 use av_survey::survey;
 use av_types::Height;
 use std::alloc::Global;
-use std::io::Write;
+use std::io::{Input, Write};
 use std::rt::Files;
 
 /// What `check` reads: the world's height, by the block table, and then the folder's region files.
-fn read_inputs<R: Files + AllocGlobal + Clone + Drop, E: Write>(
+fn read_inputs<R: Files + Input + AllocGlobal + Clone + Drop, E: Write>(
     rt: &R,
     folder: &str,
     table: Option<&str>,
@@ -52,7 +52,7 @@ fn survey_files<O: Write, E: Write>(
 }
 
 /// Runs `check`.
-pub(crate) fn run_check<R: Files + AllocGlobal + Clone + Drop, O: Write, E: Write>(
+pub(crate) fn run_check<R: Files + Input + AllocGlobal + Clone + Drop, O: Write, E: Write>(
     rt: &R,
     folder: &str,
     table: Option<&str>,

@@ -5,7 +5,7 @@ ghost use Rattle.av_png.specs.Png.{png_of};
 ghost use Rattle.av_map.specs.Views.{colours_of};
 ghost use Rattle.av_program.specs.MapCommand.{AreColoursBy, HasMapped, IsMapBy, IsNotSaved, IsSaved, view_by};
 
-use av_commands::device::read_file;
+use av_commands::device::read_text;
 use av_commands::failure::Failure;
 use av_commands::manner::Manner;
 use av_commands::names::split_path;
@@ -19,7 +19,7 @@ use av_png::{Picture, write_png};
 use av_sink::OutputFolder;
 use av_types::Fault;
 use std::alloc::{AllocError, Global};
-use std::io::Write;
+use std::io::{Input, Write};
 use std::rt::Files;
 
 /// What a picture is asked for.
@@ -45,13 +45,16 @@ fn view_by(light: bool) -> View
 }
 
 /// The colours of a file, where one is named.
-fn read_colours<R: Files + AllocGlobal>(rt: &R, name: Option<&str>) -> Result<Colours, Failure>
+fn read_colours<R: Files + Input + AllocGlobal>(
+    rt: &R,
+    name: Option<&str>,
+) -> Result<Colours, Failure>
     ensures { IfOk result (λ c. AreColoursBy (option_map (λ t. t.now) name.entry) (colours_of c)) }
 {
     let Some(name) = name else {
         return Ok(Colours::none(rt.alloc()));
     };
-    let text = read_file(rt, name)?;
+    let text = read_text(rt, name)?;
     Ok(Colours::read(rt.alloc(), text.as_slice())?)
 }
 
@@ -75,7 +78,7 @@ impl From<Refusal> for NoPicture {
 }
 
 /// Reads what is asked for, and draws it.
-fn draw_map<R: Files + AllocGlobal + Clone + Drop, E: Write>(
+fn draw_map<R: Files + Input + AllocGlobal + Clone + Drop, E: Write>(
     rt: &R,
     order: Order<'_>,
     manner: Manner,
@@ -157,7 +160,7 @@ fn report_no_picture<E: Write>(alloc: Global, err: &mut E, none: &NoPicture, man
 
 /// Runs `map`. The answer is the program's status: 0, even where chunks with a fault are not shown; 1 where there is no picture, or
 /// it could not be written.
-pub(crate) fn run_map<R: Files + AllocGlobal + Clone + Drop, S: OutputFolder, E: Write>(
+pub(crate) fn run_map<R: Files + Input + AllocGlobal + Clone + Drop, S: OutputFolder, E: Write>(
     rt: &R,
     order: Order<'_>,
     sink: &mut S,

@@ -4,8 +4,10 @@
 mod causes;
 pub mod checking;
 pub mod drawing;
+pub mod dry_run;
 pub mod listing;
 pub mod program;
 pub mod running;
+pub mod skipping;
 
 pub use program::run;

@@ -9,7 +9,7 @@ use av_commands::output::{FAULT, report_output, write_first, write_left_out};
 use av_commands::reasons::report_failure;
 use av_commands::tables::{read_rules, world_height};
 use av_folders::read_folder;
-use std::io::Write;
+use std::io::{Input, Write};
 use std::rt::Files;
 
 /// The lines of `states`.
@@ -21,7 +21,7 @@ pub(crate) struct Listing {
 }
 
 /// Reads the table and the folder, and lists the states.
-fn list_states<R: Files + AllocGlobal + Clone + Drop, E: Write>(
+fn list_states<R: Files + Input + AllocGlobal + Clone + Drop, E: Write>(
     rt: &R,
     folder: &str,
     table: Option<&str>,
@@ -53,7 +53,7 @@ fn report_left_out<E: Write>(err: &mut E, left_out: u64) -> u8
 
 /// Runs `states`. The answer is the program's status: 0; 1 after a fault, where chunks were left out, and where the lines could
 /// not be written, or only their beginning.
-pub(crate) fn run_states<R: Files + AllocGlobal + Clone + Drop, O: Write, E: Write>(
+pub(crate) fn run_states<R: Files + Input + AllocGlobal + Clone + Drop, O: Write, E: Write>(
     rt: &R,
     folder: &str,
     table: Option<&str>,

@@ -2,19 +2,21 @@
 ghost use Rattle.std.specs.Prelude.{◌≡◌, ◌≢◌, ◌≤◌, IfErr, IfOk, map, option_map};
 ghost use Rattle.clap.specs.Words.{kind_of};
 ghost use Rattle.av_program.specs.RunCommand.{HasRunRegions};
-ghost use Rattle.av_program.specs.Running.{HasRun, HasRunCommand, HasRunInFolder, HasRunProgram, HasRunWords, IsUnread};
+ghost use Rattle.av_program.specs.Running.{HasRun, HasRunBy, HasRunCommand, HasRunInFolder, HasRunProgram, HasRunWords, IsRefusalStatus, IsUnread};
 ghost use Rattle.av_sink.specs.Account.{IsFresh};
 ghost use Rattle.av_commands.specs.Tables.{IsHeightBy};
 
 use crate::checking::run_check;
 use crate::drawing::{Order, run_map};
+use crate::dry_run::run_dry;
 use crate::listing::run_states;
-use crate::running::{Request, report, run_over};
+use crate::running::{Request, report, request_of, run_over};
+use crate::skipping::{judge_skips, report_skip};
 use av_commands::block::{block_text, note_other_file};
 use av_commands::device::read_file;
 use av_commands::failure::Failure;
 use av_commands::manner::Manner;
-use av_commands::output::{FAULT, REFUSED, report_fault};
+use av_commands::output::{FAULT, REFUSED, report_fault, report_output};
 use av_commands::reasons::report_failure;
 use av_commands::tables::read_height;
 use av_folders::progress::{end_steps, note_written};
@@ -22,23 +24,34 @@ use av_folders::try_folder;
 use av_run::Ran;
 use av_sink::{OutputFolder, Sink};
 use av_types::{Fault, Height, Pos};
-use av_words::{Words, words};
+use av_words::{RunWords, Words, words};
 use clap::Error;
 use clap::error::ErrorKind;
 use std::alloc::{AllocError, Global};
 use std::env;
-use std::io::{self, Write};
+use std::io::{self, Input, Write};
 use std::rt::{Env, Files};
 use std::sync::Wait;
 use std::thread::Threads;
 
-/// Writes why words were refused, or the help that was called for, and answers the status.
-fn explain_words<O: Write, E: Write>(out: &mut O, err: &mut E, error: &Error) -> u8
-    ensures memory { kind_of error.now ≡ ErrorKind.OutOfMemory → result ≡ FAULT }
-    ensures refused { kind_of error.now ≢ ErrorKind.OutOfMemory → result ≡ REFUSED }
+/// Writes the version that was asked for, and answers the status.
+fn tell_version<O: Write, E: Write>(out: &mut O, err: &mut E, error: &Error) -> u8
+    ensures { result ≤ FAULT }
 {
-    if error.kind() == ErrorKind::OutOfMemory {
-        return report_fault(err, &Fault::OutOfMemory);
+    match write!(out, "{error}") {
+        Ok(()) => 0,
+        Err(error) => report_output(err, &error),
+    }
+}
+
+/// Writes why words were refused, or the help or the version that was called for, and answers the status.
+fn explain_words<O: Write, E: Write>(out: &mut O, err: &mut E, error: &Error) -> u8
+    ensures { IsRefusalStatus (kind_of error.now) result }
+{
+    match error.kind() {
+        ErrorKind::OutOfMemory => return report_fault(err, &Fault::OutOfMemory),
+        ErrorKind::DisplayVersion => return tell_version(out, err, error),
+        _ => {}
     }
     let _ = if error.use_stderr() {
         write!(err, "{error}")
@@ -49,7 +62,7 @@ fn explain_words<O: Write, E: Write>(out: &mut O, err: &mut E, error: &Error) ->
 }
 
 /// What `block` reads: the world's height, by the block table, and then the file.
-fn read_inputs<R: Files + AllocGlobal>(
+fn read_inputs<R: Files + Input + AllocGlobal>(
     rt: &R,
     file: &str,
     table: Option<&str>,
@@ -62,7 +75,7 @@ fn read_inputs<R: Files + AllocGlobal>(
 }
 
 /// Reads a region file, and answers what block it has at a position.
-fn answer_block<R: Files + AllocGlobal, O: Write, E: Write>(
+fn answer_block<R: Files + Input + AllocGlobal, O: Write, E: Write>(
     rt: &R,
     file: &str,
     pos: Pos,
@@ -89,7 +102,7 @@ fn answer_block<R: Files + AllocGlobal, O: Write, E: Write>(
 }
 
 /// Runs `block`.
-fn run_block<R: Files + AllocGlobal, O: Write, E: Write>(
+fn run_block<R: Files + Input + AllocGlobal, O: Write, E: Write>(
     rt: &R,
     file: &str,
     pos: Pos,
@@ -118,7 +131,7 @@ fn note_end<E: Write>(ran: &Result<Ran, Failure>, manner: Manner, err: &mut E) {
 
 /// Runs `run`, and hands its files to a sink that has taken none yet and has not failed.
 fn run_regions<
-    R: Files + AllocGlobal + Clone + Drop + Threads + Wait + Sync,
+    R: Files + Input + AllocGlobal + Clone + Drop + Threads + Wait + Sync,
     S: Sink,
     O: Write,
     E: Write,
@@ -126,7 +139,7 @@ fn run_regions<
     requires failures { (S.account sink.old).failures ≡ 0 }
     requires handed { (S.account sink.old).handed ≡ 0 }
     ensures status { result ≤ REFUSED }
-    ensures ran { HasRunRegions request.entry.ticks request.entry.workers request.entry.strict (S.account sink.old) (S.account sink.new) (O.contents out.old) (O.contents out.new) result }
+    ensures ran { HasRunRegions request.entry (S.account sink.old) (S.account sink.new) (O.contents out.old) (O.contents out.new) result }
 {
     let ran = run_over(rt, request, sink, manner, err);
     note_end(&ran, manner, err);
@@ -135,7 +148,7 @@ fn run_regions<
 
 /// Runs `run`, and hands its files to the folder of that name, which is looked at before anything is read.
 fn run_in_folder<
-    R: Files + AllocGlobal + Clone + Drop + Threads + Wait + Sync,
+    R: Files + Input + AllocGlobal + Clone + Drop + Threads + Wait + Sync,
     S: OutputFolder,
     O: Write,
     E: Write,
@@ -150,7 +163,7 @@ fn run_in_folder<
 ) -> u8
     requires fresh { IsFresh (S.account sink.old) }
     ensures status { result ≤ REFUSED }
-    ensures ran { HasRunInFolder folder.now request.entry.ticks request.entry.workers request.entry.strict (S.account sink.old) (S.account sink.new) (O.contents out.old) (O.contents out.new) result }
+    ensures ran { HasRunInFolder folder.now request.entry (S.account sink.old) (S.account sink.new) (O.contents out.old) (O.contents out.new) result }
 {
     if let Err(failure) = try_folder(rt, folder) {
         return report_failure(rt.alloc(), err, &failure, manner.explains);
@@ -161,9 +174,31 @@ fn run_in_folder<
     }
 }
 
+/// Runs `run`, or says what it would change where that alone is asked for. A file that is to be skipped and isn't there is refused
+/// before anything is read.
+fn run_run<
+    R: Files + Input + AllocGlobal + Clone + Drop + Threads + Wait + Sync,
+    S: OutputFolder,
+    O: Write,
+    E: Write,
+>(rt: &R, words: &RunWords<'_>, sink: &mut S, manner: Manner, out: &mut O, err: &mut E) -> u8
+    requires fresh { IsFresh (S.account sink.old) }
+    ensures status { result ≤ REFUSED }
+    ensures ran { HasRunBy words.now (S.account sink.old) (S.account sink.new) (O.contents out.old) (O.contents out.new) result }
+{
+    if let Err(refusal) = judge_skips(rt, words.input, words.skip.as_slice()) {
+        return report_skip(err, &refusal);
+    }
+    let request = request_of(rt, words);
+    if words.dry_run {
+        return run_dry(rt, request, words.output, manner, out, err);
+    }
+    run_in_folder(rt, request, words.output, sink, manner, out, err)
+}
+
 /// Runs a command. Where standard error is a terminal, it says how far long work is, and why it failed.
 fn run_command<
-    R: Files + AllocGlobal + Clone + Drop + Threads + Wait + Sync,
+    R: Files + Input + AllocGlobal + Clone + Drop + Threads + Wait + Sync,
     S: OutputFolder,
     O: Write,
     E: Write,
@@ -185,26 +220,7 @@ fn run_command<
             ..
         } => run_block(rt, file, pos, table, manner, out, err),
         Words::Check { input, table, .. } => run_check(rt, input, table, manner, out, err),
-        Words::Run {
-            input,
-            output,
-            table,
-            edits,
-            ticks,
-            workers,
-            strict,
-            ..
-        } => {
-            let request = Request {
-                input,
-                table,
-                edits,
-                ticks,
-                workers,
-                strict,
-            };
-            run_in_folder(rt, request, output, sink, manner, out, err)
-        }
+        Words::Run(run) => run_run(rt, &run, sink, manner, out, err),
         Words::Map {
             input,
             picture,
@@ -226,9 +242,20 @@ fn run_command<
     }
 }
 
+/// Says that standard input can't be read twice, and answers the status.
+fn refuse_twice<E: Write>(err: &mut E) -> u8
+    ensures { result ≡ REFUSED }
+{
+    let _ = writeln!(
+        err,
+        "error: - is standard input, which can be read once, and two files are -"
+    );
+    REFUSED
+}
+
 /// Runs the command that the words name.
 fn run_words<
-    R: Files + AllocGlobal + Clone + Drop + Threads + Wait + Sync,
+    R: Files + Input + AllocGlobal + Clone + Drop + Threads + Wait + Sync,
     S: OutputFolder,
     O: Write,
     E: Write,
@@ -238,6 +265,7 @@ fn run_words<
     ensures ran { HasRunWords (map (λ s. s.now) given.now) (S.account sink.old) (S.account sink.new) (O.contents out.old) (O.contents out.new) result }
 {
     match words(rt.alloc(), given) {
+        Ok(command) if command.asks_twice() => refuse_twice(err),
         Ok(command) => run_command(rt, is_terminal, command, sink, out, err),
         Err(error) => explain_words(out, err, &error),
     }
@@ -256,10 +284,10 @@ fn as_texts(alloc: Global, words: &[String]) -> Result<Vec<&str>, AllocError> {
 /// Reads the words that the program was called with and does what they say. Where standard error is a terminal, long work
 /// says there how far it is. The region files of `run` go to the folder that its words name, and the picture of `map` to that of
 /// its path, which the sink opens; it has opened none. Each other command leaves it as it is. The answer is the program's
-/// status: 0; 1 after a fault, where `check` found something, and where `states` left chunks out; 2 after words that are
-/// refused or call for help.
+/// status: 0, also where the version is asked for; 1 after a fault, where `check` found something, and where `states` left chunks
+/// out; 2 after words that are refused or call for help.
 pub fn run<
-    R: Env + Files + AllocGlobal + Clone + Drop + Threads + Wait + Sync,
+    R: Env + Files + Input + AllocGlobal + Clone + Drop + Threads + Wait + Sync,
     S: OutputFolder,
     O: Write,
     E: Write,

@@ -1,42 +1,88 @@
 //! The command `run`: edits, water and light over the region files of a folder.
-ghost use Rattle.std.specs.Prelude.{◌≡◌, IfErr, OnOk};
+ghost use Rattle.std.specs.Prelude.{◌≡◌, ◌≤◌, IfErr, IfOk, OnOk};
 ghost use Rattle.std.specs.Io.KnownBytes.{Appends};
 ghost use Rattle.av_commands.specs.Output.{line};
-ghost use Rattle.av_program.specs.RunCommand.{HasCounts, HasReported, HasRunInto, HasRunOver, IsHandedOver, IsNotHandedOver, IsUnreadRun, strict_text, uncovered_text};
+ghost use Rattle.av_program.specs.RunCommand.{HasCounts, HasReported, HasRunInto, HasRunOver, IsHandedOver, IsNotHandedOver, IsReadBy, IsRequestOf, IsRunOf, IsUnreadRun, IsWorkersBy, strict_text, uncovered_text};
 
 use crate::causes::failure_of_run;
-use av_commands::device::read_file;
+use crate::skipping::read_others;
+use av_commands::device::read_text_or;
 use av_commands::failure::Failure;
 use av_commands::manner::Manner;
 use av_commands::output::{FAULT, report_output};
 use av_commands::reasons::report_failure;
+use av_commands::tables::read_table;
 use av_crew::NoGate;
 use av_folders::progress::note_step;
-use av_folders::read_folder;
 use av_region_files::RegionFile;
 use av_run::{Outcome, Ran, run_checked};
 use av_sink::{Sink, save_all};
 use av_types::Fault;
+use av_words::RunWords;
 use std::alloc::Global;
-use std::io::{self, Write};
+use std::io::{self, Input, Write};
 use std::rt::Files;
 use std::sync::Wait;
-use std::thread::Threads;
+use std::thread::{self, Threads};
 
 /// What a run is asked for.
 #[derive(Clone, Copy, Drop)]
 pub(crate) struct Request<'a> {
     /// The folder whose region files are read.
     pub(crate) input: &'a str,
-    /// The file of the block table.
-    pub(crate) table: &'a str,
-    /// The file of the edits.
-    pub(crate) edits: &'a str,
+    /// The file of the block table, which is that of the program where none is named.
+    pub(crate) table: Option<&'a str>,
+    /// The file of the edits. There are none where none is named.
+    pub(crate) edits: Option<&'a str>,
     pub(crate) ticks: u32,
     /// How many threads turn blocks.
     pub(crate) workers: u32,
+    /// The names of region files that count as not there.
+    pub(crate) skip: &'a [&'a str],
     /// Whether nothing is run where a state of the world has no row in the table.
     pub(crate) strict: bool,
+    /// Whether to run even where an earlier run was finished first.
+    pub(crate) again: bool,
+}
+
+/// The most workers of a run that are taken unasked.
+const MOST_WORKERS: usize = 8;
+
+/// How many processors there are, up to the most workers, or 1 where that can't be told.
+fn processors<R: Threads>(rt: &R) -> u32
+    ensures least { 1 ≤ result }
+    ensures most { result ≤ 8 }
+{
+    match thread::available_parallelism(rt) {
+        Ok(processors) => processors.get().min(MOST_WORKERS) as u32,
+        Err(_) => 1,
+    }
+}
+
+/// How many workers a run has: as many as it is given, or one for each processor.
+fn workers_of<R: Threads>(rt: &R, given: Option<u32>) -> u32
+    ensures { IsWorkersBy given result }
+{
+    match given {
+        Some(workers) => workers,
+        None => processors(rt),
+    }
+}
+
+/// What the words of a run ask for.
+pub(crate) fn request_of<'a, R: Threads>(rt: &R, words: &'a RunWords<'a>) -> Request<'a>
+    ensures { IsRequestOf words.now result }
+{
+    Request {
+        input: words.input,
+        table: words.table,
+        edits: words.edits,
+        ticks: words.ticks,
+        workers: workers_of(rt, words.workers),
+        skip: words.skip.as_slice(),
+        strict: words.strict,
+        again: words.again,
+    }
 }
 
 /// What `run` reads.
@@ -48,17 +94,18 @@ pub(crate) struct Inputs {
 }
 
 /// What `run` reads: the table, the edits, and then the folder.
-fn read_inputs<R: Files + AllocGlobal + Clone + Drop, E: Write>(
+pub(crate) fn read_inputs<R: Files + Input + AllocGlobal + Clone + Drop, E: Write>(
     rt: &R,
     request: Request<'_>,
     manner: Manner,
     err: &mut E,
 ) -> Result<Inputs, Failure>
-    ensures { IfErr result (λ e. IsUnreadRun request.entry.table.now request.entry.edits.now request.entry.input.now e.fault) }
+    ensures read { IfOk result (IsReadBy request.entry) }
+    ensures unread { IfErr result (λ e. IsUnreadRun request.entry e.fault) }
 {
-    let table = read_file(rt, request.table)?;
-    let edits = read_file(rt, request.edits)?;
-    let files = read_folder(rt, request.input, manner, err)?;
+    let table = read_table(rt, request.table)?;
+    let edits = read_text_or(rt, request.edits, "")?;
+    let files = read_others(rt, request.input, request.skip, manner, err)?;
     Ok(Inputs {
         table,
         edits,
@@ -88,21 +135,19 @@ fn hand_over<S: Sink, E: Write>(
     }
 }
 
-/// Runs what was read, and hands the files to a sink that has taken none yet and has not failed.
-fn run_into<R: Files + AllocGlobal + Threads + Wait + Sync, S: Sink, E: Write>(
+/// Runs what was read.
+pub(crate) fn run_inputs<R: Files + Input + AllocGlobal + Threads + Wait + Sync, E: Write>(
     rt: &R,
     inputs: Inputs,
     request: Request<'_>,
-    sink: &mut S,
     manner: Manner,
     err: &mut E,
 ) -> Result<Ran, Fault>
-    requires failures { (S.account sink.old).failures ≡ 0 }
-    requires handed { (S.account sink.old).handed ≡ 0 }
-    ensures { HasRunInto inputs request.entry.ticks request.entry.workers request.entry.strict (S.account sink.old) (S.account sink.new) result }
+    requires { IsReadBy request.entry inputs }
+    ensures { IsRunOf request.entry inputs result }
 {
     note_step(err, manner.progress, "running");
-    let ran = run_checked(
+    run_checked(
         rt,
         rt.alloc(),
         inputs.files,
@@ -112,20 +157,37 @@ fn run_into<R: Files + AllocGlobal + Threads + Wait + Sync, S: Sink, E: Write>(
         request.workers,
         request.strict,
         &NoGate,
-    )?;
+    )
+}
+
+/// Runs what was read, and hands the files to a sink that has taken none yet and has not failed.
+fn run_into<R: Files + Input + AllocGlobal + Threads + Wait + Sync, S: Sink, E: Write>(
+    rt: &R,
+    inputs: Inputs,
+    request: Request<'_>,
+    sink: &mut S,
+    manner: Manner,
+    err: &mut E,
+) -> Result<Ran, Fault>
+    requires read { IsReadBy request.entry inputs }
+    requires failures { (S.account sink.old).failures ≡ 0 }
+    requires handed { (S.account sink.old).handed ≡ 0 }
+    ensures { HasRunInto request.entry inputs (S.account sink.old) (S.account sink.new) result }
+{
+    let ran = run_inputs(rt, inputs, request, manner, err)?;
     hand_over(rt.alloc(), &ran, sink, manner, err)?;
     Ok(ran)
 }
 
 /// Reads what is asked for, runs it, and hands the files to a sink that has taken none yet and has not failed.
 pub(crate) fn run_over<
-    R: Files + AllocGlobal + Clone + Drop + Threads + Wait + Sync,
+    R: Files + Input + AllocGlobal + Clone + Drop + Threads + Wait + Sync,
     S: Sink,
     E: Write,
 >(rt: &R, request: Request<'_>, sink: &mut S, manner: Manner, err: &mut E) -> Result<Ran, Failure>
     requires failures { (S.account sink.old).failures ≡ 0 }
     requires handed { (S.account sink.old).handed ≡ 0 }
-    ensures { HasRunOver request.entry.ticks request.entry.workers request.entry.strict (S.account sink.old) (S.account sink.new) result }
+    ensures { HasRunOver request.entry (S.account sink.old) (S.account sink.new) result }
 {
     let inputs = read_inputs(rt, request, manner, err)?;
     match run_into(rt, inputs, request, sink, manner, err) {

@@ -2,7 +2,7 @@
 ghost use Rattle.std.specs.Prelude.{◌≡◌, codes, false};
 ghost use Rattle.clap.specs.declared.builder.command.Command.TheViews.{out-Command};
 ghost use Rattle.clap.specs.Words.{app_of, new_app, rule_of};
-ghost use Rattle.av_words.specs.CommandLine.{count_rule, file_rule, flag_rule, number_rule, option_rule};
+ghost use Rattle.av_words.specs.CommandLine.{count_rule, file_rule, flag_rule, number_rule, option_rule, repeated_rule};
 
 use clap::{Arg, ArgAction, Command, value_parser};
 use std::alloc::Global;
@@ -44,12 +44,20 @@ pub(crate) fn named<'a>(
         .help(help)
 }
 
-/// `--NAME N`, a number of 32 bits without a sign, which has to be given.
-pub(crate) fn counted<'a>(alloc: Global, name: &'a str, help: &'a str) -> Arg<'a>
-    ensures rule { rule_of result ≡ count_rule name.entry.now }
+/// `--NAME N`, a number of 32 bits without a sign, which has to be given or may be left out.
+pub(crate) fn counted<'a>(alloc: Global, name: &'a str, required: bool, help: &'a str) -> Arg<'a>
+    ensures rule { rule_of result ≡ count_rule name.entry.now required }
     ensures local { result.global ≡ false }
 {
-    named(alloc, name, "N", true, help).value_parser(value_parser!(u32))
+    named(alloc, name, "N", required, help).value_parser(value_parser!(u32))
+}
+
+/// `--NAME VALUE`, which may be given many times.
+pub(crate) fn repeated<'a>(alloc: Global, name: &'a str, value: &'a str, help: &'a str) -> Arg<'a>
+    ensures rule { rule_of result ≡ repeated_rule name.entry.now }
+    ensures local { result.global ≡ false }
+{
+    named(alloc, name, value, false, help).action(ArgAction::Append)
 }
 
 /// `--table FILE`, which may be left out.

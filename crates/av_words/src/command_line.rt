@@ -1,23 +1,27 @@
 //! The words of the command line, read by `clap`.
-ghost use Rattle.std.specs.Prelude.{◌≡◌, IfErr, IfNone, IfOk, IfSome, List, Some, codes, false, map, ℕ, ℤ};
+ghost use Rattle.std.specs.Prelude.{◌≡◌, IfErr, IfNone, IfOk, IfSome, List, Option, Some, codes, false, map, ℕ, ℤ};
 ghost use Rattle.std.specs.Borrow.{Bor};
 ghost use Rattle.clap.specs.declared.builder.command.Command.TheViews.{out-Command};
 ghost use Rattle.clap.specs.Words.{app_of, found_of, kind_of, rows_of, subcommand_rows_of, Row};
 ghost use Rattle.av_words.specs.declared.command_line.commands.Words.{Words};
-ghost use Rattle.av_words.specs.CommandLine.{HasCount, HasFlag, HasNumber, HasText, HasValues, IsReadFrom, IsWordsRefusal, LacksBlock, LacksCheck, LacksMap, LacksRun, LacksStates, MayHaveText};
-ghost use Rattle.av_words.specs.CommandLine.{anvilwater, bare_app, block_app, check_app, map_app, name_of, run_app, states_app, with_files};
+ghost use Rattle.av_words.specs.CommandLine.{HasCount, HasFlag, HasNumber, HasRunValues, HasText, HasTexts, HasValues, IsReadFrom, IsWordsRefusal, LacksBlock, LacksCheck, LacksMap, LacksRun, LacksStates, MayHaveCount, MayHaveText};
+ghost use Rattle.av_words.specs.CommandLine.{anvilwater, bare_app, block_app, check_app, map_app, name_of, run_app, states_app, with_counts, with_files, with_flags};
 
 use crate::arguments::{
     command, coordinate, counted, explain_flag, file, flag, height_table, named, progress_flag,
+    repeated,
 };
 use av_types::Pos;
 use clap::error::ErrorKind;
 use clap::{ArgMatches, Command, Error};
-use std::alloc::Global;
+use std::alloc::{AllocError, Global};
 
 pub mod commands;
 
-use commands::Words;
+use commands::{RunWords, Words};
+
+/// What `--version` answers behind the program's name.
+pub const VERSION: &str = "0.1.0";
 
 /// `block [--table FILE] [--explain] FILE X Y Z`.
 fn block_command<'a>(alloc: Global) -> Result<Command<'a>, Error>
@@ -60,7 +64,7 @@ fn check_command<'a>(alloc: Global) -> Result<Command<'a>, Error>
     Ok(check)
 }
 
-/// Adds the folders and files of `run`.
+/// Adds the folders and texts of `run`.
 fn with_files<'a>(alloc: Global, run: Command<'a>) -> Result<Command<'a>, Error>
     requires { (out-Command run).has_globals ≡ false }
     ensures app { IfOk result (λ c. app_of c ≡ with_files (app_of run.entry)) }
@@ -69,15 +73,53 @@ fn with_files<'a>(alloc: Global, run: Command<'a>) -> Result<Command<'a>, Error>
 {
     let read = "The folder whose files r.X.Z.mca are read";
     let written = "The folder that they are written to; it may be the same";
+    let table = "The block table, and - for standard input; without it that of the program";
+    let edits = "The edits, and - for standard input; without it there are none";
     let run = run
         .arg(named(alloc, "in", "DIR", true, read))?
         .arg(named(alloc, "out", "DIR", true, written))?
-        .arg(named(alloc, "table", "FILE", true, "The block table"))?
-        .arg(named(alloc, "edits", "FILE", true, "The edits"))?;
+        .arg(named(alloc, "table", "FILE", false, table))?
+        .arg(named(alloc, "edits", "FILE", false, edits))?;
     Ok(run)
 }
 
-/// `run --in DIR --out DIR --table FILE --edits FILE --ticks N --workers N [--strict] [--progress] [--explain]`.
+/// Adds the counts of `run`, and the files that it leaves out.
+fn with_counts<'a>(alloc: Global, run: Command<'a>) -> Result<Command<'a>, Error>
+    requires { (out-Command run).has_globals ≡ false }
+    ensures app { IfOk result (λ c. app_of c ≡ with_counts (app_of run.entry)) }
+    ensures local { IfOk result (λ c. (out-Command c).has_globals ≡ false) }
+    ensures memory { IfErr result (λ e. kind_of e ≡ ErrorKind.OutOfMemory) }
+{
+    let ticks = "How many ticks are run";
+    let workers =
+        "How many workers run them, 1 to 8; without it one for each processor, and 8 at most";
+    let skip = "A file of the folder, r.X.Z.mca, that counts as not there and stays as it is";
+    let run = run
+        .arg(counted(alloc, "ticks", true, ticks))?
+        .arg(counted(alloc, "workers", false, workers))?
+        .arg(repeated(alloc, "skip", "NAME", skip))?;
+    Ok(run)
+}
+
+/// Adds the flags of `run` that no other command has.
+fn with_flags<'a>(alloc: Global, run: Command<'a>) -> Result<Command<'a>, Error>
+    requires { (out-Command run).has_globals ≡ false }
+    ensures app { IfOk result (λ c. app_of c ≡ with_flags (app_of run.entry)) }
+    ensures local { IfOk result (λ c. (out-Command c).has_globals ≡ false) }
+    ensures memory { IfErr result (λ e. kind_of e ≡ ErrorKind.OutOfMemory) }
+{
+    let strict = "Runs nothing where a block state of the world has no row in the table";
+    let again = "Runs even where an earlier run was finished first";
+    let dry_run = "Says which files and how many of their chunks would change, and writes nothing";
+    let run = run
+        .arg(flag(alloc, "strict", strict))?
+        .arg(flag(alloc, "again", again))?
+        .arg(flag(alloc, "dry-run", dry_run))?;
+    Ok(run)
+}
+
+/// `run --in DIR --out DIR [--table FILE] [--edits FILE] --ticks N [--workers N] [--skip NAME].. [--strict] [--again] [--dry-run]
+/// [--progress] [--explain]`.
 fn run_command<'a>(alloc: Global) -> Result<Command<'a>, Error>
     ensures app { IfOk result (λ c. app_of c ≡ run_app) }
     ensures local { IfOk result (λ c. (out-Command c).has_globals ≡ false) }
@@ -85,12 +127,10 @@ fn run_command<'a>(alloc: Global) -> Result<Command<'a>, Error>
 {
     let about = "Runs edits, water and block light over the region files of a folder";
     let usage =
-        "anvilwater run --in DIR --out DIR --table FILE --edits FILE --ticks N --workers N [--strict] [--progress] [--explain]";
-    let strict = "Runs nothing where a block state of the world has no row in the table";
-    let run = with_files(alloc, command(alloc, "run", about, usage))?
-        .arg(counted(alloc, "ticks", "How many ticks are run"))?
-        .arg(counted(alloc, "workers", "How many workers run them, 1 to 8"))?
-        .arg(flag(alloc, "strict", strict))?
+        "anvilwater run --in DIR --out DIR [--table FILE] [--edits FILE] --ticks N [--workers N] [--skip NAME].. [--strict] [--again] [--dry-run] [--progress] [--explain]";
+    let run = with_files(alloc, command(alloc, "run", about, usage))?;
+    let run = with_counts(alloc, run)?;
+    let run = with_flags(alloc, run)?
         .arg(progress_flag(alloc))?
         .arg(explain_flag(alloc))?;
     Ok(run)
@@ -148,6 +188,7 @@ fn bare_program<'a>(alloc: Global) -> Command<'a>
 {
     let about = "Reads Minecraft region files, and runs water and light over them";
     command(alloc, "anvilwater", about, "anvilwater COMMAND")
+        .version(VERSION)
         .no_binary_name(true)
         .subcommand_required(true)
 }
@@ -185,6 +226,31 @@ fn count_of(matches: &ArgMatches<'_>, name: &str) -> Option<u32>
     ensures none { IfNone result ((n : ℕ) → HasCount (rows_of (found_of matches.now)) name.now n → ⊥) }
 {
     matches.get_one::<u32>(name)
+}
+
+/// The same of an argument that may be left out. None where it is given and is no such number.
+fn count_if_given(matches: &ArgMatches<'_>, name: &str) -> Option<Option<u32>>
+    ensures value { IfSome result (MayHaveCount (rows_of (found_of matches.now)) name.now) }
+    ensures none { IfNone result ((n : Option ℕ) → MayHaveCount (rows_of (found_of matches.now)) name.now n → ⊥) }
+{
+    match text_of(matches, name) {
+        Some(_) => Some(Some(count_of(matches, name)?)),
+        None => Some(None),
+    }
+}
+
+/// The texts of an argument, in their order.
+fn texts_of<'a>(
+    alloc: Global,
+    matches: &ArgMatches<'a>,
+    name: &str,
+) -> Result<Vec<&'a str>, AllocError>
+    ensures { IfOk result (λ texts. HasTexts (rows_of (found_of matches.now)) name.now texts.items) }
+{
+    match matches.get_strs(name) {
+        Some(texts) => Vec::from_slice(alloc, texts),
+        None => Ok(Vec::new(alloc)),
+    }
 }
 
 /// The text of an argument.
@@ -239,31 +305,49 @@ fn check_words<'a>(matches: &ArgMatches<'a>) -> Option<Words<'a>>
     })
 }
 
-/// The values of `run`, where each was given.
-fn run_words<'a>(matches: &ArgMatches<'a>) -> Option<Words<'a>>
-    ensures values { IfSome result (λ w. (name_of w ≡ codes "run") × HasValues (rows_of (found_of matches.now)) w) }
+/// The values of `run`, where each was given, with the files that it leaves out.
+fn values_of_run<'a>(matches: &ArgMatches<'a>, skip: Vec<&'a str>) -> Option<RunWords<'a>>
+    requires { HasTexts (rows_of (found_of matches.now)) (codes "skip") skip.items }
+    ensures values { IfSome result (HasRunValues (rows_of (found_of matches.now))) }
     ensures none { IfNone result (LacksRun (rows_of (found_of matches.now))) }
 {
     let input = text_of(matches, "in")?;
     let output = text_of(matches, "out")?;
-    let table = text_of(matches, "table")?;
-    let edits = text_of(matches, "edits")?;
+    let table = text_of(matches, "table");
+    let edits = text_of(matches, "edits");
     let ticks = count_of(matches, "ticks")?;
-    let workers = count_of(matches, "workers")?;
+    let workers = count_if_given(matches, "workers")?;
     let strict = is_given(matches, "strict");
+    let again = is_given(matches, "again");
+    let dry_run = is_given(matches, "dry-run");
     let progress = is_given(matches, "progress");
     let explain = is_given(matches, "explain");
-    Some(Words::Run {
+    Some(RunWords {
         input,
         output,
         table,
         edits,
         ticks,
         workers,
+        skip,
         strict,
+        again,
+        dry_run,
         progress,
         explain,
     })
+}
+
+/// The values of `run`, where each was given.
+fn run_words<'a>(alloc: Global, matches: &ArgMatches<'a>) -> Result<Option<Words<'a>>, AllocError>
+    ensures values { IfOk result (λ o. IfSome o (λ w. (name_of w ≡ codes "run") × HasValues (rows_of (found_of matches.now)) w)) }
+    ensures none { IfOk result (λ o. IfNone o (LacksRun (rows_of (found_of matches.now)))) }
+{
+    let skip = texts_of(alloc, matches, "skip")?;
+    match values_of_run(matches, skip) {
+        Some(run) => Ok(Some(Words::Run(run))),
+        None => Ok(None),
+    }
 }
 
 /// The values of `map`, where each was given.
@@ -303,40 +387,42 @@ fn states_words<'a>(matches: &ArgMatches<'a>) -> Option<Words<'a>>
 }
 
 /// The command, where one was given with its values.
-fn command_of<'a>(matches: &ArgMatches<'a>) -> Option<Words<'a>>
-    ensures read { IfSome result (λ w. (rows : List Row)
-        × (subcommand_rows_of matches.now ≡ Some (name_of w, rows)) × HasValues rows w) }
-    ensures none { IfNone result ((w : Words) (rows : List Row)
-        → subcommand_rows_of matches.now ≡ Some (name_of w, rows) → HasValues rows w → ⊥) }
+fn command_of<'a>(alloc: Global, matches: &ArgMatches<'a>) -> Result<Option<Words<'a>>, AllocError>
+    ensures read { IfOk result (λ o. IfSome o (λ w. (rows : List Row)
+        × (subcommand_rows_of matches.now ≡ Some (name_of w, rows)) × HasValues rows w)) }
+    ensures none { IfOk result (λ o. IfNone o ((w : Words) (rows : List Row)
+        → subcommand_rows_of matches.now ≡ Some (name_of w, rows) → HasValues rows w → ⊥)) }
 {
     if let Some(block) = matches.subcommand_matches("block") {
-        return block_words(block);
+        return Ok(block_words(block));
     }
     if let Some(check) = matches.subcommand_matches("check") {
-        return check_words(check);
+        return Ok(check_words(check));
     }
     if let Some(map) = matches.subcommand_matches("map") {
-        return map_words(map);
+        return Ok(map_words(map));
     }
     if let Some(states) = matches.subcommand_matches("states") {
-        return states_words(states);
+        return Ok(states_words(states));
     }
-    run_words(matches.subcommand_matches("run")?)
+    match matches.subcommand_matches("run") {
+        Some(run) => run_words(alloc, run),
+        None => Ok(None),
+    }
 }
 
 /// Reads the words that follow the program's name. The answer is the command that `clap` reads of them, with its
 /// values. Negative numbers stand behind `--`.
 ///
-/// Errors: words that are refused and calls for help, each with its text, and want of memory. Words that `clap` takes
-/// are refused only where they give no command all its values.
+/// Errors: words that are refused and calls for help or the version, each with its text, and want of memory. Words that `clap`
+/// takes are refused only where they give no command all its values.
 pub fn words<'a>(alloc: Global, given: &'a [&'a str]) -> Result<Words<'a>, Error>
     ensures read { IfOk result (IsReadFrom (map (λ s. s.now) given.now)) }
     ensures refused { IfErr result (IsWordsRefusal (map (λ s. s.now) given.now)) }
 {
     let matches = program(alloc)?.try_get_matches_from(given)?;
-    if let Some(command) = command_of(&matches) {
-        Ok(command)
-    } else {
-        Err(program(alloc)?.error(ErrorKind::InvalidSubcommand, "no command was given")?)
+    match command_of(alloc, &matches)? {
+        Some(command) => Ok(command),
+        None => Err(program(alloc)?.error(ErrorKind::InvalidSubcommand, "no command was given")?),
     }
 }

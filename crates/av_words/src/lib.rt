@@ -4,5 +4,5 @@
 pub(crate) mod arguments;
 pub mod command_line;
 
-pub use command_line::commands::Words;
+pub use command_line::commands::{RunWords, STANDARD_INPUT, Words};
 pub use command_line::words;

@@ -1,7 +1,46 @@
 //! The commands.
-ghost use Rattle.std.specs.Prelude.{◌≡◌};
+ghost use Rattle.std.specs.Prelude.{◌≡◌, option_map};
+ghost use Rattle.av_words.specs.CommandLine.{is_input};
 
 use av_types::Pos;
+
+/// What stands for standard input where a text is named.
+pub const STANDARD_INPUT: &str = "-";
+
+/// Whether a text that may be left out is standard input.
+fn is_input(name: Option<&str>) -> bool
+    ensures { result ≡ is_input (option_map (λ t. t.now) name.entry) }
+{
+    name == Some(STANDARD_INPUT)
+}
+
+/// The values of `run`.
+#[derive(Debug, Drop)]
+pub struct RunWords<'a> {
+    /// The folder whose region files are read.
+    pub input: &'a str,
+    /// The folder that they are written to.
+    pub output: &'a str,
+    /// The block table. Without one it is the program's own.
+    pub table: Option<&'a str>,
+    /// The edits. Without a file there are none.
+    pub edits: Option<&'a str>,
+    pub ticks: u32,
+    /// How many workers there are. Without a number there is one for each processor, and 8 at most.
+    pub workers: Option<u32>,
+    /// The names of region files that count as not there.
+    pub skip: Vec<&'a str>,
+    /// Whether nothing is run where a state of the world has no row in the table.
+    pub strict: bool,
+    /// Whether to run even where an earlier run was finished first.
+    pub again: bool,
+    /// Whether to say what would change, and write nothing.
+    pub dry_run: bool,
+    /// Whether to say how far it is.
+    pub progress: bool,
+    /// Whether to say why it failed.
+    pub explain: bool,
+}
 
 /// A command with its values.
 #[derive(Debug, Drop)]
@@ -28,24 +67,7 @@ pub enum Words<'a> {
         explain: bool,
     },
     /// Runs edits, water and light over the region files of a folder, and writes them.
-    Run {
-        /// The folder whose region files are read.
-        input: &'a str,
-        /// The folder that they are written to.
-        output: &'a str,
-        /// The block table.
-        table: &'a str,
-        /// The edits.
-        edits: &'a str,
-        ticks: u32,
-        workers: u32,
-        /// Whether nothing is run where a state of the world has no row in the table.
-        strict: bool,
-        /// Whether to say how far it is.
-        progress: bool,
-        /// Whether to say why it failed.
-        explain: bool,
-    },
+    Run(RunWords<'a>),
     /// Draws the region files of a folder from above.
     Map {
         /// The folder.
@@ -74,7 +96,7 @@ pub enum Words<'a> {
 }
 
 impl<'a> Words<'a> {
-    ghost use Rattle.av_words.specs.CommandLine.{explain_of, progress_of};
+    ghost use Rattle.av_words.specs.CommandLine.{asks_twice, explain_of, progress_of};
 
     /// Whether it is to say how far it is, where it has a word for that.
     pub fn wants_progress(&self) -> bool
@@ -82,7 +104,7 @@ impl<'a> Words<'a> {
     {
         match self {
             Words::Check { progress, .. } => *progress,
-            Words::Run { progress, .. } => *progress,
+            Words::Run(run) => run.progress,
             Words::Block { .. } => false,
             Words::Map { .. } => false,
             Words::States { .. } => false,
@@ -96,9 +118,21 @@ impl<'a> Words<'a> {
         match self {
             Words::Block { explain, .. } => *explain,
             Words::Check { explain, .. } => *explain,
-            Words::Run { explain, .. } => *explain,
+            Words::Run(run) => run.explain,
             Words::Map { explain, .. } => *explain,
             Words::States { explain, .. } => *explain,
+        }
+    }
+    /// Whether two of its texts are to be read from standard input, which can be read once.
+    pub fn asks_twice(&self) -> bool
+        ensures { result ≡ asks_twice self.now }
+    {
+        match self {
+            Words::Run(run) => is_input(run.table) && is_input(run.edits),
+            Words::Map { table, colours, .. } => is_input(*table) && is_input(*colours),
+            Words::Block { .. } => false,
+            Words::Check { .. } => false,
+            Words::States { .. } => false,
         }
     }
 }

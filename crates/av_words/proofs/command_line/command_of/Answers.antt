@@ -1,4 +1,4 @@
-use Rattle.std.proofs.Common.{◌≡◌, ◌∙◌, ap, sym, subst, refl, arith, List, Option, Some, None, option_map, codes, slice_index, IfNone}
+use Rattle.std.proofs.Common.{◌≡◌, ◌∙◌, ap, sym, subst, refl, arith, List, Option, Some, None, option_map, codes, slice_index, IfNone, IfOk, Result, Ok, Err}
 use Rattle.std.proofs.lemmas.Option.{none-some, same_Some}
 use Rattle.std.specs.Box.{box_value}
 use Rattle.clap.specs.declared.parser.matches.ArgMatches.TheViews.{out-ArgMatches, out-SubCommand}
@@ -12,6 +12,10 @@ use Rattle.av_words.proofs.command_line.command_of.Goals as goal
 if_none : {T : Type 0} (o : Option T) (P Q : Type 0) → (P → Q) → IfNone o P → IfNone o Q
 if_none None P Q then p = then p
 if_none (Some x) P Q then p = tt
+
+if_ok_none : {T E : Type 0} (r : Result (Option T) E) (P Q : Type 0) → (P → Q) → IfOk r (λ o. IfNone o P) → IfOk r (λ o. IfNone o Q)
+if_ok_none (Ok o) P Q then p = if_none o P Q then p
+if_ok_none (Err e) P Q then p = tt
 
 -- what was entered has one name
 one_name : {A : Type 0} (o : Option A) (h : A → Text × List Row) (n k : Text) (rows : List Row)
@@ -52,35 +56,35 @@ no_values m n r name has lacks w rows is h =
 lacks_block : (r : List Row) → LacksBlock r → Lacks r (codes "block")
 lacks_block r lacks (Block file at table explain) is h = lacks file at table explain h
 lacks_block r lacks (Check input table progress explain) is h = unlike (codes "check") (codes "block") (λ e. absurd (omega arith)) is
-lacks_block r lacks (Run input output table edits ticks workers strict progress explain) is h = unlike (codes "run") (codes "block") (λ e. absurd (omega arith)) is
+lacks_block r lacks (Run run) is h = unlike (codes "run") (codes "block") (λ e. absurd (omega arith)) is
 lacks_block r lacks (Map input output table colours light explain) is h = unlike (codes "map") (codes "block") (λ e. absurd (omega arith)) is
 lacks_block r lacks (States input table explain) is h = unlike (codes "states") (codes "block") (λ e. absurd (omega arith)) is
 
 lacks_check : (r : List Row) → LacksCheck r → Lacks r (codes "check")
 lacks_check r lacks (Block file at table explain) is h = unlike (codes "block") (codes "check") (λ e. absurd (omega arith)) is
 lacks_check r lacks (Check input table progress explain) is h = lacks input table progress explain h
-lacks_check r lacks (Run input output table edits ticks workers strict progress explain) is h = unlike (codes "run") (codes "check") (λ e. absurd (omega arith)) is
+lacks_check r lacks (Run run) is h = unlike (codes "run") (codes "check") (λ e. absurd (omega arith)) is
 lacks_check r lacks (Map input output table colours light explain) is h = unlike (codes "map") (codes "check") (λ e. absurd (omega arith)) is
 lacks_check r lacks (States input table explain) is h = unlike (codes "states") (codes "check") (λ e. absurd (omega arith)) is
 
 lacks_run : (r : List Row) → LacksRun r → Lacks r (codes "run")
 lacks_run r lacks (Block file at table explain) is h = unlike (codes "block") (codes "run") (λ e. absurd (omega arith)) is
 lacks_run r lacks (Check input table progress explain) is h = unlike (codes "check") (codes "run") (λ e. absurd (omega arith)) is
-lacks_run r lacks (Run input output table edits ticks workers strict progress explain) is h = lacks input output table edits ticks workers strict progress explain h
+lacks_run r lacks (Run run) is h = lacks run h
 lacks_run r lacks (Map input output table colours light explain) is h = unlike (codes "map") (codes "run") (λ e. absurd (omega arith)) is
 lacks_run r lacks (States input table explain) is h = unlike (codes "states") (codes "run") (λ e. absurd (omega arith)) is
 
 lacks_map : (r : List Row) → LacksMap r → Lacks r (codes "map")
 lacks_map r lacks (Block file at table explain) is h = unlike (codes "block") (codes "map") (λ e. absurd (omega arith)) is
 lacks_map r lacks (Check input table progress explain) is h = unlike (codes "check") (codes "map") (λ e. absurd (omega arith)) is
-lacks_map r lacks (Run input output table edits ticks workers strict progress explain) is h = unlike (codes "run") (codes "map") (λ e. absurd (omega arith)) is
+lacks_map r lacks (Run run) is h = unlike (codes "run") (codes "map") (λ e. absurd (omega arith)) is
 lacks_map r lacks (Map input output table colours light explain) is h = lacks input output table colours light explain h
 lacks_map r lacks (States input table explain) is h = unlike (codes "states") (codes "map") (λ e. absurd (omega arith)) is
 
 lacks_states : (r : List Row) → LacksStates r → Lacks r (codes "states")
 lacks_states r lacks (Block file at table explain) is h = unlike (codes "block") (codes "states") (λ e. absurd (omega arith)) is
 lacks_states r lacks (Check input table progress explain) is h = unlike (codes "check") (codes "states") (λ e. absurd (omega arith)) is
-lacks_states r lacks (Run input output table edits ticks workers strict progress explain) is h = unlike (codes "run") (codes "states") (λ e. absurd (omega arith)) is
+lacks_states r lacks (Run run) is h = unlike (codes "run") (codes "states") (λ e. absurd (omega arith)) is
 lacks_states r lacks (Map input output table colours light explain) is h = unlike (codes "map") (codes "states") (λ e. absurd (omega arith)) is
 lacks_states r lacks (States input table explain) is h = lacks input table explain h
 
@@ -112,9 +116,9 @@ returns-in-Some-subcommand_matches-3-clause-none c =
     (λ lacks. no_values c.args.matches.now (codes "states") _ (c.in-Some-subcommand_matches-3.ensures.found.0 refl) c.in-Some-subcommand_matches-3.ensures.rows (lacks_states (rows_of (found_of c.in-Some-subcommand_matches-3.states.now)) lacks))
     c.states_words.ensures.none
 
-pub returns-clause-none : goal.returns-clause-none
+pub returns-in-Some-subcommand_matches-4-clause-none : goal.returns-in-Some-subcommand_matches-4-clause-none
 unfolding Entered
-returns-clause-none c =
-    if_none c.run_words.result _ _
-    (λ lacks. no_values c.args.matches.now (codes "run") _ (c.in_ok-subcommand_matches.ensures.found.0 refl) c.in_ok-subcommand_matches.ensures.rows (lacks_run _ lacks))
+returns-in-Some-subcommand_matches-4-clause-none c =
+    if_ok_none c.run_words.result _ _
+    (λ lacks. no_values c.args.matches.now (codes "run") _ (c.in-Some-subcommand_matches-4.ensures.found.0 refl) c.in-Some-subcommand_matches-4.ensures.rows (lacks_run _ lacks))
     c.run_words.ensures.none

@@ -2,8 +2,9 @@ use Rattle.std.proofs.Common.{◌≡◌, ◌∙◌, ap, inl, inr, sym, subst, ma
 use Rattle.std.specs.Prelude.{IsErrAnd}
 use Rattle.clap.specs.declared.error.Error.{Error}
 use Rattle.clap.specs.declared.error.kind.ErrorKind.TheVariants.{OutOfMemory}
-use Rattle.clap.specs.Words.{App, Text, kind_of, is_simple, subcommand_of, takes}
-use Rattle.av_words.specs.CommandLine.{IsWordsRefusal}
+use Rattle.clap.specs.Words.{App, HasKind, Text, fault_of, is_simple, is_simple_and_free, kind_of, subcommand_of, takes}
+use Rattle.av_words.specs.CommandLine.{IsReadFrom, IsWordsRefusal}
+use Rattle.av_words.specs.declared.command_line.commands.Words.{Words}
 use Rattle.av_words.proofs.command_line.words.Goals as goal
 
 texts : List (Bor Text) → List Text
@@ -16,11 +17,11 @@ if_err (Err x) e P is p = subst P (sym is) p
 -- want of memory is a cause by itself
 of_memory : {T : Type 0} (r : Result T Error) (words : List Text) → IsErrAnd r (λ x. kind_of x ≡ OutOfMemory) → IfErr r (IsWordsRefusal words)
 of_memory (Ok v) words is = absurd is
-of_memory (Err x) words is = record { cause = λ taken. inl is }
+of_memory (Err x) words is = record { cause = λ taken. inl is; kind = inl (inl is) }
 
-pub returns-in_err-error-clause-refused : goal.returns-in_err-error-clause-refused
+pub returns-in_err-error-in-None-clause-refused : goal.returns-in_err-error-in-None-clause-refused
 unfolding texts
-returns-in_err-error-clause-refused c = of_memory c.from_residual-in_err-error.result (texts c.args.given.now) c.from_residual-in_err-error.ensures.1
+returns-in_err-error-in-None-clause-refused c = of_memory c.from_residual-in_err-error-in-None.result (texts c.args.given.now) c.from_residual-in_err-error-in-None.ensures.1
 
 pub returns-in_err-matches-clause-refused : goal.returns-in_err-matches-clause-refused
 unfolding texts
@@ -28,6 +29,8 @@ returns-in_err-matches-clause-refused c =
     let words = texts c.args.given.now in
     let refusal : IsWordsRefusal words c.in_err-matches.field-0.0 = record {
       cause = λ taken. inl (c.in_err-matches.ensures.passes (ap (λ (a : App). takes a words) c.in_ok-program.ensures.app ∙ taken));
+      kind = inl (subst (λ (a : App). HasKind (fault_of a words) c.in_err-matches.field-0.0) c.in_ok-program.ensures.app
+          (c.in_err-matches.ensures.kinds (ap is_simple_and_free c.in_ok-program.ensures.app)));
     } in
     if_err c.from_residual-in_err-matches.result c.in_err-matches.field-0.0 (IsWordsRefusal words) c.from_residual-in_err-matches.ensures.1 refusal
 
@@ -37,8 +40,11 @@ returns-clause-refused c =
     let words = texts c.args.given.now in
     let app_is = c.in_ok-program.ensures.app in
     let found = (c.in_ok-matches.ensures.matches (ap is_simple app_is)).1 ∙ ap (λ (a : App). subcommand_of a words) app_is in
+    let none = rw c.in-None.is at c.in_ok-command.ensures.none in
+    let lacks : (command : Words) → IsReadFrom words command → ⊥ = λ command read. none command read.rows (found ∙ read.named) read.values in
     record {
-      cause = λ taken. inr (λ command read. c.in_default.ensures.none command read.rows (found ∙ read.named) read.values);
+      cause = λ taken. inr lacks;
+      kind = inr lacks;
     }
 
 pub returns-in-Some-clause-read : goal.returns-in-Some-clause-read
@@ -47,7 +53,7 @@ returns-in-Some-clause-read c =
     let words = texts c.args.given.now in
     let app_is = c.in_ok-program.ensures.app in
     let found = (c.in_ok-matches.ensures.matches (ap is_simple app_is)).1 ∙ ap (λ (a : App). subcommand_of a words) app_is in
-    let read = c.in-Some.ensures.read in
+    let read = rw c.in-Some.is at c.in_ok-command.ensures.read in
     record {
       rows = read.0;
       named = sym found ∙ read.1;

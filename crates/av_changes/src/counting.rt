@@ -1,0 +1,70 @@
+//! How many chunks two files of a region have otherwise.
+ghost use Rattle.std.specs.Prelude.{◌≡◌, ◌≤◌, ◌↔◌, IsTrue, option_map};
+ghost use Rattle.av_changes.specs.Changes.{IsChangeCount, IsSameAt, AreChangedBelow, ends_in_header, readable};
+
+use av_region::Region;
+
+/// How many bytes a whole header has.
+const HEADER: usize = 8192;
+
+/// How many places for chunks a region has.
+const PLACES: usize = 1024;
+
+/// Whether a file ends within its header.
+fn ends_in_header(file: &[u8]) -> bool
+    ensures { result ≡ ends_in_header file.now }
+{
+    0 < file.len() && file.len() < HEADER
+}
+
+/// The bytes of a file that count: none of one that ends within its header.
+fn readable(file: &[u8]) -> &[u8]
+    ensures { result.now ≡ readable file.now }
+{
+    if ends_in_header(file) { &[] } else { file }
+}
+
+/// Whether two payloads, which may not be there, are the same.
+fn is_same_payload(old: Option<&[u8]>, new: Option<&[u8]>) -> bool
+    ensures { IsTrue result ↔ (option_map (λ p. p.now) old.entry ≡ option_map (λ p. p.now) new.entry) }
+{
+    old == new
+}
+
+/// Whether two files have the same payload at a place, or no chunk there.
+fn is_same_at(old: &Region<'_>, new: &Region<'_>, place: usize) -> bool
+    requires { place ≤ 1023 }
+    ensures { IsTrue result ↔ IsSameAt old.now.bytes.now new.now.bytes.now place }
+{
+    let Ok(old) = old.payload(place) else {
+        return false;
+    };
+    let Ok(new) = new.payload(place) else {
+        return false;
+    };
+    is_same_payload(old, new)
+}
+
+/// How many places have other chunks in two files.
+fn changed_places(old: &Region<'_>, new: &Region<'_>) -> usize
+    ensures { AreChangedBelow old.now.bytes.now new.now.bytes.now 1024 result }
+{
+    let mut changed = 0;
+    for place in 0..PLACES {
+        if !is_same_at(old, new, place) {
+            changed += 1;
+        }
+    }
+    changed
+}
+
+/// How many of the 1,024 places of a region have other chunks in two files: other payloads, or a chunk in one of them alone, or one
+/// that has a fault. Timestamps and where chunks stand don't count. A file that ends within its header counts as one without chunks.
+pub fn changed_chunks(old: &[u8], new: &[u8]) -> usize
+    ensures { IsChangeCount old.now new.now result }
+{
+    match (Region::read(readable(old)), Region::read(readable(new))) {
+        (Ok(old), Ok(new)) => changed_places(&old, &new),
+        _ => 0,
+    }
+}

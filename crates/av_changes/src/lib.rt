@@ -1,0 +1,10 @@
+//! What would change in region files that are there, if others were written in their place.
+#![tactic(auto)]
+
+pub mod change;
+pub mod counting;
+pub mod telling;
+
+pub use change::{Change, add_change, by_name};
+pub use counting::changed_chunks;
+pub use telling::write_changes;
