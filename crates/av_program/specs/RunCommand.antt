@@ -50,7 +50,6 @@ pub record IsRequestOf (run : RunWords) (q : Request) : Type 0 where
   pub workers : IsWorkersBy run.workers q.workers
   pub skip : q.skip.now ≡ run.skip.items
   pub strict : q.strict ≡ run.strict
-  pub again : q.again ≡ run.again
 
 -- why the table, the edits and the folder of `run` were not read
 abbrev pub IsUnreadRun : Request → Fault → Type 0

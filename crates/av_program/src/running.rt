@@ -41,8 +41,6 @@ pub(crate) struct Request<'a> {
     pub(crate) skip: &'a [&'a str],
     /// Whether nothing is run where a state of the world has no row in the table.
     pub(crate) strict: bool,
-    /// Whether to run even where an earlier run was finished first.
-    pub(crate) again: bool,
 }
 
 /// The most workers of a run that are taken unasked.
@@ -81,7 +79,6 @@ pub(crate) fn request_of<'a, R: Threads>(rt: &R, words: &'a RunWords<'a>) -> Req
         workers: workers_of(rt, words.workers),
         skip: words.skip.as_slice(),
         strict: words.strict,
-        again: words.again,
     }
 }
 

@@ -74,11 +74,10 @@ with_counts app = with_rule (with_rule (with_rule app
     (count_rule (codes "workers") false))
     (repeated_rule (codes "skip"))
 
--- `[--strict] [--again] [--dry-run]`
+-- `[--strict] [--dry-run]`
 abbrev pub with_flags : App → App
-with_flags app = with_rule (with_rule (with_rule app
+with_flags app = with_rule (with_rule app
     (flag_rule (codes "strict")))
-    (flag_rule (codes "again")))
     (flag_rule (codes "dry-run"))
 
 -- `run` with these and `[--progress] [--explain]`
@@ -168,7 +167,6 @@ pub record HasRunValues (rows : List Row) (run : RunWords) : Type 0 where
   pub workers : MayHaveCount rows (codes "workers") run.workers
   pub skip : HasTexts rows (codes "skip") run.skip.items
   pub strict : HasFlag rows (codes "strict") run.strict
-  pub again : HasFlag rows (codes "again") run.again
   pub dry_run : HasFlag rows (codes "dry-run") run.dry_run
   pub progress : HasFlag rows (codes "progress") run.progress
   pub explain : HasFlag rows (codes "explain") run.explain

@@ -109,16 +109,14 @@ fn with_flags<'a>(alloc: Global, run: Command<'a>) -> Result<Command<'a>, Error>
     ensures memory { IfErr result (λ e. kind_of e ≡ ErrorKind.OutOfMemory) }
 {
     let strict = "Runs nothing where a block state of the world has no row in the table";
-    let again = "Runs even where an earlier run was finished first";
     let dry_run = "Says which files and how many of their chunks would change, and writes nothing";
     let run = run
         .arg(flag(alloc, "strict", strict))?
-        .arg(flag(alloc, "again", again))?
         .arg(flag(alloc, "dry-run", dry_run))?;
     Ok(run)
 }
 
-/// `run --in DIR --out DIR [--table FILE] [--edits FILE] --ticks N [--workers N] [--skip NAME].. [--strict] [--again] [--dry-run]
+/// `run --in DIR --out DIR [--table FILE] [--edits FILE] --ticks N [--workers N] [--skip NAME].. [--strict] [--dry-run]
 /// [--progress] [--explain]`.
 fn run_command<'a>(alloc: Global) -> Result<Command<'a>, Error>
     ensures app { IfOk result (λ c. app_of c ≡ run_app) }
@@ -127,7 +125,7 @@ fn run_command<'a>(alloc: Global) -> Result<Command<'a>, Error>
 {
     let about = "Runs edits, water and block light over the region files of a folder";
     let usage =
-        "anvilwater run --in DIR --out DIR [--table FILE] [--edits FILE] --ticks N [--workers N] [--skip NAME].. [--strict] [--again] [--dry-run] [--progress] [--explain]";
+        "anvilwater run --in DIR --out DIR [--table FILE] [--edits FILE] --ticks N [--workers N] [--skip NAME].. [--strict] [--dry-run] [--progress] [--explain]";
     let run = with_files(alloc, command(alloc, "run", about, usage))?;
     let run = with_counts(alloc, run)?;
     let run = with_flags(alloc, run)?
@@ -318,7 +316,6 @@ fn values_of_run<'a>(matches: &ArgMatches<'a>, skip: Vec<&'a str>) -> Option<Run
     let ticks = count_of(matches, "ticks")?;
     let workers = count_if_given(matches, "workers")?;
     let strict = is_given(matches, "strict");
-    let again = is_given(matches, "again");
     let dry_run = is_given(matches, "dry-run");
     let progress = is_given(matches, "progress");
     let explain = is_given(matches, "explain");
@@ -331,7 +328,6 @@ fn values_of_run<'a>(matches: &ArgMatches<'a>, skip: Vec<&'a str>) -> Option<Run
         workers,
         skip,
         strict,
-        again,
         dry_run,
         progress,
         explain,

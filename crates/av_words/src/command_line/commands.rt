@@ -32,8 +32,6 @@ pub struct RunWords<'a> {
     pub skip: Vec<&'a str>,
     /// Whether nothing is run where a state of the world has no row in the table.
     pub strict: bool,
-    /// Whether to run even where an earlier run was finished first.
-    pub again: bool,
     /// Whether to say what would change, and write nothing.
     pub dry_run: bool,
     /// Whether to say how far it is.
