@@ -54,6 +54,21 @@ run "$top/samples" early "$edits" 10 1 > /dev/null
 expect "minecraft:water[level=8]" "$(block early 8 74 8)" "the block under the source after 10 ticks"
 expect "minecraft:air" "$(block early 9 75 8)" "a side of the source after 10 ticks"
 
+# Without a table and workers it is the program's table, and the edits may come from standard input.
+mkdir "$work/by_defaults"
+"$program" run --in "$top/samples" --out "$work/by_defaults" --edits - --ticks 20 < "$edits" > "$work/told"
+expect "$(cat "$work/printed")" "$(cat "$work/told")" "a run by defaults"
+same whole by_defaults
+# What a run would change, against its input, against its own files, and against those of a run without edits: the chunk of the
+# edits, and no more than its neighbours, to which light and water may reach.
+dry() { "$program" run --in "$top/samples" --out "$1" --edits "$edits" --ticks 20 --dry-run; }
+expect "$(cat "$work/printed")" "$(dry "$work/whole")" "a dry run against its own files"
+run "$top/samples" unedited "$work/no_edits" 20 1 > /dev/null
+dry "$work/unedited" > "$work/told"
+expect "r.0.0.mca" "$(sed -n '1s/:.*//p' "$work/told")" "the file that edits change"
+expect "$(cat "$work/printed")" "$(tail -n 1 "$work/told")" "the last line of a dry run"
+expect 2 "$(wc -l < "$work/told")" "the lines of a dry run"
+
 # The number of workers makes no difference. A run that is stopped and resumed gives the same files, also in place.
 for workers in 1 3 5 8; do
   run "$top/samples" "by_$workers" "$edits" 20 "$workers" > /dev/null

@@ -86,6 +86,9 @@ expect 2 "error: unexpected argument '-1' found" block samples/r.0.0.mca 0 -1 0
 expect 2 "error: 'anvilwater' requires a subcommand but one was not provided"
 expect 2 "Reads Minecraft region files, and runs water and light over them" --help
 expect 2 "error: unrecognized subcommand 'blocks'" blocks
+expect 0 "anvilwater 0.1.0" --version
+expect 0 "anvilwater 0.1.0" -V
+expect 2 "error: unexpected argument '--version' found" check --version
 expect 2 "error: the words are no text in UTF-8" block $'\377' 0 0 0
 
 # A coordinate is a number of 32 bits.
@@ -129,6 +132,7 @@ expect_full() {
   fi
 }
 expect_full "$full" block samples/r.0.0.mca 4 67 15
+expect_full "$full" --version
 expect_full "$work/nothing$bare$full" "${nothing[@]}"
 
 # What is wrong with a folder. The words are judged before the table, the table before the folder, and that before its
@@ -270,10 +274,15 @@ expect 1 "fault 25: Device r.7.0.mca" map --in "$odd" --out "$work/odd.png"
 # A run of a folder. The words are judged before the output folder, that before the table, the table before the edits, these before
 # the folder, and only when all files were read is anything judged or written: a table that can't be read comes before 9 workers, and these
 # before a table that is no TOML.
-for left_out in 1 3 5 7 9 11; do
+for left_out in 1 3 9; do
   expect 2 "error: the following required arguments were not provided:" \
     "${nothing[@]:0:left_out}" "${nothing[@]:left_out + 2}"
 done
+# Without --table it is the program's own, without --edits there are none, and without --workers one for each processor.
+for left_out in 5 7 11; do
+  expect_all 0 "chunks 0 turns 0\n" "$work/nothing$bare" "${nothing[@]:0:left_out}" "${nothing[@]:left_out + 2}"
+done
+expect_all 0 "chunks 0 turns 0\n" "$work/nothing$bare" "${nothing[@]:0:5}" --ticks 0 --again
 expect 2 "Runs edits, water and block light over the region files of a folder" run --help
 run() {
   local table=$1 edits=$2 input=$3 output=$4 workers=$5
@@ -378,6 +387,75 @@ if [ -n "$(ls "$output")" ]; then
 fi
 expect_run 0 "chunks 1 turns 0\n" "1$uncovered" "$work/bare.toml" "$edits" "$input" "$output" 1
 expect_run 0 "chunks 1 turns 0\n" "" "$blocks" "$edits" "$input" "$output" 1 --strict
+
+# A text that is named - is standard input, which can be read once.
+twice="error: - is standard input, which can be read once, and two files are -"
+rm "$output"/*
+expect_run 0 "chunks 1 turns 0\n" "" - "$edits" "$input" "$output" 1 < "$blocks"
+expect_run 0 "chunks 1 turns 0\n" "" "$blocks" - "$input" "$output" 1 < "$edits"
+expect_run 1 "" "fault 19: BadTable\n" - "$edits" "$input" "$output" 1 < README.md
+expect_run 1 "" "fault 19: BadTable\n" - "$edits" "$input" "$output" 1 --explain < README.md
+expect_run 1 "" "fault 20: BadEdit 1\n" "$blocks" - "$input" "$output" 1 <<< nonsense
+expect 2 "$twice" run --in "$input" --out "$output" --ticks 0 --table - --edits - < "$edits"
+expect 2 "$twice" map --in samples --out "$work/twice.png" --table - --colours - < "$edits"
+expect 1 "fault 19: BadTable" block --table - missing/r.0.0.mca 0 0 0 < README.md
+expect 1 "fault 19: BadTable" check --table - --in missing < README.md
+expect 1 "fault 19: BadTable" states --table - --in missing < README.md
+expect 1 "fault 19: BadTable" map --colours - --in missing --out "$work/twice.png" < README.md
+expect 1 "fault 25: Device missing" map --colours - --in missing --out "$work/twice.png" < tables/colours.toml
+rm "$output"/*
+
+# Files that are skipped count as not there, and stay as they are, even where they can't be read.
+skipped=" is skipped: it counts as not there and stays as it is\n"
+expect_run 1 "" "--skip README: the name of a region's file is r.X.Z.mca\n" "$blocks" "$edits" "$input" "$output" 1 --skip README
+expect_run 1 "" "--skip r.01.0.mca: the name of a region's file is r.X.Z.mca\n" "$blocks" "$edits" "$input" "$output" 1 --skip r.01.0.mca
+expect_run 1 "" "--skip r.9.9.mca: the folder has no such file\n" "$blocks" "$edits" "$input" "$output" 1 --skip r.-1.-1.mca --skip r.9.9.mca
+mkdir "$input/r.2.0.mca"
+head -c 100 /dev/zero > "$input/r.3.0.mca"
+expect_run 1 "" "fault 25: Device r.2.0.mca\n" "$blocks" "$edits" "$input" "$output" 1
+expect_run 1 "" "fault 25: Device r.2.0.mca\n" "$blocks" "$edits" "$input" "$output" 1 --skip r.3.0.mca
+expect_run 1 "" "r.2.0.mca${skipped}fault 04: ShortHeader\n" "$blocks" "$edits" "$input" "$output" 1 --skip r.2.0.mca
+asked=$((asked + 1))
+if [ -n "$(ls "$output")" ]; then
+  wrong=$((wrong + 1))
+  echo "folder after runs that were refused: $(ls "$output")"
+fi
+expect_run 0 "chunks 1 turns 0\n" "r.2.0.mca${skipped}r.3.0.mca$skipped" \
+  "$blocks" "$edits" "$input" "$output" 1 --skip r.3.0.mca --skip r.2.0.mca
+expect_run 0 "chunks 0 turns 0\n" "r.2.0.mca${skipped}r.-1.-1.mca${skipped}r.3.0.mca$skipped" \
+  "$blocks" "$edits" "$input" "$output" 1 --skip r.3.0.mca --skip r.2.0.mca --skip r.-1.-1.mca
+asked=$((asked + 1))
+if [ "$(ls "$output")" != r.-1.-1.mca ] || [ "$(stat -c %s "$input/r.3.0.mca")" != 100 ]; then
+  wrong=$((wrong + 1))
+  echo "folders after files were skipped: $(ls -l "$input" "$output")"
+fi
+rmdir "$input/r.2.0.mca"
+rm "$input/r.3.0.mca" "$output"/*
+
+# What a run would change, in the order of the names, and nothing is written.
+expect_run 0 "r.-1.-1.mca: 1 chunks would change\nchunks 1 turns 0\n" "" "$blocks" "$edits" "$input" "$output" 1 --dry-run
+expect_run 1 "" "fault 25: Device missing\n" "$blocks" "$edits" "$input" missing 1 --dry-run
+expect_run 1 "" "fault 23: BadCount\n" "$blocks" "$edits" "$input" "$output" 9 --dry-run
+expect_run 1 "" "1$strict" "$work/bare.toml" "$edits" "$input" "$output" 1 --strict --dry-run
+expect_run 0 "r.-1.-1.mca: 1 chunks would change\nchunks 1 turns 0\n" "1 of 1 files read\nrunning\ncomparing\n" \
+  "$blocks" "$edits" "$input" "$output" 1 --dry-run --progress
+asked=$((asked + 1))
+if [ -n "$(ls -A "$output")" ]; then
+  wrong=$((wrong + 1))
+  echo "folder after dry runs: $(ls -A "$output")"
+fi
+expect_run 0 "chunks 1 turns 0\n" "" "$blocks" "$edits" "$input" "$output" 1
+expect_run 0 "chunks 1 turns 0\n" "" "$blocks" "$edits" "$input" "$output" 1 --dry-run
+expect_run 0 "chunks 1 turns 0\n" "" "$blocks" "$edits" "$output" "$output" 1 --dry-run
+: > "$input/r.2.0.mca"
+: > "$input/r.10.0.mca"
+cp "$stone" "$output/r.10.0.mca"
+mkdir "$output/r.2.0.mca"
+expect_run 1 "" "fault 25: Device r.2.0.mca\n" "$blocks" "$edits" "$input" "$output" 1 --dry-run
+rmdir "$output/r.2.0.mca"
+expect_run 0 "r.10.0.mca: 1 chunks would change\nr.2.0.mca: 0 chunks would change\nchunks 1 turns 0\n" "" \
+  "$blocks" "$edits" "$input" "$output" 1 --dry-run
+rm "$input/r.2.0.mca" "$input/r.10.0.mca" "$output"/*
 
 # The states of a folder. They have a row, or none, where a table is named.
 expect 2 "error: the following required arguments were not provided:" states

@@ -1,7 +1,9 @@
-//! Tests of words, of surveys of region files, of what the commands print, and of files handed to a sink, by the public calls of
-//! their crates.
+//! Tests of words, of surveys of region files, of what the commands read and print, of changes, and of files handed to a sink, by
+//! the public calls of their crates.
 #![tactic(auto)]
 
+#[cfg(test)]
+mod changes;
 #[cfg(test)]
 mod chunks;
 #[cfg(test)]
@@ -12,5 +14,7 @@ mod lines;
 mod sink;
 #[cfg(test)]
 mod survey;
+#[cfg(test)]
+mod texts;
 #[cfg(test)]
 mod words;

@@ -1,7 +1,7 @@
 //! Words. What the program answers, `scripts/check_words.sh` asks of the built one.
 use crate::expecting::expect_equal;
 use av_types::Pos;
-use av_words::command_line::commands::Words;
+use av_words::command_line::commands::{RunWords, Words};
 use av_words::command_line::words;
 use clap::error::ErrorKind;
 use std::alloc::Global;
@@ -79,36 +79,96 @@ fn words_of_check(rt: HostRuntime) -> Result<(), Fail> {
     Ok(())
 }
 
-/// Whether `run` is strict, and says how far it is.
-fn flags_of_run(command: Words<'_>) -> Option<(bool, bool)> {
+/// The values of `run`.
+fn run_of<'a>(command: Words<'a>) -> Option<RunWords<'a>> {
     match command {
-        Words::Run {
-            strict,
-            progress,
-            ..
-        } => Some((strict, progress)),
+        Words::Run(run) => Some(run),
         _ => None,
     }
 }
 
 #[test]
-fn flags_of_a_run(rt: HostRuntime) -> Result<(), Fail> {
+fn words_of_run_that_may_be_left_out(rt: HostRuntime) -> Result<(), Fail> {
     let alloc = rt.alloc();
-    let run = [
+    let plain = ["run", "--in=a", "--out=b", "--ticks=3"];
+    let run = run_of(words(alloc, plain.as_slice())?).ok_or("another command")?;
+    expect_equal(&rt, (run.input, run.output), ("a", "b"));
+    expect_equal(&rt, (run.table, run.edits), (None, None));
+    expect_equal(&rt, (run.ticks, run.workers), (3, None));
+    expect_equal(&rt, run.skip.len(), 0);
+    expect_equal(&rt, (run.strict, run.again), (false, false));
+    expect_equal(&rt, (run.dry_run, run.progress), (false, false));
+    Ok(())
+}
+
+#[test]
+fn words_of_run(rt: HostRuntime) -> Result<(), Fail> {
+    let alloc = rt.alloc();
+    let all = [
         "run",
+        "--skip=r.0.0.mca",
         "--in=a",
         "--out=b",
-        "--table=t",
+        "--table=-",
         "--edits=e",
         "--ticks=1",
-        "--workers=1",
+        "--workers=9",
         "--strict",
+        "--again",
+        "--dry-run",
+        "--skip",
+        "x",
     ];
-    let flags = flags_of_run(words(alloc, run.as_slice())?).ok_or("another command")?;
-    expect_equal(&rt, flags, (true, false));
-    let flags = flags_of_run(words(alloc, &run[..7])?).ok_or("another command")?;
-    expect_equal(&rt, flags, (false, false));
+    let run = run_of(words(alloc, all.as_slice())?).ok_or("another command")?;
+    expect_equal(&rt, (run.table, run.edits), (Some("-"), Some("e")));
+    expect_equal(&rt, (run.ticks, run.workers), (1, Some(9)));
+    expect_equal(&rt, run.skip.as_slice(), ["r.0.0.mca", "x"].as_slice());
+    expect_equal(&rt, (run.strict, run.again), (true, true));
+    expect_equal(&rt, (run.dry_run, run.progress), (true, false));
     Ok(())
+}
+
+/// Whether two texts of a command are standard input.
+fn asks_twice<'a>(alloc: Global, given: &'a [&'a str]) -> Option<bool> {
+    Some(words(alloc, given).ok()?.asks_twice())
+}
+
+#[test]
+fn words_that_ask_twice_for_standard_input(rt: HostRuntime) {
+    let cases: [(&[&str], bool); 6] = [
+        (
+            &[
+                "run",
+                "--in=a",
+                "--out=b",
+                "--ticks=1",
+                "--table=-",
+                "--edits=-",
+            ],
+            true,
+        ),
+        (
+            &[
+                "run",
+                "--in=a",
+                "--out=b",
+                "--ticks=1",
+                "--table=-",
+                "--edits=e",
+            ],
+            false,
+        ),
+        (&["run", "--in=-", "--out=-", "--ticks=1"], false),
+        (
+            &["map", "--in=a", "--out=b", "--table=-", "--colours=-"],
+            true,
+        ),
+        (&["map", "--in=a", "--out=-", "--colours=-"], false),
+        (&["states", "--in=-", "--table=-"], false),
+    ];
+    for (given, want) in cases {
+        expect_equal(&rt, asks_twice(rt.alloc(), given), Some(want));
+    }
 }
 
 /// The values of `map`.
@@ -229,7 +289,7 @@ fn refusal<'a>(alloc: Global, given: &'a [&'a str]) -> Option<ErrorKind> {
 
 #[test]
 fn words_that_are_refused(rt: HostRuntime) {
-    let cases: [(&[&str], ErrorKind); 10] = [
+    let cases: [(&[&str], ErrorKind); 13] = [
         (&[], ErrorKind::MissingSubcommand),
         (&["blok"], ErrorKind::InvalidSubcommand),
         (
@@ -250,6 +310,12 @@ fn words_that_are_refused(rt: HostRuntime) {
             ErrorKind::ArgumentConflict,
         ),
         (&["block", "--help"], ErrorKind::DisplayHelp),
+        (&["--version"], ErrorKind::DisplayVersion),
+        (&["run", "--version"], ErrorKind::UnknownArgument),
+        (
+            &["run", "--in=a", "--out=b", "--ticks=1", "--workers=two"],
+            ErrorKind::ValueValidation,
+        ),
         (
             &["map", "--in", "world"],
             ErrorKind::MissingRequiredArgument,

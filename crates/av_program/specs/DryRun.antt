@@ -1,10 +1,8 @@
 -- What a run would change, where it is only asked for that.
-use Rattle.std.specs.Prelude.{◌≡◌, ℕ, List, [], Option, Result, Ok, Err}
+use Rattle.std.specs.Prelude.{◌≡◌, ℕ, List, [], Option, Ok}
 use Rattle.std.specs.Io.KnownBytes.{Appends}
 use Rattle.av_region_files.specs.declared.files.RegionFile.{RegionFile}
 use Rattle.av_changes.specs.Changes.{AreChangesByName, change_lines}
-use Rattle.av_changes.specs.declared.change.Change.{Change}
-use Rattle.av_commands.specs.declared.failure.Failure.{Failure}
 use Rattle.av_run.specs.declared.checked.Ran.{Ran}
 use Rattle.av_run.specs.declared.checked.Ran.TheVariants.{Done, Uncovered}
 use Rattle.av_program.specs.declared.dry_run.Foreseen.{Foreseen}
@@ -23,12 +21,12 @@ pub record IsForeseen (q : Request) (foreseen : Foreseen) : Type 0 where
   pub run : IsRunOf q inputs (Ok foreseen.ran)
   pub changes : AreChangesByName (outcome_files foreseen.ran) foreseen.changes.items
 
--- what is told: the changes, and then what is told of a run; or 1 where writing failed
-pub data HasTold (changes : List Change) (ran : Result Ran Failure) (before after : Option (List ℕ)) (status : ℕ) : Type 0 where
-  told : (next : Option (List ℕ)) → Appends before next (change_lines changes) → HasReported ran next after status → HasTold changes ran before after status
-  untold : status ≡ 1 → HasTold changes ran before after status
+-- what is told of it, and the status: the changes, and then what is told of a run; or 1 where writing failed
+pub data HasTold (f : Foreseen) (before after : Option (List ℕ)) (status : ℕ) : Type 0 where
+  told : (next : Option (List ℕ)) → Appends before next (change_lines f.changes.items) → HasReported (Ok f.ran) next after status → HasTold f before after status
+  untold : status ≡ 1 → HasTold f before after status
 
 -- the same with what was read, or nothing and 1
 pub data HasRunDry (q : Request) (before after : Option (List ℕ)) (status : ℕ) : Type 0 where
-  foreseen : (f : Foreseen) → IsForeseen q f → HasTold f.changes.items (Ok f.ran) before after status → HasRunDry q before after status
+  foreseen : (f : Foreseen) → IsForeseen q f → HasTold f before after status → HasRunDry q before after status
   not_foreseen : after ≡ before → status ≡ 1 → HasRunDry q before after status

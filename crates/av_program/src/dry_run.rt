@@ -1,7 +1,7 @@
 //! What a run would change, where it is only asked for that.
-ghost use Rattle.std.specs.Prelude.{◌≡◌, ◌≤◌, IfErr, IfOk};
+ghost use Rattle.std.specs.Prelude.{◌≤◌, IfOk, List, Option, ℕ};
 ghost use Rattle.av_changes.specs.Changes.{AreChangesByName, AreChangesOf};
-ghost use Rattle.av_program.specs.DryRun.{HasForeseen, HasRunDry, HasTold, IsForeseen, outcome_files};
+ghost use Rattle.av_program.specs.DryRun.{HasRunDry, HasTold, IsForeseen, outcome_files};
 
 use crate::causes::failure_of_run;
 use crate::running::{Request, read_inputs, report, run_inputs};
@@ -9,6 +9,7 @@ use av_changes::{Change, add_change, by_name, write_changes};
 use av_commands::failure::Failure;
 use av_commands::manner::Manner;
 use av_commands::output::{REFUSED, report_output};
+use av_commands::reasons::report_failure;
 use av_folders::progress::{end_steps, note_step};
 use av_region_files::{RegionFile, region_name};
 use av_run::Ran;
@@ -69,7 +70,7 @@ fn changes_in<R: Files + AllocGlobal>(
     folder: &str,
     files: &[RegionFile],
 ) -> Result<Vec<Change>, Failure>
-    ensures { IfOk result (λ changes. AreChangesOf files.now changes.items) }
+    ensures { IfOk result (λ changes. (olds : List (Option (List ℕ))) × AreChangesOf files.now olds changes.items) }
 {
     let mut changes = Vec::new(rt.alloc());
     for file in files {
@@ -130,16 +131,16 @@ fn foresee<R: Files + Input + AllocGlobal + Clone + Drop + Threads + Wait + Sync
 /// Writes what a run would change, and then what is told of a run.
 fn tell<O: Write, E: Write>(
     alloc: Global,
-    changes: &[Change],
-    ran: &Result<Ran, Failure>,
+    foreseen: Foreseen,
     explains: bool,
     out: &mut O,
     err: &mut E,
 ) -> u8
-    ensures { HasTold changes.now ran.now (O.contents out.old) (O.contents out.new) result }
+    ensures { HasTold foreseen (O.contents out.old) (O.contents out.new) result }
 {
-    match write_changes(out, changes) {
-        Ok(()) => report(alloc, ran, explains, out, err),
+    let Foreseen { ran, changes } = foreseen;
+    match write_changes(out, changes.as_slice()) {
+        Ok(()) => report(alloc, &Ok(ran), explains, out, err),
         Err(error) => report_output(err, &error),
     }
 }
@@ -157,17 +158,7 @@ pub(crate) fn run_dry<
     let foreseen = foresee(rt, request, folder, manner, err);
     end_steps(err, manner.progress);
     match foreseen {
-        Ok(foreseen) => {
-            let Foreseen { ran, changes } = foreseen;
-            tell(
-                rt.alloc(),
-                changes.as_slice(),
-                &Ok(ran),
-                manner.explains,
-                out,
-                err,
-            )
-        }
-        Err(failure) => tell(rt.alloc(), &[], &Err(failure), manner.explains, out, err),
+        Ok(foreseen) => tell(rt.alloc(), foreseen, manner.explains, out, err),
+        Err(failure) => report_failure(rt.alloc(), err, &failure, manner.explains),
     }
 }

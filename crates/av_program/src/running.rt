@@ -140,7 +140,7 @@ pub(crate) fn run_inputs<R: Files + Input + AllocGlobal + Threads + Wait + Sync,
     manner: Manner,
     err: &mut E,
 ) -> Result<Ran, Fault>
-    requires { IsReadBy request.entry inputs }
+    requires { IsReadBy request inputs }
     ensures { IsRunOf request.entry inputs result }
 {
     note_step(err, manner.progress, "running");
@@ -166,7 +166,7 @@ fn run_into<R: Files + Input + AllocGlobal + Threads + Wait + Sync, S: Sink, E: 
     manner: Manner,
     err: &mut E,
 ) -> Result<Ran, Fault>
-    requires read { IsReadBy request.entry inputs }
+    requires read { IsReadBy request inputs }
     requires failures { (S.account sink.old).failures ≡ 0 }
     requires handed { (S.account sink.old).handed ≡ 0 }
     ensures { HasRunInto request.entry inputs (S.account sink.old) (S.account sink.new) result }

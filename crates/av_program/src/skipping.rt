@@ -168,10 +168,10 @@ fn read_unskipped<R: Files + AllocGlobal + Clone + Drop, E: Write>(
     ensures unread { IfErr result (λ e. IsUnreadFolder folder.now e.fault) }
 {
     let read = read_readable(rt, folder, manner, err)?;
-    if let Some(unread) = first_unread(read.unread, skip, err) {
-        return Err(Failure::from(unread));
+    match first_unread(read.unread, skip, err) {
+        Some(unread) => Err(Failure::from(unread)),
+        None => Ok(keep_others(rt.alloc(), read.files, skip, err)?),
     }
-    Ok(keep_others(rt.alloc(), read.files, skip, err)?)
 }
 
 /// The region files of a folder but those of these names, each of which is said on standard error.

@@ -5,7 +5,7 @@ pub returns-in-Block-clause-ran : goal.returns-in-Block-clause-ran
 returns-in-Block-clause-ran g c = rw c.in-Block.is (refl, c.run_block.ensures.ran)
 
 pub returns-in-Run-clause-ran : goal.returns-in-Run-clause-ran
-returns-in-Run-clause-ran g c = rw c.in-Run.is c.run_in_folder.ensures.ran
+returns-in-Run-clause-ran g c = rw c.in-Run.is c.run_run.ensures.ran
 
 pub returns-in-Check-clause-ran : goal.returns-in-Check-clause-ran
 returns-in-Check-clause-ran g c = rw c.in-Check.is (refl, c.run_check.ensures.ran)

@@ -6,5 +6,5 @@ use Rattle.av_program.proofs.program.run_in_folder.Goals as goal
 
 pub returns-in-Ok-clause-ran : goal.returns-in-Ok-clause-ran
 returns-in-Ok-clause-ran g c =
-    opened (subst (λ (a : Account). HasRunRegions c.args.request.ticks c.args.request.workers c.args.request.strict a (g.S.Sink.account c.run_regions.new.sink)
+    opened (subst (λ (a : Account). HasRunRegions c.args.request a (g.S.Sink.account c.run_regions.new.sink)
     (g.O.Write.contents c.args.out.now) (g.O.Write.contents c.run_regions.new.out) c.run_regions.result) c.in-Ok.ensures.ok c.run_regions.ensures.ran)
