@@ -282,7 +282,7 @@ done
 for left_out in 5 7 11; do
   expect_all 0 "chunks 0 turns 0\n" "$work/nothing$bare" "${nothing[@]:0:left_out}" "${nothing[@]:left_out + 2}"
 done
-expect_all 0 "chunks 0 turns 0\n" "$work/nothing$bare" "${nothing[@]:0:5}" --ticks 0 --again
+expect_all 0 "chunks 0 turns 0\n" "$work/nothing$bare" "${nothing[@]:0:5}" --ticks 0
 expect 2 "Runs edits, water and block light over the region files of a folder" run --help
 run() {
   local table=$1 edits=$2 input=$3 output=$4 workers=$5

@@ -20,7 +20,7 @@ use av_commands::output::{FAULT, REFUSED, report_fault, report_output};
 use av_commands::reasons::report_failure;
 use av_commands::tables::read_height;
 use av_folders::progress::{end_steps, note_written};
-use av_folders::try_folder;
+use av_folders::{LockFiles, hold_folder};
 use av_run::Ran;
 use av_sink::{OutputFolder, Sink};
 use av_types::{Fault, Height, Pos};
@@ -146,9 +146,9 @@ fn run_regions<
     report(rt.alloc(), &ran, manner.explains, out, err)
 }
 
-/// Runs `run`, and hands its files to the folder of that name, which is looked at before anything is read.
+/// Runs `run`, and hands its files to the folder of that name, which is held and looked at before anything is read.
 fn run_in_folder<
-    R: Files + Input + AllocGlobal + Clone + Drop + Threads + Wait + Sync,
+    R: LockFiles + Input + AllocGlobal + Clone + Drop + Threads + Wait + Sync,
     S: OutputFolder,
     O: Write,
     E: Write,
@@ -165,9 +165,10 @@ fn run_in_folder<
     ensures status { result ≤ REFUSED }
     ensures ran { HasRunInFolder folder.now request.entry (S.account sink.old) (S.account sink.new) (O.contents out.old) (O.contents out.new) result }
 {
-    if let Err(failure) = try_folder(rt, folder) {
-        return report_failure(rt.alloc(), err, &failure, manner.explains);
-    }
+    let _held = match hold_folder(rt, folder) {
+        Ok(held) => held,
+        Err(failure) => return report_failure(rt.alloc(), err, &failure, manner.explains),
+    };
     match sink.open(folder) {
         Ok(()) => run_regions(rt, request, sink, manner, out, err),
         Err(_) => report_fault(err, &Fault::OutOfMemory),
@@ -177,7 +178,7 @@ fn run_in_folder<
 /// Runs `run`, or says what it would change where that alone is asked for. A file that is to be skipped and isn't there is refused
 /// before anything is read.
 fn run_run<
-    R: Files + Input + AllocGlobal + Clone + Drop + Threads + Wait + Sync,
+    R: LockFiles + Input + AllocGlobal + Clone + Drop + Threads + Wait + Sync,
     S: OutputFolder,
     O: Write,
     E: Write,
@@ -198,7 +199,7 @@ fn run_run<
 
 /// Runs a command. Where standard error is a terminal, it says how far long work is, and why it failed.
 fn run_command<
-    R: Files + Input + AllocGlobal + Clone + Drop + Threads + Wait + Sync,
+    R: LockFiles + Input + AllocGlobal + Clone + Drop + Threads + Wait + Sync,
     S: OutputFolder,
     O: Write,
     E: Write,
@@ -255,7 +256,7 @@ fn refuse_twice<E: Write>(err: &mut E) -> u8
 
 /// Runs the command that the words name.
 fn run_words<
-    R: Files + Input + AllocGlobal + Clone + Drop + Threads + Wait + Sync,
+    R: LockFiles + Input + AllocGlobal + Clone + Drop + Threads + Wait + Sync,
     S: OutputFolder,
     O: Write,
     E: Write,
@@ -287,7 +288,7 @@ fn as_texts(alloc: Global, words: &[String]) -> Result<Vec<&str>, AllocError> {
 /// status: 0, also where the version is asked for; 1 after a fault, where `check` found something, and where `states` left chunks
 /// out; 2 after words that are refused or call for help.
 pub fn run<
-    R: Env + Files + Input + AllocGlobal + Clone + Drop + Threads + Wait + Sync,
+    R: Env + LockFiles + Input + AllocGlobal + Clone + Drop + Threads + Wait + Sync,
     S: OutputFolder,
     O: Write,
     E: Write,
