@@ -1,6 +1,8 @@
 //! The program's way from its words to its status.
 ghost use Rattle.std.specs.Prelude.{◌≡◌, ◌≢◌, ◌≤◌, IfErr, IfOk, map, option_map};
 ghost use Rattle.clap.specs.Words.{kind_of};
+ghost use Rattle.std.specs.List.{All};
+ghost use Rattle.av_program.specs.Skipping.{IsSkipped};
 ghost use Rattle.av_program.specs.RunCommand.{HasRunRegions};
 ghost use Rattle.av_program.specs.Running.{HasRun, HasRunBy, HasRunCommand, HasRunInFolder, HasRunProgram, HasRunWords, IsRefusalStatus, IsUnread};
 ghost use Rattle.av_sink.specs.Account.{IsFresh};
@@ -175,8 +177,26 @@ fn run_in_folder<
     }
 }
 
-/// Runs `run`, or says what it would change where that alone is asked for. A file that is to be skipped and isn't there is refused
-/// before anything is read.
+/// Runs `run`, or says what it would change where that alone is asked for.
+fn run_asked<
+    R: LockFiles + Input + AllocGlobal + Clone + Drop + Threads + Wait + Sync,
+    S: OutputFolder,
+    O: Write,
+    E: Write,
+>(rt: &R, words: &RunWords<'_>, sink: &mut S, manner: Manner, out: &mut O, err: &mut E) -> u8
+    requires fresh { IsFresh (S.account sink.old) }
+    requires skipped { All (λ n. IsSkipped n.now) words.now.skip.items }
+    ensures status { result ≤ REFUSED }
+    ensures ran { HasRunBy words.now (S.account sink.old) (S.account sink.new) (O.contents out.old) (O.contents out.new) result }
+{
+    let request = request_of(rt, words);
+    if words.dry_run {
+        return run_dry(rt, request, words.output, manner, out, err);
+    }
+    run_in_folder(rt, request, words.output, sink, manner, out, err)
+}
+
+/// The same. A file that is to be skipped and isn't there is refused before anything is read.
 fn run_run<
     R: LockFiles + Input + AllocGlobal + Clone + Drop + Threads + Wait + Sync,
     S: OutputFolder,
@@ -187,14 +207,10 @@ fn run_run<
     ensures status { result ≤ REFUSED }
     ensures ran { HasRunBy words.now (S.account sink.old) (S.account sink.new) (O.contents out.old) (O.contents out.new) result }
 {
-    if let Err(refusal) = judge_skips(rt, words.input, words.skip.as_slice()) {
-        return report_skip(err, &refusal);
+    match judge_skips(rt, words.input, words.skip.as_slice()) {
+        Ok(()) => run_asked(rt, words, sink, manner, out, err),
+        Err(refusal) => report_skip(err, &refusal),
     }
-    let request = request_of(rt, words);
-    if words.dry_run {
-        return run_dry(rt, request, words.output, manner, out, err);
-    }
-    run_in_folder(rt, request, words.output, sink, manner, out, err)
 }
 
 /// Runs a command. Where standard error is a terminal, it says how far long work is, and why it failed.
@@ -266,8 +282,12 @@ fn run_words<
     ensures ran { HasRunWords (map (λ s. s.now) given.now) (S.account sink.old) (S.account sink.new) (O.contents out.old) (O.contents out.new) result }
 {
     match words(rt.alloc(), given) {
-        Ok(command) if command.asks_twice() => refuse_twice(err),
-        Ok(command) => run_command(rt, is_terminal, command, sink, out, err),
+        Ok(command) => {
+            if command.asks_twice() {
+                return refuse_twice(err);
+            }
+            run_command(rt, is_terminal, command, sink, out, err)
+        }
         Err(error) => explain_words(out, err, &error),
     }
 }
