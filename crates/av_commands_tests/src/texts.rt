@@ -6,7 +6,9 @@ use std::test::Fail;
 
 #[test]
 fn texts_that_are_left_out(rt: HostRuntime) -> Result<(), Fail> {
-    let text = read_text_or(&rt, None, "1 0 64 0 a:b\n").ok().ok_or("no text")?;
+    let text = read_text_or(&rt, None, "1 0 64 0 a:b\n")
+        .ok()
+        .ok_or("no text")?;
     expect_equal(&rt, text.as_slice(), b"1 0 64 0 a:b\n");
     let table = read_table(&rt, None).ok().ok_or("no table")?;
     expect_equal(&rt, &table.as_slice()[..26], b"# What water and light ask");
