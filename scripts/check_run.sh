@@ -59,15 +59,34 @@ mkdir "$work/by_defaults"
 "$program" run --in "$top/samples" --out "$work/by_defaults" --edits - --ticks 20 < "$edits" > "$work/told"
 expect "$(cat "$work/printed")" "$(cat "$work/told")" "a run by defaults"
 same whole by_defaults
-# What a run would change, against its input, against its own files, and against those of a run without edits: the chunk of the
-# edits, and no more than its neighbours, to which light and water may reach.
-dry() { "$program" run --in "$top/samples" --out "$1" --edits "$edits" --ticks 20 --dry-run; }
-expect "$(cat "$work/printed")" "$(dry "$work/whole")" "a dry run against its own files"
+# What a run would change, against its own files, those of a run without edits, its input and an empty folder, by another reader.
+changes() {
+  python3 - "$1" "$2" << 'END'
+import os, sys
+old, new = sys.argv[1:]
+def read(folder, name):
+    path = os.path.join(folder, name)
+    return open(path, "rb").read() if os.path.exists(path) else None
+def chunk(data, index):
+    place = data[4 * index:4 * index + 4]
+    if not any(place):
+        return None
+    start = 4096 * int.from_bytes(place[:3], "big")
+    return data[start + 4:start + 4 + int.from_bytes(data[start:start + 4], "big")]
+for name in sorted(os.listdir(new)):
+    one, two = read(old, name), read(new, name)
+    if one != two:
+        count = sum(chunk(one or bytes(8192), index) != chunk(two, index) for index in range(1024))
+        print(f"{name}: {count} chunks would change")
+END
+}
 run "$top/samples" unedited "$work/no_edits" 20 1 > /dev/null
-dry "$work/unedited" > "$work/told"
-expect "r.0.0.mca" "$(sed -n '1s/:.*//p' "$work/told")" "the file that edits change"
-expect "$(cat "$work/printed")" "$(tail -n 1 "$work/told")" "the last line of a dry run"
-expect 2 "$(wc -l < "$work/told")" "the lines of a dry run"
+mkdir "$work/empty"
+for folder in "$work/whole" "$work/unedited" "$top/samples" "$work/empty"; do
+  "$program" run --in "$top/samples" --out "$folder" --edits "$edits" --ticks 20 --dry-run > "$work/told"
+  expect "$(changes "$folder" "$work/whole"; cat "$work/printed")" "$(cat "$work/told")" "a dry run against $folder"
+done
+expect "" "$(ls -A "$work/empty")" "the files of a dry run"
 
 # The number of workers makes no difference. A run that is stopped and resumed gives the same files, also in place.
 for workers in 1 3 5 8; do
