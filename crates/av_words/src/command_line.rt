@@ -11,6 +11,7 @@ use crate::arguments::{
     command, coordinate, counted, explain_flag, file, flag, height_table, named, progress_flag,
     repeated,
 };
+use crate::values::{count_if_given, count_of, is_given, number, text_of, texts_of};
 use av_types::Pos;
 use clap::error::ErrorKind;
 use clap::{ArgMatches, Command, Error};
@@ -208,63 +209,6 @@ fn program<'a>(alloc: Global) -> Result<Command<'a>, Error>
         .subcommand(map)?
         .subcommand(states)?;
     Ok(program)
-}
-
-/// The number of an argument.
-fn number(matches: &ArgMatches<'_>, name: &str) -> Option<i32>
-    ensures value { IfSome result (HasNumber (rows_of (found_of matches.now)) name.now) }
-    ensures none { IfNone result ((n : ℤ) → HasNumber (rows_of (found_of matches.now)) name.now n → ⊥) }
-{
-    matches.get_one::<i32>(name)
-}
-
-/// The number of an argument that has no sign.
-fn count_of(matches: &ArgMatches<'_>, name: &str) -> Option<u32>
-    ensures value { IfSome result (HasCount (rows_of (found_of matches.now)) name.now) }
-    ensures none { IfNone result ((n : ℕ) → HasCount (rows_of (found_of matches.now)) name.now n → ⊥) }
-{
-    matches.get_one::<u32>(name)
-}
-
-/// The same of an argument that may be left out. None where it is given and is no such number.
-fn count_if_given(matches: &ArgMatches<'_>, name: &str) -> Option<Option<u32>>
-    ensures value { IfSome result (MayHaveCount (rows_of (found_of matches.now)) name.now) }
-    ensures none { IfNone result ((n : Option ℕ) → MayHaveCount (rows_of (found_of matches.now)) name.now n → ⊥) }
-{
-    match text_of(matches, name) {
-        Some(_) => Some(Some(count_of(matches, name)?)),
-        None => Some(None),
-    }
-}
-
-/// The texts of an argument, in their order.
-fn texts_of<'a>(
-    alloc: Global,
-    matches: &ArgMatches<'a>,
-    name: &str,
-) -> Result<Vec<&'a str>, AllocError>
-    ensures { IfOk result (λ texts. HasTexts (rows_of (found_of matches.now)) name.now texts.items) }
-{
-    match matches.get_strs(name) {
-        Some(texts) => Vec::from_slice(alloc, texts),
-        None => Ok(Vec::new(alloc)),
-    }
-}
-
-/// The text of an argument.
-fn text_of<'a>(matches: &ArgMatches<'a>, name: &str) -> Option<&'a str>
-    ensures value { IfSome result (HasText (rows_of (found_of matches.now)) name.now) }
-    ensures none { IfNone result ((t : Bor (List ℕ)) → HasText (rows_of (found_of matches.now)) name.now t → ⊥) }
-    ensures either { MayHaveText (rows_of (found_of matches.now)) name.now result }
-{
-    matches.get_str(name)
-}
-
-/// Whether a flag was given.
-fn is_given(matches: &ArgMatches<'_>, name: &str) -> bool
-    ensures { HasFlag (rows_of (found_of matches.now)) name.now result }
-{
-    matches.get_flag(name)
 }
 
 /// The values of `block`, where each was given.

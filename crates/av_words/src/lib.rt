@@ -3,6 +3,7 @@
 
 pub(crate) mod arguments;
 pub mod command_line;
+pub(crate) mod values;
 
 pub use command_line::commands::{RunWords, STANDARD_INPUT, Words};
 pub use command_line::words;

@@ -2,7 +2,7 @@ use Rattle.std.proofs.Common.{◌∙◌, sym, ℕ, List, Option, Some, None, Bor
 use Rattle.std.proofs.lemmas.Option.{none-some}
 use Rattle.clap.specs.Words.{Row, Text, found_of, rows_of}
 use Rattle.av_words.specs.CommandLine.{HasCount, HasText, MayHaveCount}
-use Rattle.av_words.proofs.command_line.count_if_given.Goals as goal
+use Rattle.av_words.proofs.values.count_if_given.Goals as goal
 
 if_none : {T : Type 0} (o : Option T) (P : Type 0) → P → IfNone o P
 if_none None P p = p

@@ -1,7 +1,7 @@
 use Rattle.std.proofs.Common.{◌∙◌}
 use Rattle.clap.specs.Words.{found_of}
 use Rattle.clap.proofs.WalkLemmas.{one_text-rows}
-use Rattle.av_words.proofs.command_line.is_given.Goals as goal
+use Rattle.av_words.proofs.values.is_given.Goals as goal
 
 pub returns : goal.returns
 returns c =

@@ -2,7 +2,7 @@ use Rattle.std.proofs.Common.{◌≡◌, ◌∙◌, sym, Option, Some, None, Bor
 use Rattle.std.proofs.lemmas.Option.{none-some}
 use Rattle.clap.specs.Words.{found_of, Text}
 use Rattle.clap.proofs.WalkLemmas.{first_value-rows}
-use Rattle.av_words.proofs.command_line.text_of.Goals as goal
+use Rattle.av_words.proofs.values.text_of.Goals as goal
 
 value : (r : Option (Bor Text)) (t : Option Text) → t ≡ option_map (λ s. s.now) r → IfSome r (λ s. t ≡ Some s.now)
 value None t is = tt

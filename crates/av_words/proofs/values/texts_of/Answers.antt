@@ -3,7 +3,7 @@ use Rattle.std.specs.Prelude.{unwrap_or}
 use Rattle.clap.specs.Words.{Row, Text, found_of, rows_of}
 use Rattle.clap.proofs.WalkLemmas.{raw_values-rows}
 use Rattle.av_words.specs.CommandLine.{HasTexts}
-use Rattle.av_words.proofs.command_line.texts_of.Goals as goal
+use Rattle.av_words.proofs.values.texts_of.Goals as goal
 
 -- a result that has the items that were given
 if_ok : {V E : Type 0} (r : Result V E) (items : V → List (Bor Text)) (texts : List (Bor Text)) (rows : List Row) (name : Text)
