@@ -96,7 +96,7 @@ fn words_of_run_that_may_be_left_out(rt: HostRuntime) -> Result<(), Fail> {
     expect_equal(&rt, (run.table, run.edits), (None, None));
     expect_equal(&rt, (run.ticks, run.workers), (3, None));
     expect_equal(&rt, run.skip.len(), 0);
-    expect_equal(&rt, (run.strict, run.again), (false, false));
+    expect_equal(&rt, (run.strict, run.explain), (false, false));
     expect_equal(&rt, (run.dry_run, run.progress), (false, false));
     Ok(())
 }
@@ -114,7 +114,6 @@ fn words_of_run(rt: HostRuntime) -> Result<(), Fail> {
         "--ticks=1",
         "--workers=9",
         "--strict",
-        "--again",
         "--dry-run",
         "--skip",
         "x",
@@ -123,7 +122,7 @@ fn words_of_run(rt: HostRuntime) -> Result<(), Fail> {
     expect_equal(&rt, (run.table, run.edits), (Some("-"), Some("e")));
     expect_equal(&rt, (run.ticks, run.workers), (1, Some(9)));
     expect_equal(&rt, run.skip.as_slice(), ["r.0.0.mca", "x"].as_slice());
-    expect_equal(&rt, (run.strict, run.again), (true, true));
+    expect_equal(&rt, (run.strict, run.explain), (true, false));
     expect_equal(&rt, (run.dry_run, run.progress), (true, false));
     Ok(())
 }
