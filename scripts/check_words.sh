@@ -36,7 +36,7 @@ expect_all() {
   shift 3
   "$program" "$@" > "$work/out" 2> "$work/err" || answered=$?
   asked=$((asked + 1))
-  if [ "$answered" != "$status" ] || ! printf "$out" | cmp -s - "$work/out" || ! printf "$err" | cmp -s - "$work/err"; then
+  if [ "$answered" != "$status" ] || ! printf -- "$out" | cmp -s - "$work/out" || ! printf -- "$err" | cmp -s - "$work/err"; then
     wrong=$((wrong + 1))
     echo "$*: expected $status, '$out', '$err'; status $answered, output '$(cat "$work/out")', errors '$(cat "$work/err")'"
   fi
