@@ -1,6 +1,6 @@
 #!/usr/bin/env bash
 # Asks `anvilwater` to build its program, in a copy where stand-ins take the places of rt and of the proofs: one builds, and is then refused
-# since it was run without words, as rt's own run is; one fails.
+# since it was run without words, as rt's own run is; one fails. Then scripts/prove.py is asked with a stand-in of rt.
 set -eu
 top=$(cd "$(dirname "$0")/.." && pwd)
 work=$(mktemp -d)
@@ -45,5 +45,37 @@ done
 tree $'echo "error: a reason"\nexit 1'
 expect "a build that fails" "status 3" "$(ask check)"
 expect "and says why" 1 "$(grep -cF 'error: a reason' "$work/err")"
+# Four crates, of which two stand on one and the last on those two: each is built once, where what it stands on was built.
+lab=$work/lab
+mkdir -p "$lab/tree/scripts" "$lab/bin"
+cp "$top/scripts/prove.py" "$lab/tree/scripts/"
+printf 'low:\nleft: low\nright: low\nhigh: left right\n' > "$lab/tree/crates.txt"
+touch "$lab/tree/HANDLES"
+for crate in low left right high; do mkdir -p "$lab/tree/crates/$crate/src"; done
+cat > "$lab/bin/rt" <<'LINES'
+#!/bin/sh
+name=$(basename "$PWD")
+case $name in low) below= ;; high) below="low left right" ;; *) below=low ;; esac
+for crate in $below; do [ -e "../$crate/out/built" ] || exit 1; done
+[ "$1" = lib ] && echo "$name" >> "$BUILT"
+mkdir -p out && touch out/built
+LINES
+chmod +x "$lab/bin/rt"
+
+# How prove.py ends for the last crate.
+prove() {
+  local status=0
+  BUILT=$lab/built PATH="$lab/bin:$PATH" "$lab/tree/scripts/prove.py" high --jobs 2 > "$lab/out" 2> "$lab/err" || status=$?
+  echo "status $status"
+}
+
+expect "four crates side by side" "status 0" "$(prove)"
+expect "each is built once" "left low right" "$(sort "$lab/built" | xargs)"
+expect "the last one in its own folder" 1 "$(find "$lab/tree/crates/high/out" -name built | wc -l)"
+expect "what was built is kept" 3 "$(find "$lab"/tree/crates/low/out "$lab"/tree/crates/left/out "$lab"/tree/crates/right/out -name built | wc -l)"
+printf '#!/bin/sh\necho "no proof here"\nexit 1\n' > "$lab/bin/rt"
+expect "a proof that fails" "status 1" "$(prove)"
+expect "and which" 1 "$(grep -cF 'the proof of low failed' "$lab/err")"
+expect "and what was said of it" 1 "$(grep -cF 'no proof here' "$lab/err")"
 echo "$asked asked of builds, $wrong wrong"
 [ "$wrong" = 0 ]

@@ -79,6 +79,44 @@ def check_held(program, work, want):
     expect("what is written then", want, contents(folder))
 
 
+@contextlib.contextmanager
+def locked(path, lock):
+    """A file that this process locks, as the game does by lockf."""
+    with open(path, "wb") as file:
+        lock(file, fcntl.LOCK_EX)
+        yield
+
+
+def check_session(program, work, want):
+    """A world that the game has open is refused, by its own region files and by those of a dimension, unless that is to be no matter."""
+    world = pathlib.Path(os.path.realpath(work)) / "world"
+    (world / "DIM-1").mkdir(parents=True)
+    session = world / "session.lock"
+    folders = [regions(world / "region"), regions(world / "DIM-1" / "region")]
+    session.write_bytes(b"")
+    before = contents(folders[0])
+    for folder in folders:
+        for lock in (fcntl.lockf, fcntl.flock):
+            if not os.path.exists("/proc/locks"):
+                continue
+            with locked(session, lock):
+                refused = "fault 25: Device %s" % session
+                expect("a world that is open", (1, [refused]), run(program, TOP / "samples", folder))
+                process = "  %s: process %d has the world open: stop the game, or call again with --in-use" % (session, os.getpid())
+                expect("who has it open", (1, [refused, process]), run(program, TOP / "missing", folder, "--explain"))
+                expect("its files", before, contents(folder))
+        expect("a world that nobody has open", (0, []), run(program, TOP / "samples", folder))
+        expect("what is written to it", want, contents(folder))
+    with locked(session, fcntl.lockf):
+        expect("a world that is open, in use", (0, []), run(program, TOP / "samples", folders[0], "--in-use"))
+        (world / "DIM-1" / "data" / "region").mkdir(parents=True)
+        expect("a folder further down", (0, []), run(program, TOP / "samples", world / "DIM-1" / "data" / "region"))
+        expect("a folder that is only looked at", 0, run(program, TOP / "samples", folders[0], "--dry-run")[0])
+    other = world / "other.lock"
+    with locked(other, fcntl.lockf):
+        expect("another file that is locked", (0, []), run(program, TOP / "samples", folders[0]))
+
+
 def check_links(program, work, want):
     """A region that is a link is refused; what it leads to stays. A link under the name of a new file is not followed."""
     folder = work / "linked"
@@ -92,7 +130,8 @@ def check_links(program, work, want):
     expect("what it leads to", b"of somebody else", other.read_bytes())
     (folder / "r.0.0.mca").unlink()
     (folder / ".anvilwater-r.0.0.mca").symlink_to(other)
-    expect("a link under the name of a new file", (0, []), run(program, TOP / "samples", folder))
+    left = "%s: 1 files that a run left behind when it was cut off are taken away" % folder
+    expect("a link under the name of a new file", (0, [left]), run(program, TOP / "samples", folder))
     expect("what is written beside it", want, contents(folder))
     expect("what it led to", b"of somebody else", other.read_bytes())
 
@@ -121,7 +160,7 @@ def check_owners(program, work, want):
 
 
 def check_killed(program, work, want):
-    """Wherever a call is killed, each region's file is the old or the new one, and the next call into an empty way leaves nothing behind."""
+    """Wherever a call is killed, each region's file is the old or the new one, and the next call leaves the new ones and nothing else."""
     old = contents(regions(work / "old"))
     for turn in range(12):
         folder = regions(work / ("killed_%d" % turn))
@@ -131,7 +170,7 @@ def check_killed(program, work, want):
         process.wait()
         found = contents(folder)
         expect("files after a kill", [True] * 2, [found[name] in (old[name], want[name]) for name in NAMES])
-        expect("the next call", (0, []), run(program, TOP / "samples", folder))
+        expect("the next call", 0, run(program, TOP / "samples", folder)[0])
         expect("what it writes", want, {name: file for name, file in contents(folder).items() if name != ".anvilwater-trial"})
 
 
@@ -146,7 +185,7 @@ def main():
         expect("a run", (0, []), run(program, TOP / "samples", own))
         want = contents(own)
         expect("its files", NAMES, sorted(want))
-        for check in (check_held, check_links, check_others, check_owners, check_killed):
+        for check in (check_held, check_session, check_links, check_others, check_owners, check_killed):
             check(program, work, want)
     print("folders: %d asked, %d wrong" % (asked, len(wrong)))
     sys.exit(1 if wrong else 0)

@@ -88,6 +88,17 @@ for folder in "$work/whole" "$work/unedited" "$top/samples" "$work/empty"; do
 done
 expect "" "$(ls -A "$work/empty")" "the files of a dry run"
 
+# What a run says that it changed, and how far it is, where that is asked for.
+mkdir "$work/changed"
+cp "$top"/samples/r.*.mca "$work/changed"
+"$program" run --in "$top/samples" --out "$work/changed" --edits "$edits" --ticks 20 --progress 2> "$work/told" > /dev/null
+expect "$(changes "$top/samples" "$work/whole" | sed 's/would change/changed/')" "$(grep ' chunks changed$' "$work/told")" "what a run has changed"
+expect "20 of 20 ticks run" "$(grep ' ticks run$' "$work/told" | tail -n 1)" "its last tick"
+expect "2 of 2 files written" "$(grep ' files written$' "$work/told" | tail -n 1)" "its last file"
+same whole changed
+"$program" run --in "$top/samples" --out "$work/changed" --ticks 1000000 --progress 2> "$work/told" > /dev/null
+expect yes "$([ "$(grep -c ' ticks run$' "$work/told")" -le 21 ] && echo yes)" "the lines on a million ticks"
+
 # The number of workers makes no difference. A run that is stopped and resumed gives the same files, also in place.
 for workers in 1 3 5 8; do
   run "$top/samples" "by_$workers" "$edits" 20 "$workers" > /dev/null

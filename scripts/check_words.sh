@@ -142,7 +142,7 @@ expect 2 "error: unexpected argument 'samples' found" check samples
 expect 2 "error: the argument '--in <DIR>' cannot be used multiple times" check --in samples --in samples
 expect 2 "Lists what is wrong with the region files of a folder" check --help
 expect_all 0 "" "" check --in samples
-expect_all 0 "" "1 of 2 files read\n2 of 2 files read\n" check --progress --in samples
+expect_all 0 "" "1 of 2 files read\n2 of 2 files read\n2 files, 6 chunks, 0 findings\n" check --progress --in samples
 # On a terminal one line is written anew, and taken away at the end, and faults are explained.
 on_terminal() {
   python3 - "$program" "$@" << 'END'
@@ -172,7 +172,7 @@ expect_on_terminal() {
     echo "$*, on a terminal: expected '$want', found '$told'"
   fi
 }
-expect_on_terminal "|1 of 2 files read|2 of 2 files read|" check --in samples
+expect_on_terminal "|1 of 2 files read|2 of 2 files read|2 files, 6 chunks, 0 findings\n" check --in samples
 expect_on_terminal "fault 25: Device missing\n  missing: No such file or directory (os error 2)\n$missing" check --in missing
 expect 1 "fault 25: Device missing.toml" check --table missing.toml --in missing
 expect 1 "fault 19: BadTable" check --table README.md --in missing
@@ -224,6 +224,18 @@ r.-1.1.mca -32 32 fault 09: Compression 2
 r.-1.1.mca -31 33 fault 07: BadLength
 " "$advice" check --in "$folder/"
 expect_full "$full" check --in "$folder"
+# The chunk with a fault that `block` meets, where that is asked for.
+fault_at='  `anvilwater check --in DIR` lists each file and chunk that has a fault\n'
+expect 1 "fault 07: BadLength" block "$folder/r.0.0.mca" 16 0 16
+expect_all 1 "" "fault 07: BadLength\n  r.0.0.mca, chunk 1 1\n$fault_at" block --explain "$folder/r.0.0.mca" 16 0 16
+expect_all 1 "" "fault 09: Compression 2\n$advice  r.0.0.mca, chunk 0 0\n$fault_at" block --explain "$folder/r.0.0.mca" 15 0 0
+expect_all 1 "" "fault 04: ShortHeader\n  r.3.0.mca\n$fault_at" block --explain "$folder/r.3.0.mca" 1536 0 0
+# How much was looked at: of a file that is cut short no chunks, and of one that can't be read nothing.
+mkdir "$folder/r.4.0.mca"
+expect_all 1 "$("$program" check --in "$folder" 2> /dev/null)\n" \
+  "1 of 5 files read\n2 of 5 files read\n3 of 5 files read\n4 of 5 files read\n5 of 5 files read
+fault 25: Device r.4.0.mca\n${advice}4 files, 4 chunks, 5 findings\n" check --progress --in "$folder"
+rmdir "$folder/r.4.0.mca"
 
 # A link to a region file is read. One to nowhere, a folder, a pipe and a file that may not be read are named, and all others are
 # looked at; a run stops at the first.
@@ -344,7 +356,9 @@ mkdir "$output/r.-2.1.mca"
 expect_run 1 "" "fault 25: Device r.-1.0.mca\n" "$blocks" "$edits" "$input" "$output" 1
 rm "$input/r.-2.1.mca"
 rmdir "$output"/*
-expect_run 0 "chunks 0 turns 0\n" "1 of 2 files read\n2 of 2 files read\nrunning\nwriting\n2 files written\n" "$blocks" "$edits" "$input" "$output" 1 --progress
+expect_run 0 "chunks 0 turns 0\n" "1 of 2 files read\n2 of 2 files read\nrunning
+0 chunks loaded\n10 of 10 ticks run\nlight of 0 chunks\nmaking 2 files\n1 of 2 files written\n2 of 2 files written
+r.-1.0.mca: 0 chunks changed\nr.0.0.mca: 0 chunks changed\n" "$blocks" "$edits" "$input" "$output" 1 --progress
 expect_run 0 "chunks 0 turns 0\n" "" "$blocks" "$edits" "$input" "$input" 2
 for file in "$input"/r.*.mca "$output"/r.*.mca; do
   asked=$((asked + 1))
@@ -363,7 +377,7 @@ rm "$output"/*
 mkdir "$output/r.0.0.mca"
 expect_run 1 "" "fault 25: Device r.0.0.mca\n" "$blocks" "$edits" "$input" "$output" 1
 asked=$((asked + 1))
-if [ "$(ls "$output")" != $'r.-1.0.mca\nr.0.0.mca' ]; then
+if [ "$(ls "$output")" != r.0.0.mca ]; then
   wrong=$((wrong + 1))
   echo "folder after a write that failed: $(ls "$output")"
 fi
@@ -387,6 +401,20 @@ if [ -n "$(ls "$output")" ]; then
 fi
 expect_run 0 "chunks 1 turns 0\n" "1$uncovered" "$work/bare.toml" "$edits" "$input" "$output" 1
 expect_run 0 "chunks 1 turns 0\n" "" "$blocks" "$edits" "$input" "$output" 1 --strict
+
+# The line of the edits that is refused, and what can be done.
+form='  a line is TICK X Y Z STATE with single spaces, as `1 8 75 8 minecraft:water[level=0]`\n'
+printf '# none\n1 0 64 nonsense\n' > "$work/bad.edits"
+expect_run 1 "" "fault 20: BadEdit 2\n  $work/bad.edits, line 2: 1 0 64 nonsense\n$form" "$blocks" "$work/bad.edits" "$input" "$output" 1 --explain
+expect_run 1 "" "fault 20: BadEdit 2\n" "$blocks" "$work/bad.edits" "$input" "$output" 1
+expect_run 1 "" "fault 20: BadEdit 1\n  standard input, line 1\n$form" "$blocks" - "$input" "$output" 1 --explain <<< nonsense
+printf '11 0 64 0 minecraft:stone\r\n' > "$work/bad.edits"
+expect_run 1 "" "fault 21: EditTick 1\n  $work/bad.edits, line 1: 11 0 64 0 minecraft:stone
+  its tick is its first number, and the run's are 1 to 10\n" "$blocks" "$work/bad.edits" "$input" "$output" 1 --explain
+printf '1 0 64 0 minecraft:stone\n' > "$work/bad.edits"
+expect_run 1 "" "fault 22: EditOutside 1\n  $work/bad.edits, line 1: 1 0 64 0 minecraft:stone
+  its block is in no chunk that is loaded, or above or below the world: a chunk is loaded where it is fully generated\n" \
+  "$blocks" "$work/bad.edits" "$input" "$output" 1 --explain
 
 # A text that is named - is standard input, which can be read once.
 twice="error: - is standard input, which can be read once, and two files are -"
@@ -437,7 +465,8 @@ expect_run 0 "r.-1.-1.mca: 1 chunks would change\nchunks 1 turns 0\n" "" "$block
 expect_run 1 "" "fault 25: Device missing\n" "$blocks" "$edits" "$input" missing 1 --dry-run
 expect_run 1 "" "fault 23: BadCount\n" "$blocks" "$edits" "$input" "$output" 9 --dry-run
 expect_run 1 "" "1$strict" "$work/bare.toml" "$edits" "$input" "$output" 1 --strict --dry-run
-expect_run 0 "r.-1.-1.mca: 1 chunks would change\nchunks 1 turns 0\n" "1 of 1 files read\nrunning\ncomparing\n" \
+expect_run 0 "r.-1.-1.mca: 1 chunks would change\nchunks 1 turns 0\n" "1 of 1 files read\nrunning
+1 chunks loaded\n10 of 10 ticks run\nlight of 1 chunks\nmaking 1 files\ncomparing\n" \
   "$blocks" "$edits" "$input" "$output" 1 --dry-run --progress
 asked=$((asked + 1))
 if [ -n "$(ls -A "$output")" ]; then

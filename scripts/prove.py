@@ -3,10 +3,10 @@
 
     scripts/prove.py NAME [--jobs N] [-- COMMAND ..]
 
-Each job is an `rt check`, in a copy of the tree of its own, since two checks in one tree wait for each other where they stand on the
-same crates. A crate is begun when those that it stands on are proved, first the one that most is left to prove above. COMMAND is run
-in the crate's own folder when they all are; without one, `rt check`. It begins with what the checks in the copies kept, and then the
-copies go.
+Each job is an `rt lib`, in a copy of the tree of its own, since two of them in one tree wait for each other where they stand on the
+same crates. What a job has built goes to the tree itself, and from there to the copies that need it, so that no crate is proved twice.
+A crate is begun when those that it stands on are proved, first the one that most is left to prove above. COMMAND is run in the crate's
+own folder when they all are; without one, `rt check`.
 
 Lines on standard error say which crates are being proved, how many are done and about how long it will still take. Status: that of
 the command; 1 where a check failed before, which then tells what it printed; 2 where other words are needed.
@@ -76,10 +76,31 @@ class Failed(Exception):
     """A check that ended otherwise than by a proof: its crate, and what it printed."""
 
 
-class Trees:
-    """Copies of the tree, each for one check at a time."""
+def link(source, target):
+    """Gives a file a second name, or copies it where that can't be."""
+    try:
+        os.link(source, target, follow_symlinks=False)
+    except OSError:
+        shutil.copy2(source, target, follow_symlinks=False)
 
-    def __init__(self, folder, count):
+
+def built(tree, name):
+    """The folder of what was built of a crate."""
+    return tree / "crates" / name / "out"
+
+
+def hand_on(source, target, copy):
+    """Hands on what was built of a crate to another tree, where it is there."""
+    if source.is_dir():
+        shutil.rmtree(target, ignore_errors=True)
+        shutil.copytree(source, target, symlinks=True, copy_function=copy)
+
+
+class Trees:
+    """Copies of the tree, each for one job at a time."""
+
+    def __init__(self, folder, below, count):
+        self.below = below
         self.free = []
         self.running = set()
         self.lock = threading.Lock()
@@ -90,16 +111,25 @@ class Trees:
                 shutil.copy(TOP / name, tree / name)
             self.free.append(tree)
 
+    def prepare(self, tree, name):
+        """Hands a copy what was built below a crate, which is only read, and what an earlier call has kept of the crate itself."""
+        for other in closure(name, self.below) - {name}:
+            if not built(tree, other).exists():
+                hand_on(built(TOP, other), built(tree, other), link)
+        hand_on(built(TOP, name), built(tree, name), shutil.copy2)
+
     def check(self, name):
         """Proves a crate in a copy that is free."""
         with self.lock:
             tree = self.free.pop()
+        self.prepare(tree, name)
         started = subprocess.Popen(
-            ["rt", "check"], cwd=tree / "crates" / name, stdin=subprocess.DEVNULL, stdout=subprocess.PIPE, stderr=subprocess.STDOUT,
+            ["rt", "lib"], cwd=tree / "crates" / name, stdin=subprocess.DEVNULL, stdout=subprocess.PIPE, stderr=subprocess.STDOUT,
             start_new_session=True)
         with self.lock:
             self.running.add(started)
         printed = started.communicate()[0]
+        hand_on(built(tree, name), built(TOP, name), link)
         with self.lock:
             self.running.discard(started)
             self.free.append(tree)
@@ -136,7 +166,7 @@ def prove(names, below, jobs, last):
     height = heights(names, below, size)
     done, running, begun = set(), {}, time.monotonic()
     with tempfile.TemporaryDirectory(prefix="anvilwater-") as folder, concurrent.futures.ThreadPoolExecutor(jobs) as pool:
-        trees = Trees(folder, jobs)
+        trees = Trees(folder, below, jobs)
         try:
             while len(done) < len(names):
                 ready = [name for name in names - done - set(running.values()) if done.issuperset(below[name])]

@@ -164,8 +164,9 @@ class Program:
 
     def run(self, source, target, edits, ticks):
         """What it prints. Its other lines go where those of this command go."""
+        # This command holds session.lock itself.
         words = [self.path, "run", "--in", source, "--out", target, "--table", self.table, "--edits", edits, "--ticks", str(ticks),
-                 "--workers", self.workers]
+                 "--workers", self.workers, "--in-use"]
         with subprocess.Popen(words, stdin=subprocess.DEVNULL, stdout=subprocess.PIPE, start_new_session=True) as process:
             try:
                 printed = process.communicate()[0]

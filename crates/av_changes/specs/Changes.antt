@@ -53,10 +53,10 @@ pub record AreChangesByName (files : List RegionFile) (changes : List Change) : 
   pub same : IsPermutation in_order_of_files changes
   pub by_name : IsSortedBy (λ a b. is_lt (string_cmp a.name b.name)) changes
 
--- `r.X.Z.mca: N chunks would change`, a line for each
-abbrev pub change_line : Change → List ℕ
-change_line c = string_bytes c.name ++ (codes ": " ++ (decimal c.chunks ++ (codes " chunks would change" ++ 10 ∷ [])))
+-- `r.X.Z.mca: N chunks VERB`, as `would change`, a line for each
+abbrev pub change_line : List ℕ → Change → List ℕ
+change_line verb c = string_bytes c.name ++ (codes ": " ++ (decimal c.chunks ++ (codes " chunks " ++ (verb ++ 10 ∷ []))))
 
-abbrev pub change_lines : List Change → List ℕ
-change_lines [] = []
-change_lines (c ∷ cs) = change_line c ++ change_lines cs
+abbrev pub change_lines : List ℕ → List Change → List ℕ
+change_lines verb [] = []
+change_lines verb (c ∷ cs) = change_line verb c ++ change_lines verb cs

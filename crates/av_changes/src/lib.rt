@@ -7,4 +7,4 @@ pub mod telling;
 
 pub use change::{Change, add_change, by_name};
 pub use counting::changed_chunks;
-pub use telling::write_changes;
+pub use telling::{CHANGED, WOULD_CHANGE, write_changes};

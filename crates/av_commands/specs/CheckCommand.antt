@@ -1,13 +1,14 @@
 -- What `check` prints.
 use Rattle.std.specs.Prelude.{◌≡◌, ◌≢◌, ℕ, Bool, List, [], ◌∷◌, ◌++◌, Option, Some, None, codes, cond}
 use Rattle.std.specs.List.{list_any}
-use Rattle.std.specs.Fmt.{signed_decimal}
+use Rattle.std.specs.Fmt.{decimal, signed_decimal}
 use Rattle.av_types.specs.Faults.{fault_text}
 use Rattle.av_types.specs.declared.fault.Fault.TheVariants.{Device}
 use Rattle.av_types.specs.declared.place.ChunkPos.{ChunkPos}
 use Rattle.av_types.specs.declared.place.RegionPos.{RegionPos}
 use Rattle.av_region_files.specs.Names.{region_name_of}
 use Rattle.av_survey.specs.declared.finding.Finding.{Finding}
+use Rattle.av_commands.specs.declared.checking.Counts.{Counts}
 use Rattle.av_commands.specs.declared.failure.UnreadFile.{UnreadFile}
 use Rattle.av_commands.specs.Output.{is_compression, lines_of, packed_advice}
 use Rattle.av_commands.specs.Reasons.{TellsFailure}
@@ -38,6 +39,10 @@ advice_on found = cond (list_any (λ f. is_compression f.fault) found) packed_ad
 pub data HasFindings (found : List Finding) (before after : Option (List ℕ)) (status : ℕ) : Type 0 where
   none : found ≡ [] → after ≡ before → status ≡ 0 → HasFindings found before after status
   some : found ≢ [] → status ≡ 1 → HasFindings found before after status
+
+-- `F files, C chunks, N findings`
+abbrev pub counts_text : Counts → List ℕ
+counts_text c = decimal c.files ++ (codes " files, " ++ (decimal c.chunks ++ (codes " chunks, " ++ (decimal c.findings ++ codes " findings"))))
 
 -- ---- working definition: a finding's line as it is written, piece after piece
 

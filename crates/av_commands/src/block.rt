@@ -4,8 +4,10 @@ ghost use Rattle.std.specs.Io.KnownBytes.{Appends};
 ghost use Rattle.av_types.specs.Places.{IsInLimits};
 ghost use Rattle.av_commands.specs.BlockCommand.{HasAnswered, IsBlockLine, IsBlockRefusal, IsPathOf, IsPathRefused, status_of};
 
+use crate::failure::{Failure, Reason};
 use crate::names::{file_name, region_of_name};
-use crate::output::{REFUSED, block_line, report_fault, report_output, write_first};
+use crate::output::{REFUSED, block_line, report_output, write_first};
+use crate::reasons::report_failure;
 use av_chunk::block_at;
 use av_types::{Fault, Height, Pos, RegionPos};
 use std::alloc::Global;
@@ -44,9 +46,32 @@ fn answer(
     Ok(block_line(alloc, &block)?)
 }
 
+/// Which file or chunk has a fault that the block at a position is refused for, where one has it.
+fn cause(alloc: Global, path: &str, pos: Pos, fault: &Fault) -> Option<Reason> {
+    let region = region_of_name(alloc, file_name(path)).ok()??;
+    match fault {
+        Fault::OutOfMemory | Fault::RegionRange => None,
+        Fault::ShortHeader => Some(Reason::Chunk {
+            region,
+            chunk: None,
+        }),
+        _ => Some(Reason::Chunk {
+            region,
+            chunk: Some(pos.chunk()),
+        }),
+    }
+}
+
 /// Writes why there is no line, as well as that can be written, and answers the status.
-fn explain<E: Write>(err: &mut E, refusal: &Refusal) -> u8
-    ensures { result ≡ status_of refusal.now }
+fn explain<E: Write>(
+    alloc: Global,
+    path: &str,
+    pos: Pos,
+    refusal: Refusal,
+    explains: bool,
+    err: &mut E,
+) -> u8
+    ensures { result ≡ status_of refusal }
 {
     match refusal {
         Refusal::Name => {
@@ -56,7 +81,10 @@ fn explain<E: Write>(err: &mut E, refusal: &Refusal) -> u8
             );
             REFUSED
         }
-        Refusal::Fault(fault) => report_fault(err, fault),
+        Refusal::Fault(fault) => {
+            let reason = cause(alloc, path, pos, &fault);
+            report_failure(alloc, err, &Failure { fault, reason }, explains)
+        }
     }
 }
 
@@ -73,14 +101,15 @@ pub fn note_other_file<E: Write>(alloc: Global, path: &str, pos: Pos, err: &mut 
 }
 
 /// Writes the line for the block at a position of a region file, whose place is taken from what follows the last `/` of
-/// its path, or why there is none. The answer is the program's status: 0; 1 after a fault, and where the line could not
-/// be written, or only its beginning; 2 where the file's name is not that of a region.
+/// its path, or why there is none, and where that is asked for, what is known of it. The answer is the program's status: 0; 1 after a
+/// fault, and where the line could not be written, or only its beginning; 2 where the file's name is not that of a region.
 pub fn block_text<O: Write, E: Write>(
     alloc: Global,
     path: &str,
     bytes: &[u8],
     pos: Pos,
     height: Height,
+    explains: bool,
     out: &mut O,
     err: &mut E,
 ) -> u8
@@ -91,6 +120,6 @@ pub fn block_text<O: Write, E: Write>(
             Ok(()) => 0,
             Err(error) => report_output(err, &error),
         },
-        Err(refusal) => explain(err, &refusal),
+        Err(refusal) => explain(alloc, path, pos, refusal, explains, err),
     }
 }

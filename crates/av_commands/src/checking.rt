@@ -2,7 +2,8 @@
 ghost use Rattle.std.specs.Prelude.{◌≡◌, MatchResult, OnOk};
 ghost use Rattle.std.specs.Io.KnownBytes.{Appends};
 ghost use Rattle.av_types.specs.Faults.{fault_text};
-ghost use Rattle.av_commands.specs.CheckCommand.{HasFindings, TellsUnread, advice_on, finding_lines, written_at};
+ghost use Rattle.av_commands.specs.Output.{line};
+ghost use Rattle.av_commands.specs.CheckCommand.{HasFindings, TellsUnread, advice_on, counts_text, finding_lines, written_at};
 
 use crate::failure::{Failure, UnreadFile};
 use crate::output::{FAULT, is_compression, report_fault, report_output, write_packed_advice};
@@ -65,6 +66,28 @@ pub fn write_unread<E: Write>(
         write_failure(alloc, err, &failure, explains)?;
     }
     Ok(())
+}
+
+/// How much was looked at, and how much was found.
+#[derive(Clone, Copy, Debug)]
+pub struct Counts {
+    /// The files that were read.
+    pub files: usize,
+    /// The chunks that their headers have.
+    pub chunks: u64,
+    pub findings: usize,
+}
+
+/// Writes how much was looked at and found: `4 files, 3012 chunks, 2 findings`.
+pub fn write_counts<E: Write>(err: &mut E, counts: Counts) -> io::Result<()>
+    ensures { OnOk result (Appends (E.contents err.old) (E.contents err.new) (line (counts_text counts))) }
+{
+    let Counts {
+        files,
+        chunks,
+        findings,
+    } = counts;
+    writeln!(err, "{files} files, {chunks} chunks, {findings} findings")
 }
 
 /// Lists findings on the program's output, and answers its status.

@@ -4,6 +4,7 @@ ghost use Rattle.av_types.specs.declared.fault.Fault.TheVariants.{OutOfMemory};
 ghost use Rattle.av_sink.specs.Account.{IsDevice};
 
 use crate::device::device_fault;
+use crate::edit_trouble::EditTrouble;
 use crate::table_trouble::{Trouble, table_trouble};
 use av_types::{ChunkPos, Fault, RegionPos};
 use std::alloc::{AllocError, AllocFailed, Global};
@@ -26,6 +27,10 @@ pub enum Reason {
     Workers(u32),
     /// So many ticks are more than are run.
     Ticks(u32),
+    /// A line of edits is refused.
+    Edit(EditTrouble),
+    /// The chunk has more bytes than a region's file holds, with its light.
+    TooLarge(ChunkPos),
     /// A region's file has the fault, or a chunk of it.
     Chunk {
         region: RegionPos,

@@ -4,6 +4,7 @@
 pub mod block;
 pub mod checking;
 pub mod device;
+pub mod edit_trouble;
 pub mod failure;
 pub mod manner;
 pub mod names;

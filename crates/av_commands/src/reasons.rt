@@ -74,6 +74,20 @@ fn chunk_lines(
     Ok(lines)
 }
 
+/// Which chunk is too large to be written, and how the others are run.
+fn too_large_lines(alloc: Global, chunk: ChunkPos) -> Result<Vec<String>, AllocError> {
+    let ChunkPos { x: cx, z: cz } = chunk;
+    let RegionPos { x, z } = chunk.region();
+    let mut lines = Vec::new(alloc);
+    lines.push(format!(in alloc;
+        "r.{x}.{z}.mca, chunk {cx} {cz}: with its light it has more than 1044475 bytes"
+    )?)?;
+    lines.push(format!(in alloc;
+        "with --skip r.{x}.{z}.mca its file stays as it is and counts as not there"
+    )?)?;
+    Ok(lines)
+}
+
 /// Which count is out of its limits.
 fn count_line(alloc: Global, reason: &Option<Reason>) -> Result<String, AllocError> {
     match reason {
@@ -103,6 +117,8 @@ fn lines_of(alloc: Global, failure: &Failure) -> Vec<String> {
         Some(Reason::Device { path, error }) => device_lines(alloc, path.as_str(), error),
         Some(Reason::Table { path, trouble }) => table_lines(alloc, path.as_str(), trouble),
         Some(Reason::Chunk { region, chunk }) => chunk_lines(alloc, *region, *chunk),
+        Some(Reason::Edit(trouble)) => trouble.lines(alloc),
+        Some(Reason::TooLarge(chunk)) => too_large_lines(alloc, *chunk),
         reason if failure.fault == Fault::BadCount => count_lines(alloc, reason),
         _ => Ok(Vec::new(alloc)),
     };

@@ -1,6 +1,8 @@
 //! What would change in small region files.
 use crate::expecting::expect_equal;
-use av_changes::{Change, add_change, by_name, changed_chunks, write_changes};
+use av_changes::{
+    CHANGED, Change, WOULD_CHANGE, add_change, by_name, changed_chunks, write_changes,
+};
 use av_region_files::RegionFile;
 use av_types::RegionPos;
 use std::alloc::{AllocError, Global};
@@ -90,10 +92,14 @@ fn changes_by_name(rt: HostRuntime) -> Result<(), Fail> {
     add_change(alloc, &mut changes, &file, None)?;
     let changes = by_name(changes)?;
     let mut told = Vec::new(alloc);
-    write_changes(&mut told, changes.as_slice())?;
+    write_changes(&mut told, changes.as_slice(), WOULD_CHANGE)?;
+    write_changes(&mut told, changes.as_slice(), CHANGED)?;
     let want = b"r.-4.0.mca: 2 chunks would change
 r.10.-1.mca: 0 chunks would change
 r.2.-1.mca: 1 chunks would change
+r.-4.0.mca: 2 chunks changed
+r.10.-1.mca: 0 chunks changed
+r.2.-1.mca: 1 chunks changed
 ";
     expect_equal(&rt, told.as_slice(), want.as_slice());
     Ok(())

@@ -1,4 +1,4 @@
-//! Tests of words, of surveys of region files, of what the commands read and print, of changes, and of files handed to a sink, by
+//! Tests of words, of surveys of region files, of what the commands read and print, of changes, of files handed to a sink, and of files that take their places, by
 //! the public calls of their crates.
 #![tactic(auto)]
 
@@ -7,9 +7,13 @@ mod changes;
 #[cfg(test)]
 mod chunks;
 #[cfg(test)]
+mod exchange;
+#[cfg(test)]
 mod expecting;
 #[cfg(test)]
 mod lines;
+#[cfg(test)]
+mod locks;
 #[cfg(test)]
 mod sink;
 #[cfg(test)]

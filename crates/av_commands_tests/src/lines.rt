@@ -1,7 +1,8 @@
 //! Names and lines. What the program answers, `scripts/check_words.sh` asks of the built one.
 use crate::expecting::expect_equal;
 use av_commands::block::block_text;
-use av_commands::checking::{findings, write_unread};
+use av_commands::checking::{Counts, findings, write_counts, write_unread};
+use av_commands::edit_trouble::{EditCause, EditTrouble, edit_cause};
 use av_commands::failure::{Failure, Reason, UnreadFile};
 use av_commands::names::{file_name, region_of_name, split_path};
 use av_commands::output::report_fault;
@@ -168,6 +169,84 @@ fn counts_tables_and_chunks(rt: HostRuntime) -> Result<(), Fail> {
     Ok(())
 }
 
+/// A region is 32 chunks wide, so the chunk 33 -40 is of the region 1 -2.
+#[test]
+fn a_chunk_that_is_too_large(rt: HostRuntime) {
+    let chunk = ChunkPos { x: 33, z: -40 };
+    let said = said_of(
+        rt.alloc(),
+        Fault::ChunkTooLarge(chunk),
+        Some(Reason::TooLarge(chunk)),
+    );
+    expect_equal(
+        &rt,
+        said.as_slice(),
+        b"fault 24: ChunkTooLarge 33 -40\n  r.1.-2.mca, chunk 33 -40: with its light it has more than 1044475 bytes\n  with --skip r.1.-2.mca its file stays as it is and counts as not there\n".as_slice(),
+    );
+}
+
+/// What is said of the line of a fault of edits, in a run of 20 ticks.
+fn said_of_edits(alloc: Global, fault: Fault, text: &[u8]) -> Result<Vec<u8>, Fail> {
+    let (line, cause) = edit_cause(&fault, 20).ok_or("no fault of edits")?;
+    let trouble = EditTrouble::new(alloc, "e.txt", Some(text), line, cause)?;
+    Ok(said_of(alloc, fault, Some(Reason::Edit(trouble))))
+}
+
+/// Lines are numbered from 1, and a carriage return at a line's end is none of its text. A line that would not print as it is, or is no text, is not said.
+#[test]
+fn lines_of_edits(rt: HostRuntime) -> Result<(), Fail> {
+    let cases: [(Fault, &[u8], &[u8]); 4] = [
+        (
+            Fault::BadEdit(2),
+            b"# none\n1 2 3\r\n",
+            b"fault 20: BadEdit 2\n  e.txt, line 2: 1 2 3\n  a line is TICK X Y Z STATE with single spaces, as `1 8 75 8 minecraft:water[level=0]`\n",
+        ),
+        (
+            Fault::EditTick(1),
+            b"21 8 75 8 a:b",
+            b"fault 21: EditTick 1\n  e.txt, line 1: 21 8 75 8 a:b\n  its tick is its first number, and the run's are 1 to 20\n",
+        ),
+        (
+            Fault::BadEdit(1),
+            b"\x1b[2J",
+            b"fault 20: BadEdit 1\n  e.txt, line 1\n  a line is TICK X Y Z STATE with single spaces, as `1 8 75 8 minecraft:water[level=0]`\n",
+        ),
+        (
+            Fault::BadEdit(1),
+            b"\xff",
+            b"fault 20: BadEdit 1\n  e.txt, line 1\n  a line is TICK X Y Z STATE with single spaces, as `1 8 75 8 minecraft:water[level=0]`\n",
+        ),
+    ];
+    for (fault, text, want) in cases {
+        let said = said_of_edits(rt.alloc(), fault, text)?;
+        expect_equal(&rt, said.as_slice(), want);
+    }
+    expect_equal(
+        &rt,
+        edit_cause(&Fault::EditOutside(7), 0),
+        Some((7, EditCause::Outside)),
+    );
+    expect_equal(&rt, edit_cause(&Fault::BadTable, 1), None);
+    Ok(())
+}
+
+#[test]
+fn a_line_of_counts(rt: HostRuntime) -> Result<(), Fail> {
+    let mut err = Vec::new(rt.alloc());
+    let counts = Counts {
+        files: 4,
+        chunks: 3012,
+        findings: 2,
+    };
+    write_counts(&mut err, counts)?;
+    expect_equal(
+        &rt,
+        err.as_slice(),
+        b"4 files, 3012 chunks, 2 findings\n".as_slice(),
+    );
+    Ok(())
+}
+
 /// The line in which a text stops to be TOML.
 #[test]
 fn a_line_of_a_table(rt: HostRuntime) {
@@ -193,6 +272,41 @@ fn lines_of_a_fault(rt: HostRuntime) -> Result<(), Fail> {
     Ok(())
 }
 
+/// A chunk without a payload is refused, and where it is asked for, the chunk at the position is named: 20 is in chunk 1, and -1 in chunk -1.
+#[test]
+fn the_chunk_of_a_block(rt: HostRuntime) -> Result<(), Fail> {
+    let alloc = rt.alloc();
+    let mut bytes = Vec::new(alloc);
+    bytes.resize(3972, 0)?;
+    bytes.extend_from_slice(b"\0\0\x01\x01")?;
+    bytes.resize(8192, 0)?;
+    let pos = Pos { x: 20, y: 0, z: -1 };
+    for (explains, want) in [
+        (false, b"fault 05: BadLocation\n".as_slice()),
+        (
+            true,
+            b"fault 05: BadLocation\n  r.0.-1.mca, chunk 1 -1\n  `anvilwater check --in DIR` lists each file and chunk that has a fault\n".as_slice(),
+        ),
+    ] {
+        let mut out = Vec::new(alloc);
+        let mut err = Vec::new(alloc);
+        let path = "w/r.0.-1.mca";
+        let status = block_text(
+            alloc,
+            path,
+            bytes.as_slice(),
+            pos,
+            Height::game(),
+            explains,
+            &mut out,
+            &mut err,
+        );
+        expect_equal(&rt, (status, out.len()), (1, 0));
+        expect_equal(&rt, err.as_slice(), want);
+    }
+    Ok(())
+}
+
 /// Of the line `unloaded` an output with room for 4 bytes has the first 4, and why it has no more is said.
 #[test]
 fn a_line_that_finds_no_room(rt: HostRuntime) {
@@ -207,6 +321,7 @@ fn a_line_that_finds_no_room(rt: HostRuntime) {
         b"",
         pos,
         Height::game(),
+        false,
         &mut out,
         &mut err,
     );

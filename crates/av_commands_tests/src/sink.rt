@@ -1,10 +1,10 @@
 //! Files handed to a sink that keeps them.
-ghost use Rattle.std.specs.Prelude.{◌≡◌, [], ◌∷◌, ◌++◌, OnOk, OnErr, None, Some, map, string_bytes};
+ghost use Rattle.std.specs.Prelude.{◌≡◌, [], ◌∷◌, ◌++◌, OnOk, OnErr, None, Some, false, map, string_bytes};
 ghost use Rattle.av_sink.specs.Account.{Account, file_named};
 
 use crate::expecting::expect_equal;
 use av_region_files::{RegionFile, region_name};
-use av_sink::{Sink, SinkFailed, save_all};
+use av_sink::{NoTeller, Sink, SinkFailed, save_all};
 use av_types::RegionPos;
 use std::alloc::{AllocError, Global};
 use std::process::Abort;
@@ -39,7 +39,7 @@ struct Memory {
 }
 
 impl Sink for Memory {
-    ghost account = { λ s. record { folder = None; failures = s.failures; handed = s.handed; kept = Some (map (λ f. file_named (string_bytes f.name) f.bytes.items) s.files.items) } };
+    ghost account = { λ s. record { folder = None; repair = None; failures = s.failures; handed = s.handed; placed = false; kept = Some (map (λ f. file_named (string_bytes f.name) f.bytes.items) s.files.items) } };
 
     fn failures(&self) -> u64 {
         self.failures
@@ -101,7 +101,7 @@ fn each_file_once_under_its_name(rt: HostRuntime) -> Result<(), Fail> {
         full_at: 3,
     };
     let files = three(alloc)?;
-    save_all(alloc, &mut sink, files.as_slice())?;
+    save_all(alloc, &mut sink, files.as_slice(), &NoTeller)?;
     expect_equal(&rt, sink.handed(), 3);
     expect_equal(&rt, sink.failures(), 0);
     has_the_first(&rt, &sink);
@@ -130,7 +130,7 @@ fn a_write_that_fails(rt: HostRuntime) -> Result<(), Fail> {
             full_at: full_at as u64,
         };
         let files = three(alloc)?;
-        let fault = save_all(alloc, &mut sink, files.as_slice())
+        let fault = save_all(alloc, &mut sink, files.as_slice(), &NoTeller)
             .err()
             .ok_or("no fault")?;
         expect_equal(&rt, fault.to_string(alloc)?.as_str(), *line);

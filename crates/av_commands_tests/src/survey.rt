@@ -2,7 +2,7 @@
 use crate::chunks::{Layer, add_chunk};
 use crate::expecting::expect_equal;
 use av_region_files::RegionFile;
-use av_survey::survey;
+use av_survey::{count_chunks, survey};
 use av_types::{ChunkPos, Fault, Height, RegionPos};
 use std::alloc::{AllocError, Global};
 use std::process::Abort;
@@ -39,6 +39,31 @@ fn the_first_fault_of_each_chunk(rt: HostRuntime) -> Result<(), Fail> {
         expect_equal(&rt, finding.region, pos);
         expect_equal(&rt, finding.chunk, Some(*chunk));
         expect_equal(&rt, &finding.fault, fault);
+    }
+    Ok(())
+}
+
+/// A chunk with a fault counts. A file that is cut short has none, even where its first location is not 0.
+#[test]
+fn chunks_by_their_headers(rt: HostRuntime) -> Result<(), Fail> {
+    let alloc = rt.alloc();
+    let mut files = Vec::new(alloc);
+    let mut short = two_chunks(alloc)?;
+    short.truncate(8191);
+    for bytes in [
+        two_chunks(alloc)?,
+        short,
+        Vec::new(alloc),
+        two_chunks(alloc)?,
+    ] {
+        files.push(RegionFile {
+            pos: RegionPos { x: 0, z: 0 },
+            bytes,
+        })?;
+    }
+    for (count, want) in [(0, 0), (1, 2), (2, 2), (3, 2), (4, 4)] {
+        let first = files.as_slice().get(..count).ok_or("too few files")?;
+        expect_equal(&rt, count_chunks(first), want);
     }
     Ok(())
 }

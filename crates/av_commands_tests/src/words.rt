@@ -98,6 +98,7 @@ fn words_of_run_that_may_be_left_out(rt: HostRuntime) -> Result<(), Fail> {
     expect_equal(&rt, run.skip.len(), 0);
     expect_equal(&rt, (run.strict, run.explain), (false, false));
     expect_equal(&rt, (run.dry_run, run.progress), (false, false));
+    expect_equal(&rt, (run.again, run.in_use), (false, false));
     Ok(())
 }
 
@@ -124,6 +125,17 @@ fn words_of_run(rt: HostRuntime) -> Result<(), Fail> {
     expect_equal(&rt, run.skip.as_slice(), ["r.0.0.mca", "x"].as_slice());
     expect_equal(&rt, (run.strict, run.explain), (true, false));
     expect_equal(&rt, (run.dry_run, run.progress), (true, false));
+    Ok(())
+}
+
+#[test]
+fn flags_of_run(rt: HostRuntime) -> Result<(), Fail> {
+    for (flag, again, in_use) in [("--again", true, false), ("--in-use", false, true)] {
+        let given = ["run", "--in=a", "--out=b", "--ticks=3", flag];
+        let run = run_of(words(rt.alloc(), given.as_slice())?).ok_or("another command")?;
+        expect_equal(&rt, (run.again, run.in_use), (again, in_use));
+        expect_equal(&rt, (run.strict, run.dry_run), (false, false));
+    }
     Ok(())
 }
 

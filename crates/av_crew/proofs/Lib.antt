@@ -14,3 +14,4 @@ pub mod DueParts
 pub mod Steps
 pub mod Whole
 pub mod Cut
+pub mod Others

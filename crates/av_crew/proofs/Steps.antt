@@ -1,9 +1,12 @@
 -- One more parcel carved or mended.
-use Rattle.std.proofs.Common.{◌≡◌, ℕ, zero, suc, ◌+◌, ◌<◌, Bool, true, false, cond, List, [], ◌∷◌, ◌++◌, length, get_or, slice_index_or, refl, sym, ap, subst, ◌∙◌, arith, IsTrue, None, All, append-nil}
-use Rattle.std.proofs.lemmas.List.Elements.{All-push}
+use Rattle.std.proofs.Common.{◌≡◌, ℕ, zero, suc, ◌+◌, ◌<◌, ◌||◌, Bool, true, false, cond, List, [], ◌∷◌, ◌++◌, length, get_or, slice_index_or, length-append, refl, sym, ap, subst, ◌∙◌, arith, IsTrue, Option, Some, None, is_some, All, append-nil}
+use Rattle.std.proofs.lemmas.Bool.{true≢false}
+use Rattle.std.proofs.lemmas.List.Elements.{All-push, All-from_recursion}
+use Rattle.std.proofs.lemmas.List.Folds.{list_any-append}
 use Rattle.std.proofs.lemmas.List.Concat.{flat_map-append}
-use Rattle.std.specs.List.{flat_map}
+use Rattle.std.specs.List.{flat_map, list_any, AllByRecursion}
 use Rattle.av_types.specs.declared.place.SectionPos.{SectionPos}
+use Rattle.av_types.specs.declared.fault.Fault.{Fault}
 use Rattle.av_types.specs.declared.tick.Entry.{Entry}
 use Rattle.av_types.proofs.SamePlaces.{same_section_from}
 use Rattle.av_cells.specs.Positions.{same_section}
@@ -114,6 +117,12 @@ module _ (g : Grid) (entries : List Entry) (clusters : List Cluster) (cut : IsCu
         not_true true f = absurd (f refl)
         not_true false f = refl
 
+-- what some first parts leave, all of them leave
+pub carved_first : (g : Grid) (picks : ℕ → SectionPos → Bool) (all seen left : List Cluster) → all ≡ seen ++ left → (n : ℕ) → n ≡ length all → (rest : Grid) → IsCarved g picks (length seen) rest → IsCarved g picks n rest
+carved_first g picks all seen left e n count rest c =
+    let long = ap length e ∙ length-append seen left in
+    record { others = λ s f. c.others s (λ k u. f k (omega (arith, u, long, count))) }
+
 -- the element in the middle of a list
 pub at_middle : {X : Type 0} (all ys : List X) (x : X) (zs : List X) → all ≡ ys ++ x ∷ zs → (length ys < length all) × (x ≡ get_or all (length ys) x)
 at_middle {X} all ys x zs e = subst (λ l. (length ys < length l) × (x ≡ get_or l (length ys) x)) (sym e) (by ys) where
@@ -124,5 +133,20 @@ at_middle {X} all ys x zs e = subst (λ l. (length ys < length l) × (x ≡ get_
 pub parts_more : (v w : World) (js : List Job) (j : Job) → HaveParts v js → IsSamePlaces v w → IsPartIn w j.parcel → HaveParts w (js ++ j ∷ [])
 parts_more v w js j h s p = All-push (λ j. IsPartIn w j.parcel) js j (λ k d u. part_in_same v w (slice_index_or js k d).parcel s (h k d u)) p
 
-pub whole_more : (ds : List Done) (d : Done) → All (λ d. d.fault ≡ None) ds → d.fault ≡ None → All (λ d. d.fault ≡ None) (ds ++ d ∷ [])
-whole_more ds d h p = All-push (λ d. d.fault ≡ None) ds d h p
+or_false : (b : Bool) → (b || false) ≡ b
+or_false true = refl
+or_false false = refl
+
+pub refused_more : (ds : List Done) (d : Done) → list_any (λ d. is_some d.fault) (ds ++ d ∷ []) ≡ (list_any (λ d. is_some d.fault) ds || is_some d.fault)
+refused_more ds d = list_any-append (λ (x : Done). is_some x.fault) ds (d ∷ []) ∙ ap (λ b. list_any (λ (x : Done). is_some x.fault) ds || b) (or_false (is_some d.fault))
+
+-- where memory was refused to no worker, no answer has a fault
+pub none_refused : (ds : List Done) → list_any (λ d. is_some d.fault) ds ≡ false → All (λ d. d.fault ≡ None) ds
+none_refused ds h = All-from_recursion (λ d. d.fault ≡ None) ds (each ds h) where
+  by : (f : Option Fault) (b : Bool) → (is_some f || b) ≡ false → (f ≡ None) × (b ≡ false)
+  by None b e = (refl, e)
+  by (Some f) b e = absurd (true≢false e)
+
+  each : (ds : List Done) → list_any (λ d. is_some d.fault) ds ≡ false → AllByRecursion (λ d. d.fault ≡ None) ds
+  each [] e = tt
+  each (d ∷ ds) e = let p = by d.fault (list_any (λ x. is_some x.fault) ds) e in (p.0, each ds p.1)

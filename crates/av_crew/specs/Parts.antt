@@ -1,9 +1,12 @@
 -- Parts of a tick with their sections, as they are carved. Of public clauses those of `carve_all`, `mend_all` and `turn_parts` alone cite them.
 use Rattle.std.specs.Prelude.{◌≡◌, ℕ, List, [], Bool, false, IsTrue, ◌↔◌, All}
 use Rattle.std.specs.List.{AllPairs}
+use Rattle.av_types.specs.Places.{section_of}
+use Rattle.av_types.specs.declared.place.Pos.{Pos}
 use Rattle.av_types.specs.declared.place.SectionPos.{SectionPos}
 use Rattle.av_types.specs.declared.tick.Entry.{Entry}
 use Rattle.av_cells.specs.Positions.{same_section}
+use Rattle.av_cells.specs.World as cells
 use Rattle.av_cells.specs.Grid.{Grid, cells_of, among, only, without, is_here}
 use Rattle.av_play.specs.Parts.{IsPlan, part_at}
 use Rattle.av_play.specs.Laws.{IsOfPart}
@@ -30,6 +33,10 @@ pub record IsCut (g : Grid) (entries : List Entry) (clusters : List Cluster) : T
 pub record CanCarve (g : Grid) (cluster : Cluster) : Type 0 where
   pub here : All (λ s. IsTrue (is_here (g s))) cluster.sections.items
   pub distinct : AllPairs (λ s t. same_section t s ≡ false) cluster.sections.items
+
+-- the blocks of the sections of no part are as they were
+pub record AreOthersKept (picks : ℕ → SectionPos → Bool) (old new : cells.World) : Type 0 where
+  pub same : (p : Pos) → ((n : ℕ) → ¬ IsTrue (picks n (section_of p))) → (new.loaded p ≡ old.loaded p) × (new.number p ≡ old.number p) × (new.pending p ≡ old.pending p)
 
 -- a part of a world
 abbrev pub IsPartIn : World → Parcel → Type 0

@@ -1,8 +1,21 @@
-//! What is told of each job before and after its work.
+//! What is told of each job before and after its work, and of the steps of a run.
 ghost use Rattle.av_crew.specs.declared.jobs.Job.{Job};
 ghost use Rattle.av_crew.specs.declared.jobs.Done.{Done};
 
 use crate::jobs::{Done, Job};
+
+/// A step of a run, as a gate is told of it.
+#[derive(Clone, Copy, Debug, PartialEq, Eq)]
+pub enum Step {
+    /// The files' chunks were read; so many are loaded.
+    Loaded { chunks: u64 },
+    /// So many of the run's ticks are done.
+    Ticks { done: u32, all: u32 },
+    /// The light of so many chunks is computed next.
+    Light { chunks: u64 },
+    /// So many files are made next.
+    Files { files: u64 },
+}
 
 /// Is told of each job before and after its work, by the thread that works it off. It may hold that thread up.
 pub trait Gate {
@@ -24,6 +37,9 @@ pub trait Gate {
     /// After its last turn.
     fn after(&self, done: &Done)
         ensures { saw_done self.now done.now };
+
+    /// Is told of a step of a run, by the calling thread.
+    fn reached(&self, _step: Step) {}
 }
 
 /// A gate that does nothing.

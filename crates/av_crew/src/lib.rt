@@ -13,7 +13,7 @@ pub mod turns;
 pub mod workers;
 
 pub use counts::Workers;
-pub use gates::{Gate, NoGate};
+pub use gates::{Gate, NoGate, Step};
 pub use jobs::{Done, Job};
 pub use runs::run_ticks;
 pub use ticks::tick;

@@ -1,6 +1,6 @@
 //! Parcels of a tick's parts: carved out of the world, and mended.
-ghost use Rattle.std.specs.Prelude.{◌≡◌, ◌≤◌, ◌+◌, ◌<◌, ◌++◌, ◌∷◌, ℕ, List, [], OnOk, IfOk, IfErr, None, false, length, vec_len, vec_capacity};
-ghost use Rattle.std.specs.List.{All, flat_map};
+ghost use Rattle.std.specs.Prelude.{◌≡◌, ◌≤◌, ◌+◌, ◌<◌, ◌++◌, ◌∷◌, ◌||◌, ℕ, List, [], OnOk, OnErr, IfOk, IfErr, is_some, false, vec_len, vec_capacity};
+ghost use Rattle.std.specs.List.{All, flat_map, list_any};
 ghost use Rattle.av_types.specs.declared.fault.Fault.TheVariants.{OutOfMemory};
 ghost use Rattle.av_types.specs.declared.tick.Entry.{Entry};
 ghost use Rattle.av_cells.specs.Grid.{Grid};
@@ -22,6 +22,7 @@ fn carve_one(world: &mut World, cluster: Cluster, number: u32) -> Result<Job, Al
     requires can { CanCarve (grid world.old) cluster }
     ensures ok { IfOk result (λ job. CarvesOne world.old world.new cluster number job) }
     ensures same { IsSamePlaces world.old world.new }
+    ensures unchanged { OnErr result (grid world.new ≡ grid world.old) }
 {
     let Cluster { entries, sections } = cluster;
     let Ok(parcel) = world.carve(sections.as_slice()) else {
@@ -38,7 +39,7 @@ fn carve_one(world: &mut World, cluster: Cluster, number: u32) -> Result<Job, Al
 ///
 /// # Errors
 /// `OutOfMemory`, and then only some first parts are carved: `jobs` has their sections, and the world, which does not turn
-/// broken by it, has all others.
+/// broken by it, has all others. The sections of no part are as before, whatever the answer.
 pub fn carve_all(
     world: &mut World,
     clusters: Vec<Cluster>,
@@ -50,7 +51,7 @@ pub fn carve_all(
     requires cut { (entries : List Entry) × IsCut (grid world.old) entries clusters.items }
     ensures jobs { OnOk result (AreJobs (grid world.old) (parts_of clusters.items) (picks_of clusters.items) 0 jobs.new.items) }
     ensures count { OnOk result (vec_len jobs.new ≡ vec_len clusters) }
-    ensures carved { OnOk result (IsCarved (grid world.old) (picks_of clusters.items) (vec_len clusters) (grid world.new)) }
+    ensures carved { IsCarved (grid world.old) (picks_of clusters.items) (vec_len clusters) (grid world.new) }
     ensures parts { OnOk result (HaveParts world.new jobs.new.items) }
     ensures same { IsSamePlaces world.old world.new }
     ensures fault { IfErr result (λ e. e ≡ OutOfMemory) }
@@ -64,7 +65,7 @@ pub fn carve_all(
     Ok(())
 }
 
-/// Mends a parcel, and keeps what its turns made.
+/// Mends a parcel, and keeps what its turns made. Says whether memory was refused to its worker.
 fn mend_one(world: &mut World, done: Done, made: &mut Vec<Vec<Made>>) -> bool
     requires part { IsPartIn world.old done.parcel }
     requires room { vec_len made.old < vec_capacity made.old }
@@ -72,7 +73,7 @@ fn mend_one(world: &mut World, done: Done, made: &mut Vec<Vec<Made>>) -> bool
     ensures same { IsSamePlaces world.old world.new }
     ensures made { made.new.items ≡ made.old.items ++ done.made ∷ [] }
     ensures capacity { vec_capacity made.new ≡ vec_capacity made.old }
-    ensures fault { result ≡ false → done.fault ≡ None }
+    ensures refused { result ≡ is_some done.fault }
 {
     let Done {
         number: _,
@@ -87,8 +88,7 @@ fn mend_one(world: &mut World, done: Done, made: &mut Vec<Vec<Made>>) -> bool
 
 /// Whether one of two holds.
 fn either(first: bool, second: bool) -> bool
-    ensures first { result ≡ false → first ≡ false }
-    ensures second { result ≡ false → second ≡ false }
+    ensures { result ≡ (first || second) }
 {
     first || second
 }
@@ -101,7 +101,7 @@ pub fn mend_all(world: &mut World, dones: Vec<Done>, made: &mut Vec<Vec<Made>>) 
     ensures mended { blocks world.new ≡ mended_all (λ d. parcel_blocks d.parcel) (lists world.old) dones.items (blocks world.old) }
     ensures same { IsSamePlaces world.old world.new }
     ensures made { flat_map (λ m. m.items) made.new.items ≡ flat_map (λ m. m.items) made.old.items ++ flat_map (λ d. d.made.items) dones.items }
-    ensures all { result ≡ false → All (λ d. d.fault ≡ None) dones.items }
+    ensures refused { result ≡ list_any (λ d. is_some d.fault) dones.items }
 {
     let mut refused = false;
     for done in dones {

@@ -11,7 +11,7 @@ ghost use Rattle.av_serial.specs.Ready.{IsReady, IsSamePlace, CanApply, CanTick,
 ghost use Rattle.av_crew.specs.Counts.{is_count_of_workers};
 
 use crate::counts::Workers;
-use crate::gates::Gate;
+use crate::gates::{Gate, Step};
 use crate::pages::keep_pages;
 use crate::ticks::tick_or_give_up;
 use av_edits::Edit;
@@ -23,8 +23,16 @@ use std::alloc::Global;
 use std::sync::Wait;
 use std::thread::Threads;
 
+/// Tells a gate of a tick that is done, unless it is the last: of that it is told at the run's end.
+fn note_tick<G: Gate>(gate: &G, done: u32, all: u32) {
+    if done < all {
+        gate.reached(Step::Ticks { done, all });
+    }
+}
+
 /// Ticks 1 to `n` on 1 to 8 workers, with the edits of each. Returns how many entries were taken in all of them. The
-/// answer and what is left are those of the run on one thread.
+/// answer and what is left are those of the run on one thread. The gate is told of each tick in which something was to be
+/// done, and at the end that all are.
 ///
 /// # Errors
 /// `BadCount` where the workers are not 1 to 8, and else `Broken` of a broken world; then the world stays as it is.
@@ -54,7 +62,7 @@ pub fn run_ticks<R: Threads + Wait + Sync, G: Gate + Sync>(
 {
     let workers = Workers::new(workers)?;
     keep_pages(alloc);
-    run_ticks_with(
+    let turns = run_ticks_with(
         alloc,
         world,
         kinds,
@@ -63,6 +71,12 @@ pub fn run_ticks<R: Threads + Wait + Sync, G: Gate + Sync>(
         &|world: &mut World, now: u32, edits: &[Edit]| -> Result<u64, Fault>
             requires { CanTick kinds.now world.old edits.now }
             ensures { IsTick kinds.entry.now now edits.now world.old world.new result }
-        { Ok(tick_or_give_up(rt, world, kinds, now, edits, workers, gate)?) },
-    )
+        {
+            let count = tick_or_give_up(rt, world, kinds, now, edits, workers, gate)?;
+            note_tick(gate, now, n);
+            Ok(count)
+        },
+    )?;
+    gate.reached(Step::Ticks { done: n, all: n });
+    Ok(turns)
 }

@@ -7,7 +7,7 @@ ghost use Rattle.av_rules.specs.Kinds.{kind_count};
 ghost use Rattle.av_cells.specs.Kinds.{kinds_of};
 ghost use Rattle.av_cells.specs.Rule.{HasKinds};
 ghost use Rattle.av_world.specs.Views.{grid, blocks, lists, is_broken, IsSamePlaces};
-ghost use Rattle.av_crew.specs.Parts.{IsCut};
+ghost use Rattle.av_crew.specs.Parts.{IsCut, picks_of, AreOthersKept};
 ghost use Rattle.av_crew.specs.Gathered.{AreBroughtTogether};
 
 use crate::gates::Gate;
@@ -27,7 +27,7 @@ use std::thread::Threads;
 /// # Errors
 /// `OutOfMemory`, also where a worker can't be started. Then sections of the parts can be gone from the world, or parts be
 /// turned of which nothing is appended, and the world does not turn broken by it: whoever calls this gives it up, as `tick`
-/// does. Its lists, and the blocks of all other sections, are as before.
+/// does. Its lists are as before then, and the blocks of sections of no part are so whatever the answer.
 pub fn turn_parts<R: Threads + Wait + Sync, G: Gate + Sync>(
     rt: &R,
     world: &mut World,
@@ -44,6 +44,7 @@ pub fn turn_parts<R: Threads + Wait + Sync, G: Gate + Sync>(
     requires cut { (entries : List Entry) × IsCut (grid world.old) entries clusters.items × All (λ e. IsTrue ((blocks world.old).loaded e.pos)) entries }
     ensures ok { IfOk result (λ made. (entries : List Entry) → IsCut (grid world.old) entries clusters.items → AreBroughtTogether (kinds_of kinds.now) now entries (blocks world.old) (lists world.old) (blocks world.new) made.items) }
     ensures same { IsSamePlaces world.old world.new }
+    ensures others { AreOthersKept (picks_of clusters.items) (blocks world.old) (blocks world.new) }
     ensures fault { IfErr result (λ e. e ≡ OutOfMemory) }
 {
     let alloc = *clusters.allocator();

@@ -3,8 +3,8 @@ ghost use Rattle.std.specs.Prelude.{IfOk};
 ghost use Rattle.av_world_tests.specs.Flat.{IsPlain};
 
 use crate::crews::{contents, crew_ran, flat_crew_ran};
-use crate::gates::{Counting, Holding, Meeting, Untold, Watching};
-use av_crew::{Gate, NoGate};
+use crate::gates::{Counting, Expecting, Holding, Meeting, Untold, Watching};
+use av_crew::{Gate, NoGate, Step};
 use av_serial_tests::runs::{edits_and_kinds, world_of};
 use av_types::{ChunkPos, Entry, Fault, Pos};
 use av_world::World;
@@ -28,6 +28,9 @@ const FOUR: &str = "1 8 64 8 minecraft:water[level=0]
 1 24 64 8 minecraft:water[level=0]
 1 40 64 8 minecraft:water[level=0]
 1 56 64 8 minecraft:water[level=0]";
+
+/// A source in the first of them.
+const ONE: &str = "1 8 64 8 minecraft:water[level=0]";
 
 /// Sources in the first two of them.
 const TWO: &str = "1 8 64 8 minecraft:water[level=0]\n1 24 64 8 minecraft:water[level=0]";
@@ -284,11 +287,43 @@ fn three_jobs_are_done_unwatched(rt: HostRuntime) -> Result<(), Fail> {
     Ok(())
 }
 
+/// So many ticks of a flat chunk, of which the gate must be told by these numbers of ticks that are done.
+fn expect_told<R: Threads + Wait + Sync + Abort>(
+    rt: &R,
+    alloc: Global,
+    lines: &str,
+    all: u32,
+    workers: u32,
+    told: &[u32],
+) -> Result<(), Fault> {
+    let mut steps = Vec::new(alloc);
+    for done in told {
+        steps.push(Step::Ticks { done: *done, all })?;
+    }
+    let gate = Expecting::of(steps.as_slice());
+    flat_crew_ran(rt, alloc, &[ROW[0]], lines, all, workers, &gate)?;
+    assert_eq!(rt; gate.counts(), (told.len(), 0));
+    Ok(())
+}
+
 /// A gate watches if it does not say otherwise, and the one that does nothing does not.
 #[test]
 fn a_gate_watches_if_it_says_no_other(rt: HostRuntime) -> Result<(), Fail> {
     assert!(rt; Meeting::of(1).watches());
     assert!(rt; !NoGate.watches());
     assert!(rt; !Untold::of(Meeting::of(1)).watches());
+    Ok(())
+}
+
+/// A source is set in tick 1, and turned in tick 6; what it wakes is due in tick 11. So of ten ticks the first and the sixth
+/// are told of, and at the end that all are done; of six ticks the last one once; and where nothing is to be done, the end.
+#[test]
+fn a_gate_is_told_of_the_ticks_that_do_something(rt: HostRuntime) -> Result<(), Fail> {
+    for workers in [1, 2] {
+        expect_told(&rt, rt.alloc(), ONE, 10, workers, &[1, 6, 10])?;
+        expect_told(&rt, rt.alloc(), ONE, 6, workers, &[1, 6])?;
+        expect_told(&rt, rt.alloc(), "", 10, workers, &[10])?;
+        expect_told(&rt, rt.alloc(), "", 0, workers, &[0])?;
+    }
     Ok(())
 }

@@ -1,9 +1,9 @@
-//! Gates that hold jobs up until others have come as far.
+//! Gates that hold jobs up until others have come as far, or count what they are told of.
 use av_cells::Cells;
-use av_crew::{Done, Gate, Job};
+use av_crew::{Done, Gate, Job, Step};
 use av_types::Pos;
-use std::sync::atomic::AtomicU64;
 use std::sync::atomic::Ordering::SeqCst;
+use std::sync::atomic::{AtomicU64, AtomicUsize};
 
 /// After so many turns of its loop a gate gives up.
 const TURNS: u32 = 50_000_000;
@@ -237,4 +237,48 @@ impl Gate for Counting {
     }
 
     fn after(&self, _done: &Done) {}
+}
+
+/// Wants to be told of these steps, in this order, and counts the others.
+#[derive(Drop)]
+pub struct Expecting<'a> {
+    steps: &'a [Step],
+    told: AtomicUsize,
+    others: AtomicUsize,
+}
+
+impl<'a> Expecting<'a> {
+    pub fn of(steps: &'a [Step]) -> Expecting<'a> {
+        Expecting {
+            steps,
+            told: AtomicUsize::new(0),
+            others: AtomicUsize::new(0),
+        }
+    }
+
+    /// How many steps it was told of, and how many of them were others than those wanted.
+    pub fn counts(&self) -> (usize, usize) {
+        (self.told.load(SeqCst), self.others.load(SeqCst))
+    }
+}
+
+impl<'a> Gate for Expecting<'a> {
+    ghost saw_job = { λ _ _. Unit {0} };
+
+    ghost saw_done = { λ _ _. Unit {0} };
+
+    fn watches(&self) -> bool {
+        false
+    }
+
+    fn before(&self, _job: &Job) {}
+
+    fn after(&self, _done: &Done) {}
+
+    fn reached(&self, step: Step) {
+        let place = self.told.fetch_add(1, SeqCst);
+        if self.steps.get(place) != Some(&step) {
+            self.others.fetch_add(1, SeqCst);
+        }
+    }
 }

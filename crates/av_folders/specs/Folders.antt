@@ -1,12 +1,14 @@
 -- Folders of region files: which are read, and what is known of one that files are written to.
-use Rattle.std.specs.Prelude.{◌≡◌, ◌⊎◌, ℕ, List, [], ◌∷◌, Option, None, map, string_bytes}
+use Rattle.std.specs.Prelude.{◌≡◌, ◌⊎◌, ℕ, List, [], ◌∷◌, Option, None, Bool, false, codes, map, string_bytes}
 use Rattle.std.specs.List.Sorted.{IsStrictlySortedBy}
 use Rattle.std.specs.Ordering.{nat_cmp}
+use Rattle.std.specs.Path.{path_join}
 use Rattle.std.specs.Cmp.Lexicographic.{slice_cmp}
 use Rattle.av_types.specs.declared.place.RegionPos.{RegionPos}
 use Rattle.av_types.specs.declared.fault.Fault.{Fault}
 use Rattle.av_types.specs.declared.fault.Fault.TheVariants.{OutOfMemory}
 use Rattle.av_sink.specs.Account.{Account, IsDevice}
+use Rattle.av_sink.specs.declared.sink.Repair.{Repair}
 use Rattle.av_region_files.specs.Names.{region_name_of}
 use Rattle.av_folders.specs.declared.reading.FolderFiles.{FolderFiles}
 use Rattle.av_folders.specs.declared.reading.Listed.{Listed}
@@ -15,6 +17,15 @@ use Rattle.av_folders.specs.declared.reading.Listed.{Listed}
 abbrev pub IsFolderFault : List ℕ → Fault → Type 0
 IsFolderFault folder e = (e ≡ OutOfMemory) ⊎ IsDevice folder e
 
+-- why the game's world is refused: its `session.lock`, which is in some folder, is locked
+abbrev pub IsSessionFault : Fault → Type 0
+IsSessionFault e = (e ≡ OutOfMemory) ⊎ ((folder : List ℕ) × IsDevice (path_join folder (codes "session.lock")) e)
+
+-- why a run's output folder is refused: it is itself, or it is of a world that the game has open, where that matters
+pub data IsOutputFault (folder : List ℕ) (in_use : Bool) (e : Fault) : Type 0 where
+  refused : IsFolderFault folder e → IsOutputFault folder in_use e
+  open_in_game : in_use ≡ false → IsSessionFault e → IsOutputFault folder in_use e
+
 -- why a folder was not read: it can't be listed, or one of its region files can't be read, whose name is said without the
 -- folder's
 pub data IsUnreadFolder (folder : List ℕ) (e : Fault) : Type 0 where
@@ -22,9 +33,10 @@ pub data IsUnreadFolder (folder : List ℕ) (e : Fault) : Type 0 where
   listing : IsDevice folder e → IsUnreadFolder folder e
   file : (region : RegionPos) → IsDevice (region_name_of region) e → IsUnreadFolder folder e
 
--- a folder tells its name and the counts
-abbrev pub folder_account : Option (List ℕ) → ℕ → ℕ → Account
-folder_account folder failures handed = record { folder = folder; failures = failures; handed = handed; kept = None }
+-- a folder tells its name, what was done about a run that was cut off, the counts, and whether its files have their places
+abbrev pub folder_account : Option (List ℕ) → Option Repair → ℕ → ℕ → Bool → Account
+folder_account folder repair failures handed placed =
+    record { folder = folder; repair = repair; failures = failures; handed = handed; placed = placed; kept = None }
 
 -- region files as they are read: in the byte order of their names, each name once
 abbrev pub AreInNameOrder : List RegionPos → Type 0

@@ -1,2 +1,4 @@
 pub mod Bare
 pub mod Folders
+pub mod Locks
+pub mod Repairs

@@ -3,101 +3,114 @@ ghost use Rattle.std.specs.Prelude.{option_map, string_bytes};
 ghost use Rattle.av_sink.specs.Account.{IsFresh};
 ghost use Rattle.av_folders.specs.Folders.{folder_account};
 
-use av_sink::{OutputFolder, Sink, SinkFailed};
-use std::alloc::AllocError;
-use std::fs::{self, File, Metadata, OpenFile};
-use std::io::{self, ErrorKind, Write};
-use std::os::unix::fs::{MetadataExt, chown};
+use crate::system_folder::SystemFolder;
+use av_commands::names::region_of_name;
+use av_exchange::{Folder, JOURNAL, close, place, place_alone, repair, stage, sweep};
+use av_sink::{FailedFile, OutputFolder, Repair, Sink, SinkFailed, Teller};
+use std::alloc::{AllocError, Global};
+use std::io::{self, ErrorKind};
 use std::path::Path;
 use std::rt::Files;
 
-/// What is said of a name that no file has, but something else.
-const NO_FILE: &str = "a link, a folder or a pipe, where a file is to be written";
-
-/// The file that is to be replaced, where there is one. A link is not: what it leads to would be written elsewhere, or stay old.
-fn old_file<R: Files>(rt: &R, path: Path<'_>) -> io::Result<Option<Metadata>> {
-    match fs::symlink_metadata(rt, path) {
-        Ok(found) if found.is_file() => Ok(Some(found)),
-        Ok(_) => Err(io::Error::new(ErrorKind::InvalidInput, NO_FILE)),
-        Err(error) if error.kind() == ErrorKind::NotFound => Ok(None),
-        Err(error) => Err(error),
+/// The folder of a sink, which was opened.
+fn opened<'a, R: Files + AllocGlobal + Clone + Drop>(
+    rt: &'a R,
+    folder: &Option<String>,
+) -> io::Result<SystemFolder<'a, R>> {
+    match folder {
+        Some(folder) => Ok(SystemFolder::new(rt, folder.clone()?)),
+        None => Err(ErrorKind::NotFound.into()),
     }
 }
 
-/// Takes away what a call that was cut off has left under the name of a new file. A link is taken away, not what it leads to.
-fn clear_part<R: Files>(rt: &R, part: Path<'_>) -> io::Result<()> {
-    match fs::remove_file(rt, part) {
-        Err(error) if error.kind() != ErrorKind::NotFound => Err(error),
-        _ => Ok(()),
-    }
-}
-
-/// Gives a new file the owner and the rights of the one that it replaces, where this process may.
-fn keep_owner<R: Files>(rt: &R, part: Path<'_>, file: &R::File, old: &Metadata) {
-    let _ = chown(rt, part, Some(old.uid()), Some(old.gid()));
-    let _ = file.set_permissions(old.permissions());
-}
-
-/// Writes a file that is not there yet, up to the device.
-fn write_part<R: Files>(
-    rt: &R,
-    part: Path<'_>,
-    old: Option<Metadata>,
-    bytes: &[u8],
-) -> io::Result<()> {
-    let mut file = File::create_new(rt, part)?;
-    if let Some(old) = old {
-        keep_owner(rt, part, &file, &old);
-    }
-    file.write_all(bytes)?;
-    file.sync_all()
-}
-
-/// Lets a new file take the place of an old one, up to the device where the folder allows.
-fn take_place<R: Files>(rt: &R, folder: &str, part: Path<'_>, path: Path<'_>) -> io::Result<()> {
-    fs::rename(rt, part, path)?;
-    if let Ok(opened) = fs::open(rt, folder) {
-        let _ = opened.sync_all();
-    }
-    Ok(())
-}
-
-/// Writes a file of a folder under another name, and gives it its own name once it is whole. Where this fails the file
-/// that was there stays.
-fn write_whole<R: Files + AllocGlobal>(
-    rt: &R,
-    folder: &str,
+/// Writes a file of a region beside the one that it is to replace, and notes its name, unless that has its bytes.
+fn write_region<R: Files + AllocGlobal + Clone + Drop>(
+    alloc: Global,
+    folder: &mut SystemFolder<'_, R>,
+    names: &mut Vec<String>,
     name: &str,
     bytes: &[u8],
 ) -> io::Result<()> {
-    let part_name = format!(in rt.alloc(); ".anvilwater-{name}")?;
-    let path = Path::new(folder).join(rt.alloc(), name)?;
-    let part = Path::new(folder).join(rt.alloc(), part_name.as_str())?;
-    let old = old_file(rt, path.as_path())?;
-    clear_part(rt, part.as_path())?;
-    let written = match write_part(rt, part.as_path(), old, bytes) {
-        Ok(()) => take_place(rt, folder, part.as_path(), path.as_path()),
-        Err(error) => Err(error),
-    };
+    if folder.has(name, bytes) {
+        return Ok(());
+    }
+    names.push(String::from_str(alloc, name)?)?;
+    let written = stage(alloc, folder, name, bytes);
     if written.is_err() {
-        let _ = fs::remove_file(rt, part.as_path());
+        let _ = sweep(alloc, folder);
     }
     written
 }
 
-/// A folder that files are written to, each whole or not at all as far as a folder allows: under another name first, so
-/// that a write that fails leaves the file that was there, whose owner and rights the new one gets. What is a link there is
-/// not written to. Want of memory for a file's path is a failed write too, as is each
-/// write before the folder is opened.
+/// Writes a file of a folder. One of a region waits for its place, and its name is noted.
+fn write<R: Files + AllocGlobal + Clone + Drop>(
+    rt: &R,
+    folder: &Option<String>,
+    names: &mut Vec<String>,
+    name: &str,
+    bytes: &[u8],
+) -> io::Result<()> {
+    let mut folder = opened(rt, folder)?;
+    if region_of_name(rt.alloc(), name)?.is_some() {
+        return write_region(rt.alloc(), &mut folder, names, name, bytes);
+    }
+    write_alone(rt.alloc(), &mut folder, name, bytes)
+}
+
+/// A folder that files are written to. Those of regions take their places all or none; any other file takes its own at once. A file that has
+/// its bytes already is left alone. What is a link in the place of a file is not written to. Want of memory for a path is a failed write
+/// too, as is each write before the folder is opened.
 #[derive(Drop)]
 pub struct FolderSink<'a, R> {
     rt: &'a R,
     folder: Option<String>,
+    /// The names of the region files that were written beside those that they are to replace.
+    names: Vec<String>,
+    repaired: Option<Repair>,
     failures: u64,
     handed: u64,
+    is_placed: bool,
+    failed: Option<FailedFile>,
 }
 
-impl<'a, R: Files + AllocGlobal> FolderSink<'a, R> {
+/// Writes a file of a folder under another name, and gives it its own once it is whole. Where this fails the file that was there stays.
+fn write_alone<F: Folder>(
+    alloc: Global,
+    folder: &mut F,
+    name: &str,
+    bytes: &[u8],
+) -> io::Result<()> {
+    stage(alloc, folder, name, bytes)?;
+    place_alone(alloc, folder, name)
+}
+
+/// Lets files that were written take their places. Where they can't begin to they are taken away.
+fn place_or_sweep<F: Folder>(alloc: Global, folder: &mut F, names: &[String]) -> io::Result<()> {
+    let Err(not) = place(alloc, folder, names) else {
+        return Ok(());
+    };
+    if !not.begun {
+        let _ = sweep(alloc, folder);
+    }
+    Err(not.error)
+}
+
+/// What is known of a failure, where memory is enough for it.
+fn failed_file(
+    alloc: Global,
+    folder: &Option<String>,
+    name: &str,
+    error: io::Error,
+) -> Option<FailedFile> {
+    let folder = folder.as_ref()?;
+    let path = Path::new(folder.as_str()).join(alloc, name).ok()?;
+    Some(FailedFile {
+        path: path.into_string(),
+        error,
+    })
+}
+
+impl<'a, R: Files + AllocGlobal + Clone + Drop> FolderSink<'a, R> {
     /// A folder that is not opened yet.
     pub fn new(rt: &'a R) -> FolderSink<'a, R>
         ensures { IsFresh (⟦<FolderSink<'a, R> as Sink>⟧.account result) }
@@ -105,22 +118,44 @@ impl<'a, R: Files + AllocGlobal> FolderSink<'a, R> {
         FolderSink {
             rt,
             folder: None,
+            names: Vec::new(rt.alloc()),
+            repaired: None,
             failures: 0,
             handed: 0,
+            is_placed: false,
+            failed: None,
         }
     }
 
-    /// Writes a file of the folder.
-    fn write(&self, name: &str, bytes: &[u8]) -> io::Result<()> {
-        match &self.folder {
-            Some(folder) => write_whole(self.rt, folder.as_str(), name, bytes),
-            None => Err(ErrorKind::NotFound.into()),
+    /// Repairs the folder.
+    fn repair_opened<T: Teller>(&self, teller: &T) -> io::Result<Repair> {
+        let mut folder = opened(self.rt, &self.folder)?;
+        repair(self.rt.alloc(), &mut folder, teller)
+    }
+
+    /// Lets the files that were written take their places.
+    fn place_written(&self) -> io::Result<()> {
+        if self.names.is_empty() {
+            return Ok(());
         }
+        place_or_sweep(
+            self.rt.alloc(),
+            &mut opened(self.rt, &self.folder)?,
+            self.names.as_slice(),
+        )
+    }
+
+    /// Takes the journal away, where the files have their places.
+    fn close_placed(&self) -> io::Result<()> {
+        if !self.is_placed || self.names.is_empty() {
+            return Ok(());
+        }
+        close(&mut opened(self.rt, &self.folder)?)
     }
 }
 
-impl<'a, R: Files + AllocGlobal> Sink for FolderSink<'a, R> {
-    ghost account = { λ s. folder_account (option_map string_bytes s.folder) s.failures s.handed };
+impl<'a, R: Files + AllocGlobal + Clone + Drop> Sink for FolderSink<'a, R> {
+    ghost account = { λ s. folder_account (option_map string_bytes s.folder) s.repaired s.failures s.handed s.is_placed };
 
     fn failures(&self) -> u64 {
         self.failures
@@ -131,18 +166,63 @@ impl<'a, R: Files + AllocGlobal> Sink for FolderSink<'a, R> {
     }
 
     fn write_file(&mut self, name: &str, bytes: &[u8]) -> Result<(), SinkFailed> {
-        if self.write(name, bytes).is_ok() {
-            self.handed += 1;
-            return Ok(());
+        match write(self.rt, &self.folder, &mut self.names, name, bytes) {
+            Ok(()) => {
+                self.handed += 1;
+                Ok(())
+            }
+            Err(error) => {
+                self.failed = failed_file(self.rt.alloc(), &self.folder, name, error);
+                self.failures += 1;
+                Err(SinkFailed)
+            }
         }
-        self.failures += 1;
-        Err(SinkFailed)
     }
 }
 
-impl<'a, R: Files + AllocGlobal> OutputFolder for FolderSink<'a, R> {
+impl<'a, R: Files + AllocGlobal + Clone + Drop> OutputFolder for FolderSink<'a, R> {
     fn open(&mut self, folder: &str) -> Result<(), AllocError> {
         self.folder = Some(String::from_str(self.rt.alloc(), folder)?);
         Ok(())
+    }
+
+    fn repair<T: Teller>(&mut self, teller: &T) -> Result<Repair, SinkFailed> {
+        match self.repair_opened(teller) {
+            Ok(repaired) => {
+                self.repaired = Some(repaired);
+                Ok(repaired)
+            }
+            Err(error) => {
+                self.failed = failed_file(self.rt.alloc(), &self.folder, JOURNAL, error);
+                Err(SinkFailed)
+            }
+        }
+    }
+
+    fn place(&mut self) -> Result<(), SinkFailed> {
+        match self.place_written() {
+            Ok(()) => {
+                self.is_placed = true;
+                Ok(())
+            }
+            Err(error) => {
+                self.failed = failed_file(self.rt.alloc(), &self.folder, JOURNAL, error);
+                Err(SinkFailed)
+            }
+        }
+    }
+
+    fn close(&mut self) -> Result<(), SinkFailed> {
+        match self.close_placed() {
+            Ok(()) => Ok(()),
+            Err(error) => {
+                self.failed = failed_file(self.rt.alloc(), &self.folder, JOURNAL, error);
+                Err(SinkFailed)
+            }
+        }
+    }
+
+    fn last_failed(&mut self) -> Option<FailedFile> {
+        self.failed.take()
     }
 }

@@ -2,17 +2,12 @@
 ghost use Rattle.std.specs.Prelude.{IfErr};
 ghost use Rattle.av_folders.specs.Folders.{IsFolderFault};
 
+use crate::locks::holder_of;
 use av_commands::failure::Failure;
-use std::alloc::Global;
 use std::fs::{self, File, Metadata, TryLockError};
 use std::io::{self, ErrorKind};
-use std::os::unix::fs::MetadataExt;
 use std::path::Path;
 use std::rt::Files;
-
-/// Where Linux lists the locks that are held, a line each: `1: FLOCK  ADVISORY  WRITE 4711 fe:00:131077 0 EOF`, with the process and
-/// the file's number behind the second colon of its device.
-const LOCKS: &str = "/proc/locks";
 
 /// A runtime whose open files and folders can be locked against other processes.
 pub trait LockFiles: Files {
@@ -26,33 +21,10 @@ impl LockFiles for HostRuntime {
     }
 }
 
-/// The process of a line that tells of a lock on the file of that number.
-fn holder_in<'a>(alloc: Global, line: &'a str, file: &str) -> Option<&'a str> {
-    let words: Vec<&str> = line.split_whitespace().collect(alloc).ok()?;
-    let [_, kind, _, _, process, place, ..] = words.as_slice() else {
-        return None;
-    };
-    let (_, number) = place.rsplit_once(':')?;
-    if *kind == "FLOCK" && number == file {
-        Some(*process)
-    } else {
-        None
-    }
-}
-
 /// What is said of a folder that another process holds, with the process where the system lists it.
 fn held_text<R: Files + AllocGlobal>(rt: &R, found: &Metadata) -> Option<String> {
-    let locks = fs::read_to_string(rt, LOCKS).ok()?;
-    let number = found.ino();
-    let file = format!(in rt.alloc(); "{number}").ok()?;
-    for line in locks.as_str().lines() {
-        if let Some(process) = holder_in(rt.alloc(), line, file.as_str()) {
-            return format!(in rt.alloc();
-                "process {process} works on it: wait until it has ended"
-            ).ok();
-        }
-    }
-    None
+    let holder = holder_of(rt, found)?;
+    format!(in rt.alloc(); "{holder} works on it: wait until it has ended").ok()
 }
 
 /// The error of a folder that another process holds.

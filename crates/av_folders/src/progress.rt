@@ -1,5 +1,6 @@
 //! How far long work is.
 use av_commands::manner::Progress;
+use std::fmt::Display;
 use std::io::Write;
 
 /// What takes a terminal's line away: the carriage's return, and what a terminal clears to the line's end.
@@ -23,18 +24,18 @@ pub fn note_read<E: Write>(err: &mut E, progress: Progress, done: usize, all: us
     };
 }
 
-/// Says how many files were written, as well as it can be written.
-pub fn note_written<E: Write>(err: &mut E, progress: Progress, files: usize) {
-    let _ = match progress {
-        Progress::Silent => Ok(()),
-        Progress::Lines => writeln!(err, "{files} files written"),
-        Progress::OneLine => write!(err, "{CLEAR}{files} files written"),
-    };
-}
-
 /// Takes the line that steps write anew away, before anything else is written.
 pub fn end_steps<E: Write>(err: &mut E, progress: Progress) {
     if progress == Progress::OneLine {
         let _ = write!(err, "{CLEAR}");
     }
+}
+
+/// Says which step is done or comes next, as well as it can be written, where a runtime prints on standard error.
+pub fn tell_step<R: Eprint, D: Display + Drop>(rt: &R, progress: Progress, step: D) {
+    let _ = match progress {
+        Progress::Silent => Ok(()),
+        Progress::Lines => rt.eprintln(step),
+        Progress::OneLine => eprint!(rt; "{CLEAR}{step}"),
+    };
 }

@@ -8,7 +8,9 @@ ghost use Rattle.av_sink.specs.Account.{IsDevice};
 ghost use Rattle.av_folders.specs.Folders.{AreInNameOrder, AreRead, IsFolderRead, IsListed, IsFolderFault, IsUnreadFolder};
 
 use crate::bare::note_bare;
+use crate::holding::LockFiles;
 use crate::progress::{end_steps, note_read};
+use crate::tidying::tidy;
 use av_commands::failure::{Failure, UnreadFile};
 use av_commands::manner::Manner;
 use av_commands::names::region_of_name;
@@ -132,8 +134,8 @@ fn list_folder<R: Files + AllocGlobal + Clone + Drop>(
     Ok(files)
 }
 
-/// The same, with a line on standard error where there are none.
-fn list_files<R: Files + AllocGlobal + Clone + Drop, E: Write>(
+/// The same, with a line on standard error where there are none. What a run has left there that was cut off is repaired first.
+fn list_files<R: LockFiles + Eprint + AllocGlobal + Clone + Drop, E: Write>(
     rt: &R,
     folder: &str,
     err: &mut E,
@@ -142,6 +144,7 @@ fn list_files<R: Files + AllocGlobal + Clone + Drop, E: Write>(
     ensures order { IfOk result (λ files. IsStrictlySortedBy (λ a b. string_cmp a.name b.name) files.items) }
     ensures unlisted { IfErr result (λ e. IsFolderFault folder.now e.fault) }
 {
+    tidy(rt, folder, folder, err)?;
     match list_folder(rt, folder) {
         Ok(listed) => {
             if listed.is_empty() {
@@ -247,12 +250,12 @@ fn read_each_readable<R: Files + AllocGlobal, E: Write>(
 }
 
 /// The region files of a folder, each once, read in the byte order of their names. All other files are passed over. A folder without
-/// region files is said on standard error.
+/// region files is said on standard error, and so is what was repaired there of a run that was cut off.
 ///
 /// # Errors
 /// `Device` with the folder's name as it was given, where it can't be listed, or with the name of the first file
 /// that can't be read, without the folder's; and want of memory.
-pub fn read_folder<R: Files + AllocGlobal + Clone + Drop, E: Write>(
+pub fn read_folder<R: LockFiles + Eprint + AllocGlobal + Clone + Drop, E: Write>(
     rt: &R,
     folder: &str,
     manner: Manner,
@@ -271,7 +274,7 @@ pub fn read_folder<R: Files + AllocGlobal + Clone + Drop, E: Write>(
 ///
 /// # Errors
 /// `Device` with the folder's name as it was given, where it can't be listed; and want of memory.
-pub fn read_readable<R: Files + AllocGlobal + Clone + Drop, E: Write>(
+pub fn read_readable<R: LockFiles + Eprint + AllocGlobal + Clone + Drop, E: Write>(
     rt: &R,
     folder: &str,
     manner: Manner,

@@ -174,13 +174,23 @@ fn push_section(
     push_count(bytes, 2048)
 }
 
-/// The tags of a full chunk before those of its sections, which are so many.
-pub fn push_chunk(bytes: &mut Vec<u8>, at: ChunkPos, sections: usize) -> Result<(), AllocError> {
+/// The tags of a chunk of a status before those of its sections, which are so many.
+fn push_chunk_of(
+    bytes: &mut Vec<u8>,
+    at: ChunkPos,
+    status: &str,
+    sections: usize,
+) -> Result<(), AllocError> {
     push_head(bytes, 10, "")?;
     push_int(bytes, "xPos", at.x)?;
     push_int(bytes, "zPos", at.z)?;
-    push_string(bytes, "Status", "full")?;
+    push_string(bytes, "Status", status)?;
     push_list(bytes, "sections", sections)
+}
+
+/// The same of a full chunk.
+pub fn push_chunk(bytes: &mut Vec<u8>, at: ChunkPos, sections: usize) -> Result<(), AllocError> {
+    push_chunk_of(bytes, at, "full", sections)
 }
 
 /// A tag of zeros, with which a root has so many bytes, and its end.
@@ -224,15 +234,16 @@ fn push_entries(bytes: &mut Vec<u8>, at: ChunkPos, entries: &[Waiting]) -> Resul
     Ok(())
 }
 
-/// A chunk's sections below the one of that y, and that one up to the bytes of its light.
-pub fn up_to_light(
+/// The sections of a chunk of a status below the one of that y, and that one up to the bytes of its light.
+fn up_to_light_of(
     alloc: Global,
     flat: Flat<'_>,
     at: ChunkPos,
+    status: &str,
     y: i32,
 ) -> Result<Vec<u8>, AllocError> {
     let mut bytes = Vec::new(alloc);
-    push_chunk(&mut bytes, at, flat.height.sections as usize)?;
+    push_chunk_of(&mut bytes, at, status, flat.height.sections as usize)?;
     for section in flat.height.min_section..y {
         push_section(
             alloc,
@@ -260,14 +271,34 @@ pub fn up_to_light(
     Ok(bytes)
 }
 
-/// A chunk without light.
-pub fn chunk(alloc: Global, flat: Flat<'_>, at: ChunkPos) -> Result<Vec<u8>, AllocError> {
+/// The same of a full chunk.
+pub fn up_to_light(
+    alloc: Global,
+    flat: Flat<'_>,
+    at: ChunkPos,
+    y: i32,
+) -> Result<Vec<u8>, AllocError> {
+    up_to_light_of(alloc, flat, at, "full", y)
+}
+
+/// A chunk of a status, without light.
+pub fn chunk_of(
+    alloc: Global,
+    flat: Flat<'_>,
+    at: ChunkPos,
+    status: &str,
+) -> Result<Vec<u8>, AllocError> {
     let last = flat.height.min_section + flat.height.sections as i32 - 1;
-    let mut bytes = up_to_light(alloc, flat, at, last)?;
+    let mut bytes = up_to_light_of(alloc, flat, at, status, last)?;
     push_zeros(&mut bytes, 2048)?;
     bytes.push(0)?;
     push_entries(&mut bytes, at, flat.entries)?;
     Ok(bytes)
+}
+
+/// A full chunk without light.
+pub fn chunk(alloc: Global, flat: Flat<'_>, at: ChunkPos) -> Result<Vec<u8>, AllocError> {
+    chunk_of(alloc, flat, at, "full")
 }
 
 /// How many sectors a payload takes, with its length and its type.

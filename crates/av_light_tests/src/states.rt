@@ -1,6 +1,6 @@
 //! The states of the tests, and their rows.
 use av_rules::{Kinds, Rules};
-use av_state::{State, StateTable};
+use av_state::{Property, State, StateTable};
 use av_types::Fault;
 use std::alloc::Global;
 
@@ -53,12 +53,22 @@ const NAMES: [&str; 6] = [
     "minecraft:lava",
 ];
 
-/// Numbers the state of a name.
-fn intern(alloc: Global, table: &mut StateTable, name: &str) -> Result<(), Fault> {
+/// Numbers the state of a name and properties.
+fn intern_with(
+    alloc: Global,
+    table: &mut StateTable,
+    name: &str,
+    properties: Vec<Property>,
+) -> Result<(), Fault> {
     let name = Vec::from_slice(alloc, name.as_bytes())?;
-    let state = State::new(name, Vec::new(alloc))?.ok_or(Fault::BadPalette)?;
+    let state = State::new(name, properties)?.ok_or(Fault::BadPalette)?;
     let _ = table.intern(&state)?;
     Ok(())
+}
+
+/// Numbers the state of a name.
+fn intern(alloc: Global, table: &mut StateTable, name: &str) -> Result<(), Fault> {
+    intern_with(alloc, table, name, Vec::new(alloc))
 }
 
 /// Kinds of these states.
@@ -68,6 +78,39 @@ pub fn kinds(alloc: Global) -> Result<Kinds, Fault> {
         intern(alloc, &mut table, name)?;
     }
     Kinds::new(alloc, table, &Rules::read(alloc, EMITTERS)?)
+}
+
+/// A slab that stops 8, in a table of a version that soaks.
+const SLABS: &[u8] = b"version = 2
+[[block]]
+name = \"minecraft:glowstone\"
+open = false
+floor = true
+opacity = 15
+emission = 15
+[[block]]
+name = \"minecraft:oak_slab\"
+open = false
+floor = true
+opacity = 8
+emission = 0
+";
+
+/// A slab that is soaked, among the kinds of `kinds_with_slab`.
+pub const SOAKED_SLAB: u16 = 12;
+
+/// Stone is number 10, glowstone 11, and a soaked slab 12.
+pub fn kinds_with_slab(alloc: Global) -> Result<Kinds, Fault> {
+    let mut table = StateTable::new(alloc)?;
+    intern(alloc, &mut table, "minecraft:stone")?;
+    intern(alloc, &mut table, "minecraft:glowstone")?;
+    let mut properties = Vec::new(alloc);
+    properties.push(Property {
+        key: Vec::from_slice(alloc, b"waterlogged")?,
+        value: Vec::from_slice(alloc, b"true")?,
+    })?;
+    intern_with(alloc, &mut table, "minecraft:oak_slab", properties)?;
+    Kinds::new(alloc, table, &Rules::read(alloc, SLABS)?)
 }
 
 /// Numbers from 10 on: 16 states that give no light and have each opacity, then 16 that give each light.

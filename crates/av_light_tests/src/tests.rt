@@ -1,5 +1,5 @@
 //! Light by hand, and against plain sweeps.
-use crate::states::{GLOWSTONE, STONE, drawn_kinds, kinds};
+use crate::states::{GLOWSTONE, SOAKED_SLAB, STONE, drawn_kinds, kinds, kinds_with_slab};
 use crate::sweeps::{Draws, byte, differences, half_byte, is_dark, position, swept};
 use crate::worlds::{air, put};
 use av_chunk::ChunkLight;
@@ -119,6 +119,23 @@ fn light_goes_round_a_stone(rt: HostRuntime) -> Result<(), Fail> {
         (at(16, 70, 8), 0),
     ];
     expect_lights(&rt, &flooded(rt.alloc(), &world)?, &wants);
+    Ok(())
+}
+
+/// A soaked slab stops light by its row, 8, and not as water, which stops 1: round it there are four steps.
+#[test]
+fn light_of_a_soaked_slab_goes_by_its_row(rt: HostRuntime) -> Result<(), Fail> {
+    let alloc = rt.alloc();
+    let blocks = [(at(8, 70, 8), GLOWSTONE), (at(9, 70, 8), SOAKED_SLAB)];
+    let world = with_floor(alloc, &[(0, 0)], &blocks)?;
+    let board = flood(alloc, &world, &kinds_with_slab(alloc)?, ORIGIN)?;
+    let wants = [
+        (at(8, 70, 8), 15),
+        (at(7, 70, 8), 14),
+        (at(9, 70, 8), 7),
+        (at(10, 70, 8), 11),
+    ];
+    expect_lights(&rt, &board, &wants);
     Ok(())
 }
 

@@ -1,5 +1,5 @@
 -- What a run would change, where it is only asked for that.
-use Rattle.std.specs.Prelude.{◌≡◌, ℕ, List, [], Option, Ok}
+use Rattle.std.specs.Prelude.{◌≡◌, ℕ, List, [], Option, Ok, codes}
 use Rattle.std.specs.Io.KnownBytes.{Appends}
 use Rattle.av_region_files.specs.declared.files.RegionFile.{RegionFile}
 use Rattle.av_changes.specs.Changes.{AreChangesByName, change_lines}
@@ -23,7 +23,7 @@ pub record IsForeseen (q : Request) (foreseen : Foreseen) : Type 0 where
 
 -- what is told of it, and the status: the changes, and then what is told of a run; or 1 where writing failed
 pub data HasTold (f : Foreseen) (before after : Option (List ℕ)) (status : ℕ) : Type 0 where
-  told : (next : Option (List ℕ)) → Appends before next (change_lines f.changes.items) → HasReported (Ok f.ran) next after status → HasTold f before after status
+  told : (next : Option (List ℕ)) → Appends before next (change_lines (codes "would change") f.changes.items) → HasReported (Ok f.ran) next after status → HasTold f before after status
   untold : status ≡ 1 → HasTold f before after status
 
 -- the same with what was read, or nothing and 1

@@ -1,6 +1,6 @@
 -- What a run of the program leaves behind: in the account of the sink that its files are handed to, before and after; on its output,
 -- before and after; and its status. Which words it was called with and which bytes a file has, no clause can say.
-use Rattle.std.specs.Prelude.{◌≡◌, ◌⊎◌, ◌≤◌, ℕ, false, true, List, Option, option_map}
+use Rattle.std.specs.Prelude.{◌≡◌, ◌⊎◌, ◌≤◌, ◌||◌, ℕ, Bool, false, true, List, Option, is_none, option_map}
 use Rattle.std.specs.List.{All}
 use Rattle.clap.specs.Words.{Text, kind_of}
 use Rattle.clap.specs.declared.error.Error.{Error}
@@ -9,7 +9,8 @@ use Rattle.clap.specs.declared.error.kind.ErrorKind.TheVariants as kind
 use Rattle.av_types.specs.declared.place.Pos.{Pos}
 use Rattle.av_types.specs.declared.place.Height.{Height}
 use Rattle.av_types.specs.declared.fault.Fault.{Fault}
-use Rattle.av_sink.specs.Account.{Account, IsDevice, in_folder}
+use Rattle.av_sink.specs.Account.{Account, IsDevice, in_folder, with_repair}
+use Rattle.av_sink.specs.declared.sink.Repair.{Repair}
 use Rattle.av_words.specs.declared.command_line.commands.RunWords.{RunWords}
 use Rattle.av_words.specs.declared.command_line.commands.Words.{Words}
 use Rattle.av_words.specs.declared.command_line.commands.Words.TheVariants.{Block, Check, Map, Run, States}
@@ -33,14 +34,26 @@ pub data HasRun (file : List ℕ) (at : Pos) (table : Option (List ℕ)) (before
   answered : (bytes : List ℕ) (h : Height) → IsHeightBy table h → HasAnswered file bytes at h before after status → HasRun file at table before after status
   unread : after ≡ before → status ≡ 1 → HasRun file at table before after status
 
--- the same of `run`: what its files leave in the folder of that name, or nothing and 1 where the folder is refused or memory for the name runs out
-pub data HasRunInFolder (folder : List ℕ) (q : Request) (old new : Account) (before after : Option (List ℕ)) (status : ℕ) : Type 0 where
-  opened : HasRunRegions q (in_folder folder old) new before after status → HasRunInFolder folder q old new before after status
-  unopened : new ≡ old → after ≡ before → status ≡ 1 → HasRunInFolder folder q old new before after status
+-- whether a run goes on, by what was found in its folder: not where one that was cut off is finished first, unless it is to be run again
+abbrev pub goes_on : Bool → Repair → Bool
+goes_on again r = again || is_none r.finished
+
+-- The same of `run` in its folder, which was opened: what its files leave there, once it was looked for a run that was cut off; all is well only where
+-- the folder is closed then. One that was finished first is all that is done. Or nothing and 1, where that can't be done.
+pub data HasRunOpened (q : Request) (old new : Account) (before after : Option (List ℕ)) (status : ℕ) : Type 0 where
+  ran_on : (r : Repair) (st : ℕ) → goes_on q.again r ≡ true → HasRunRegions q (with_repair r old) new before after st → (status ≡ st) ⊎ (status ≡ 1)
+      → HasRunOpened q old new before after status
+  finished : (r : Repair) → goes_on q.again r ≡ false → new ≡ with_repair r old → after ≡ before → status ≡ 0 → HasRunOpened q old new before after status
+  unrepaired : new ≡ old → after ≡ before → status ≡ 1 → HasRunOpened q old new before after status
+
+-- the same of its folder, or nothing and 1 where that is refused or memory for its name runs out
+pub data HasRunInFolder (q : Request) (old new : Account) (before after : Option (List ℕ)) (status : ℕ) : Type 0 where
+  opened : HasRunOpened q (in_folder q.output.now old) new before after status → HasRunInFolder q old new before after status
+  unopened : new ≡ old → after ≡ before → status ≡ 1 → HasRunInFolder q old new before after status
 
 -- the same by its words. It may only be asked what it would change, which hands no file over; and only region files are skipped.
 pub data HasRunBy (run : RunWords) (old new : Account) (before after : Option (List ℕ)) (status : ℕ) : Type 0 where
-  run_by : (q : Request) → IsRequestOf run q → All (λ n. IsSkipped n.now) q.skip.now → run.dry_run ≡ false → HasRunInFolder run.output.now q old new before after status
+  run_by : (q : Request) → IsRequestOf run q → All (λ n. IsSkipped n.now) q.skip.now → run.dry_run ≡ false → HasRunInFolder q old new before after status
       → HasRunBy run old new before after status
   run_dry_by : (q : Request) → IsRequestOf run q → All (λ n. IsSkipped n.now) q.skip.now → run.dry_run ≡ true → new ≡ old → HasRunDry q before after status
       → HasRunBy run old new before after status

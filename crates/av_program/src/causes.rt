@@ -1,15 +1,21 @@
 //! Why a run was refused, looked for once it was.
-ghost use Rattle.std.specs.Prelude.{◌≡◌};
+ghost use Rattle.std.specs.Prelude.{◌≡◌, ◌⊎◌};
+ghost use Rattle.av_types.specs.declared.fault.Fault.TheVariants.{OutOfMemory};
+ghost use Rattle.av_sink.specs.Account.{IsDevice};
 
 use crate::running::Request;
 use crate::skipping::read_others;
 use av_commands::device::read_file;
+use av_commands::edit_trouble::{EditTrouble, edit_cause};
 use av_commands::failure::{Failure, Reason};
 use av_commands::manner::{Manner, Progress};
 use av_commands::tables::read_height;
+use av_folders::LockFiles;
+use av_sink::FailedFile;
 use av_survey::{Finding, survey};
 use av_types::Fault;
 use av_words::STANDARD_INPUT;
+use std::alloc::Global;
 use std::io::{self, Input};
 use std::rt::Files;
 
@@ -25,6 +31,23 @@ fn count_cause(request: Request<'_>) -> Option<Reason> {
     } else {
         None
     }
+}
+
+/// The line of the edits that is refused, where the fault is of one.
+fn edits_cause<R: Files + AllocGlobal>(
+    rt: &R,
+    request: Request<'_>,
+    fault: &Fault,
+) -> Option<Reason> {
+    let (line, cause) = edit_cause(fault, request.ticks)?;
+    let path = request.edits?;
+    if path == STANDARD_INPUT {
+        let trouble = EditTrouble::new(rt.alloc(), "standard input", None, line, cause).ok()?;
+        return Some(Reason::Edit(trouble));
+    }
+    let text = read_file(rt, path).ok()?;
+    let trouble = EditTrouble::new(rt.alloc(), path, Some(text.as_slice()), line, cause).ok()?;
+    Some(Reason::Edit(trouble))
 }
 
 /// What is wrong with the table.
@@ -48,7 +71,7 @@ fn first_with(found: &[Finding], number: u8) -> Option<Reason> {
 }
 
 /// The first file or chunk with a fault, where one has it by itself.
-fn chunk_cause<R: Files + Input + AllocGlobal + Clone + Drop>(
+fn chunk_cause<R: LockFiles + Input + Eprint + AllocGlobal + Clone + Drop>(
     rt: &R,
     request: Request<'_>,
     fault: &Fault,
@@ -65,7 +88,7 @@ fn chunk_cause<R: Files + Input + AllocGlobal + Clone + Drop>(
 
 /// The failure of a run with a fault. Its reason is looked for where it is asked for, and what needs the table only where that can be
 /// read again.
-pub(crate) fn failure_of_run<R: Files + Input + AllocGlobal + Clone + Drop>(
+pub(crate) fn failure_of_run<R: LockFiles + Input + Eprint + AllocGlobal + Clone + Drop>(
     rt: &R,
     request: Request<'_>,
     fault: Fault,
@@ -76,10 +99,41 @@ pub(crate) fn failure_of_run<R: Files + Input + AllocGlobal + Clone + Drop>(
     let reason = match &fault {
         _ if !explains => None,
         Fault::BadCount => count_cause(request),
+        Fault::ChunkTooLarge(chunk) => Some(Reason::TooLarge(*chunk)),
+        Fault::BadEdit(_) | Fault::EditTick(_) | Fault::EditOutside(_) => {
+            edits_cause(rt, request, &fault)
+        }
         _ if request.table == Some(STANDARD_INPUT) => None,
         Fault::BadTable => table_cause(rt, request),
         Fault::OutOfMemory | Fault::Device(_) => None,
         _ => chunk_cause(rt, request, &fault),
     };
     Failure { fault, reason }
+}
+
+/// The failure of a folder that is written to, with what failed there.
+pub(crate) fn failure_of_file(fault: Fault, failed: FailedFile) -> Failure
+    ensures { result.fault ≡ fault }
+{
+    Failure {
+        fault,
+        reason: Some(Reason::Device {
+            path: failed.path,
+            error: failed.error,
+        }),
+    }
+}
+
+/// The failure of a folder that is written to, by its name in faults, and what failed there where that is known; or want of memory.
+pub(crate) fn failure_of_folder(alloc: Global, folder: &str, failed: Option<FailedFile>) -> Failure
+    ensures { (result.fault ≡ OutOfMemory) ⊎ IsDevice folder.now result.fault }
+{
+    let Ok(name) = String::from_str(alloc, folder) else {
+        return Failure::from(Fault::OutOfMemory);
+    };
+    let fault = Fault::Device(name);
+    match failed {
+        Some(failed) => failure_of_file(fault, failed),
+        None => Failure::from(fault),
+    }
 }

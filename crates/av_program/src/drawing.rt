@@ -5,6 +5,7 @@ ghost use Rattle.av_png.specs.Png.{png_of};
 ghost use Rattle.av_map.specs.Views.{colours_of};
 ghost use Rattle.av_program.specs.MapCommand.{AreColoursBy, HasMapped, IsMapBy, IsNotSaved, IsSaved, view_by};
 
+use crate::causes::failure_of_file;
 use av_commands::device::read_text;
 use av_commands::failure::Failure;
 use av_commands::manner::Manner;
@@ -13,7 +14,7 @@ use av_commands::output::{FAULT, report_fault, write_left_out};
 use av_commands::reasons::report_failure;
 use av_commands::tables::read_height;
 use av_folders::progress::{end_steps, note_step};
-use av_folders::read_folder;
+use av_folders::{LockFiles, read_folder};
 use av_map::{Colours, Map, Refusal, View, draw};
 use av_png::{Picture, write_png};
 use av_sink::OutputFolder;
@@ -78,7 +79,7 @@ impl From<Refusal> for NoPicture {
 }
 
 /// Reads what is asked for, and draws it.
-fn draw_map<R: Files + Input + AllocGlobal + Clone + Drop, E: Write>(
+fn draw_map<R: LockFiles + Input + Eprint + AllocGlobal + Clone + Drop, E: Write>(
     rt: &R,
     order: Order<'_>,
     manner: Manner,
@@ -158,15 +159,31 @@ fn report_no_picture<E: Write>(alloc: Global, err: &mut E, none: &NoPicture, man
     }
 }
 
-/// Runs `map`. The answer is the program's status: 0, even where chunks with a fault are not shown; 1 where there is no picture, or
-/// it could not be written.
-pub(crate) fn run_map<R: Files + Input + AllocGlobal + Clone + Drop, S: OutputFolder, E: Write>(
-    rt: &R,
-    order: Order<'_>,
+/// Says why a picture was not saved, as well as that can be written, and answers the status.
+fn report_unsaved<S: OutputFolder, E: Write>(
+    alloc: Global,
+    fault: Fault,
     sink: &mut S,
     manner: Manner,
     err: &mut E,
 ) -> u8
+    ensures status { result ≡ FAULT }
+    ensures same { S.account sink.new ≡ S.account sink.old }
+{
+    let failure = match sink.last_failed() {
+        Some(failed) => failure_of_file(fault, failed),
+        None => Failure::from(fault),
+    };
+    report_failure(alloc, err, &failure, manner.explains)
+}
+
+/// Runs `map`. The answer is the program's status: 0, even where chunks with a fault are not shown; 1 where there is no picture, or
+/// it could not be written.
+pub(crate) fn run_map<
+    R: LockFiles + Input + Eprint + AllocGlobal + Clone + Drop,
+    S: OutputFolder,
+    E: Write,
+>(rt: &R, order: Order<'_>, sink: &mut S, manner: Manner, err: &mut E) -> u8
     requires fresh { IsFresh (S.account sink.old) }
     ensures { HasMapped order.entry.picture.now (option_map (λ t. t.now) order.entry.table) (option_map (λ t. t.now) order.entry.colours) order.entry.light
         (S.account sink.old) (S.account sink.new) result }
@@ -181,6 +198,6 @@ pub(crate) fn run_map<R: Files + Input + AllocGlobal + Clone + Drop, S: OutputFo
             note_left_out(err, &map);
             0
         }
-        Err(fault) => report_fault(err, &fault),
+        Err(fault) => report_unsaved(rt.alloc(), fault, sink, manner, err),
     }
 }

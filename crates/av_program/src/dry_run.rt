@@ -5,12 +5,13 @@ ghost use Rattle.av_program.specs.DryRun.{HasRunDry, HasTold, IsForeseen, outcom
 
 use crate::causes::failure_of_run;
 use crate::running::{Request, read_inputs, report, run_inputs};
-use av_changes::{Change, add_change, by_name, write_changes};
+use av_changes::{Change, WOULD_CHANGE, add_change, by_name, write_changes};
 use av_commands::failure::Failure;
 use av_commands::manner::Manner;
 use av_commands::output::{REFUSED, report_output};
 use av_commands::reasons::report_failure;
 use av_folders::progress::{end_steps, note_step};
+use av_folders::{LockFiles, tidy};
 use av_region_files::{RegionFile, region_name};
 use av_run::Ran;
 use av_types::RegionPos;
@@ -81,7 +82,7 @@ fn changes_in<R: Files + AllocGlobal>(
 }
 
 /// What a run would change in a folder, in the order of the files' names.
-fn changes_of<R: Files + AllocGlobal>(
+pub(crate) fn changes_of<R: Files + AllocGlobal>(
     rt: &R,
     folder: &str,
     ran: &Ran,
@@ -108,7 +109,10 @@ fn look_for<R: Files + AllocGlobal>(rt: &R, folder: &str) -> Result<(), Failure>
 }
 
 /// Reads what is asked for, runs it, and looks what would change in a folder.
-fn foresee<R: Files + Input + AllocGlobal + Clone + Drop + Threads + Wait + Sync, E: Write>(
+fn foresee<
+    R: LockFiles + Input + Eprint + AllocGlobal + Clone + Drop + Threads + Wait + Sync,
+    E: Write,
+>(
     rt: &R,
     request: Request<'_>,
     folder: &str,
@@ -118,6 +122,7 @@ fn foresee<R: Files + Input + AllocGlobal + Clone + Drop + Threads + Wait + Sync
     ensures { IfOk result (IsForeseen request.entry) }
 {
     look_for(rt, folder)?;
+    tidy(rt, folder, folder, err)?;
     let inputs = read_inputs(rt, request, manner, err)?;
     let ran = match run_inputs(rt, inputs, request, manner, err) {
         Ok(ran) => ran,
@@ -139,7 +144,7 @@ fn tell<O: Write, E: Write>(
     ensures { HasTold foreseen (O.contents out.old) (O.contents out.new) result }
 {
     let Foreseen { ran, changes } = foreseen;
-    match write_changes(out, changes.as_slice()) {
+    match write_changes(out, changes.as_slice(), WOULD_CHANGE) {
         Ok(()) => report(alloc, &Ok(ran), explains, out, err),
         Err(error) => report_output(err, &error),
     }
@@ -148,7 +153,7 @@ fn tell<O: Write, E: Write>(
 /// Writes a line for each file of a folder that a run would change, in the order of their names, and `chunks C turns T`; nothing else is
 /// written. The answer is the program's status, as that of a run.
 pub(crate) fn run_dry<
-    R: Files + Input + AllocGlobal + Clone + Drop + Threads + Wait + Sync,
+    R: LockFiles + Input + Eprint + AllocGlobal + Clone + Drop + Threads + Wait + Sync,
     O: Write,
     E: Write,
 >(rt: &R, request: Request<'_>, folder: &str, manner: Manner, out: &mut O, err: &mut E) -> u8

@@ -9,5 +9,6 @@ pub mod listing;
 pub mod program;
 pub mod running;
 pub mod skipping;
+mod steps;
 
 pub use program::run;

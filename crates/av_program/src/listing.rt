@@ -8,9 +8,8 @@ use av_commands::manner::Manner;
 use av_commands::output::{FAULT, report_output, write_first, write_left_out};
 use av_commands::reasons::report_failure;
 use av_commands::tables::{read_rules, world_height};
-use av_folders::read_folder;
+use av_folders::{LockFiles, read_folder};
 use std::io::{Input, Write};
-use std::rt::Files;
 
 /// The lines of `states`.
 #[derive(Drop)]
@@ -21,7 +20,7 @@ pub(crate) struct Listing {
 }
 
 /// Reads the table and the folder, and lists the states.
-fn list_states<R: Files + Input + AllocGlobal + Clone + Drop, E: Write>(
+fn list_states<R: LockFiles + Input + Eprint + AllocGlobal + Clone + Drop, E: Write>(
     rt: &R,
     folder: &str,
     table: Option<&str>,
@@ -53,14 +52,11 @@ fn report_left_out<E: Write>(err: &mut E, left_out: u64) -> u8
 
 /// Runs `states`. The answer is the program's status: 0; 1 after a fault, where chunks were left out, and where the lines could
 /// not be written, or only their beginning.
-pub(crate) fn run_states<R: Files + Input + AllocGlobal + Clone + Drop, O: Write, E: Write>(
-    rt: &R,
-    folder: &str,
-    table: Option<&str>,
-    manner: Manner,
-    out: &mut O,
-    err: &mut E,
-) -> u8
+pub(crate) fn run_states<
+    R: LockFiles + Input + Eprint + AllocGlobal + Clone + Drop,
+    O: Write,
+    E: Write,
+>(rt: &R, folder: &str, table: Option<&str>, manner: Manner, out: &mut O, err: &mut E) -> u8
     ensures { HasListed (option_map (λ t. t.now) table.entry) (O.contents out.old) (O.contents out.new) result }
 {
     match list_states(rt, folder, table, manner, err) {

@@ -1,13 +1,15 @@
 //! The program's way from its words to its status.
-ghost use Rattle.std.specs.Prelude.{◌≡◌, ◌≢◌, ◌≤◌, IfErr, IfOk, map, option_map};
+ghost use Rattle.std.specs.Prelude.{◌≡◌, ◌≢◌, ◌≤◌, ◌⊎◌, IfErr, IfOk, map, option_map};
 ghost use Rattle.clap.specs.Words.{kind_of};
 ghost use Rattle.std.specs.List.{All};
 ghost use Rattle.av_program.specs.Skipping.{IsSkipped};
 ghost use Rattle.av_program.specs.RunCommand.{HasRunRegions};
-ghost use Rattle.av_program.specs.Running.{HasRun, HasRunBy, HasRunCommand, HasRunInFolder, HasRunProgram, HasRunWords, IsRefusalStatus, IsUnread};
+ghost use Rattle.av_program.specs.Running.{HasRun, HasRunBy, HasRunCommand, HasRunInFolder, HasRunOpened, HasRunProgram, HasRunWords, IsRefusalStatus, IsUnread, goes_on};
 ghost use Rattle.av_sink.specs.Account.{IsFresh};
+ghost use Rattle.av_folders.specs.Folders.{IsFolderFault};
 ghost use Rattle.av_commands.specs.Tables.{IsHeightBy};
 
+use crate::causes::failure_of_folder;
 use crate::checking::run_check;
 use crate::drawing::{Order, run_map};
 use crate::dry_run::run_dry;
@@ -18,13 +20,13 @@ use av_commands::block::{block_text, note_other_file};
 use av_commands::device::read_file;
 use av_commands::failure::Failure;
 use av_commands::manner::Manner;
+use av_commands::names::split_path;
 use av_commands::output::{FAULT, REFUSED, report_fault, report_output};
 use av_commands::reasons::report_failure;
 use av_commands::tables::read_height;
-use av_folders::progress::{end_steps, note_written};
-use av_folders::{LockFiles, hold_folder};
-use av_run::Ran;
-use av_sink::{OutputFolder, Sink};
+use av_folders::progress::end_steps;
+use av_folders::{LockFiles, RepairTeller, hold_output, note_removed, tidy};
+use av_sink::{OutputFolder, Repair};
 use av_types::{Fault, Height, Pos};
 use av_words::{RunWords, Words, words};
 use clap::Error;
@@ -32,7 +34,7 @@ use clap::error::ErrorKind;
 use std::alloc::{AllocError, Global};
 use std::env;
 use std::io::{self, Input, Write};
-use std::rt::{Env, Files};
+use std::rt::Env;
 use std::sync::Wait;
 use std::thread::Threads;
 
@@ -63,21 +65,40 @@ fn explain_words<O: Write, E: Write>(out: &mut O, err: &mut E, error: &Error) ->
     REFUSED
 }
 
+/// Repairs the folder of a file where a run was cut off there.
+fn tidy_around<R: LockFiles + Eprint + AllocGlobal + Clone + Drop, E: Write>(
+    rt: &R,
+    file: &str,
+    err: &mut E,
+) -> Result<(), Failure>
+    ensures { IfErr result (λ e. IsFolderFault file.now e.fault) }
+{
+    let (folder, _) = split_path(rt.alloc(), file)?;
+    let folder = if folder.is_empty() {
+        "."
+    } else {
+        folder.as_str()
+    };
+    tidy(rt, folder, file, err)
+}
+
 /// What `block` reads: the world's height, by the block table, and then the file.
-fn read_inputs<R: Files + Input + AllocGlobal>(
+fn read_inputs<R: LockFiles + Input + Eprint + AllocGlobal + Clone + Drop, E: Write>(
     rt: &R,
     file: &str,
     table: Option<&str>,
+    err: &mut E,
 ) -> Result<(Height, Vec<u8>), Failure>
     ensures height { IfOk result (λ read. IsHeightBy (option_map (λ t. t.now) table.entry) read.0) }
     ensures unread { IfErr result (λ e. IsUnread file.now (option_map (λ t. t.now) table.entry) e.fault) }
 {
     let height = read_height(rt, table)?;
+    tidy_around(rt, file, err)?;
     Ok((height, read_file(rt, file)?))
 }
 
 /// Reads a region file, and answers what block it has at a position.
-fn answer_block<R: Files + Input + AllocGlobal, O: Write, E: Write>(
+fn answer_block<R: LockFiles + Input + Eprint + AllocGlobal + Clone + Drop, O: Write, E: Write>(
     rt: &R,
     file: &str,
     pos: Pos,
@@ -89,13 +110,14 @@ fn answer_block<R: Files + Input + AllocGlobal, O: Write, E: Write>(
     ensures status { result ≤ REFUSED }
     ensures ran { HasRun file.now pos (option_map (λ t. t.now) table.entry) (O.contents out.old) (O.contents out.new) result }
 {
-    match read_inputs(rt, file, table) {
+    match read_inputs(rt, file, table, err) {
         Ok((height, bytes)) => block_text(
             rt.alloc(),
             file,
             bytes.as_slice(),
             pos,
             height,
+            manner.explains,
             out,
             err,
         ),
@@ -104,7 +126,7 @@ fn answer_block<R: Files + Input + AllocGlobal, O: Write, E: Write>(
 }
 
 /// Runs `block`.
-fn run_block<R: Files + Input + AllocGlobal, O: Write, E: Write>(
+fn run_block<R: LockFiles + Input + Eprint + AllocGlobal + Clone + Drop, O: Write, E: Write>(
     rt: &R,
     file: &str,
     pos: Pos,
@@ -123,18 +145,10 @@ fn run_block<R: Files + Input + AllocGlobal, O: Write, E: Write>(
     status
 }
 
-/// Says how many files a run has written, where it has.
-fn note_end<E: Write>(ran: &Result<Ran, Failure>, manner: Manner, err: &mut E) {
-    if let Ok(Ran::Done { outcome, .. }) = ran {
-        note_written(err, manner.progress, outcome.files.len());
-    }
-    end_steps(err, manner.progress);
-}
-
-/// Runs `run`, and hands its files to a sink that has taken none yet and has not failed.
+/// Runs `run`, and hands its files to a folder that has taken none yet and has not failed.
 fn run_regions<
-    R: Files + Input + AllocGlobal + Clone + Drop + Threads + Wait + Sync,
-    S: Sink,
+    R: LockFiles + Input + Eprint + AllocGlobal + Clone + Drop + Threads + Wait + Sync,
+    S: OutputFolder,
     O: Write,
     E: Write,
 >(rt: &R, request: Request<'_>, sink: &mut S, manner: Manner, out: &mut O, err: &mut E) -> u8
@@ -144,42 +158,114 @@ fn run_regions<
     ensures ran { HasRunRegions request.entry (S.account sink.old) (S.account sink.new) (O.contents out.old) (O.contents out.new) result }
 {
     let ran = run_over(rt, request, sink, manner, err);
-    note_end(&ran, manner, err);
+    end_steps(err, manner.progress);
     report(rt.alloc(), &ran, manner.explains, out, err)
 }
 
-/// Runs `run`, and hands its files to the folder of that name, which is held and looked at before anything is read.
-fn run_in_folder<
-    R: LockFiles + Input + AllocGlobal + Clone + Drop + Threads + Wait + Sync,
-    S: OutputFolder,
-    O: Write,
-    E: Write,
->(
-    rt: &R,
-    request: Request<'_>,
+/// Says why a folder failed, as well as that can be written, and answers the status.
+fn report_folder<S: OutputFolder, E: Write>(
+    alloc: Global,
     folder: &str,
     sink: &mut S,
     manner: Manner,
-    out: &mut O,
     err: &mut E,
 ) -> u8
+    ensures status { result ≡ FAULT }
+    ensures same { S.account sink.new ≡ S.account sink.old }
+{
+    let failed = sink.last_failed();
+    let failure = failure_of_folder(alloc, folder, failed);
+    report_failure(alloc, err, &failure, manner.explains)
+}
+
+/// Notes that all is told of a run, and answers its status, unless that can't be noted.
+fn close<S: OutputFolder, E: Write>(
+    alloc: Global,
+    folder: &str,
+    status: u8,
+    sink: &mut S,
+    manner: Manner,
+    err: &mut E,
+) -> u8
+    ensures status { (result ≡ status) ⊎ (result ≡ FAULT) }
+    ensures same { S.account sink.new ≡ S.account sink.old }
+{
+    match sink.close() {
+        Ok(()) => status,
+        Err(_) => report_folder(alloc, folder, sink, manner, err),
+    }
+}
+
+/// Whether a run goes on, by what was found in its folder.
+fn goes_on(again: bool, repaired: Repair) -> bool
+    ensures { result ≡ goes_on again repaired }
+{
+    again || repaired.finished.is_none()
+}
+
+/// Says what was found in the folder of a run, as well as that can be written.
+fn note_repair<E: Write>(request: Request<'_>, repaired: Repair, err: &mut E) {
+    note_removed(err, request.output, repaired);
+    if !goes_on(request.again, repaired) {
+        let _ = writeln!(
+            err,
+            "  nothing else is done, so that no tick is run twice: --again runs it anew"
+        );
+    }
+}
+
+/// Runs `run` in its folder, which was opened.
+fn run_opened<
+    R: LockFiles + Input + Eprint + AllocGlobal + Clone + Drop + Threads + Wait + Sync,
+    S: OutputFolder,
+    O: Write,
+    E: Write,
+>(rt: &R, request: Request<'_>, sink: &mut S, manner: Manner, out: &mut O, err: &mut E) -> u8
+    requires failures { (S.account sink.old).failures ≡ 0 }
+    requires handed { (S.account sink.old).handed ≡ 0 }
+    ensures status { result ≤ REFUSED }
+    ensures ran { HasRunOpened request.entry (S.account sink.old) (S.account sink.new) (O.contents out.old) (O.contents out.new) result }
+{
+    let teller = RepairTeller {
+        rt,
+        folder: request.output,
+    };
+    let repaired = match sink.repair(&teller) {
+        Ok(repaired) => repaired,
+        Err(_) => return report_folder(rt.alloc(), request.output, sink, manner, err),
+    };
+    note_repair(request, repaired, err);
+    if !goes_on(request.again, repaired) {
+        return 0;
+    }
+    let status = run_regions(rt, request, sink, manner, out, err);
+    close(rt.alloc(), request.output, status, sink, manner, err)
+}
+
+/// Runs `run`, and hands its files to its folder, which is held and looked at before anything is read.
+fn run_in_folder<
+    R: LockFiles + Input + Eprint + AllocGlobal + Clone + Drop + Threads + Wait + Sync,
+    S: OutputFolder,
+    O: Write,
+    E: Write,
+>(rt: &R, request: Request<'_>, sink: &mut S, manner: Manner, out: &mut O, err: &mut E) -> u8
     requires fresh { IsFresh (S.account sink.old) }
     ensures status { result ≤ REFUSED }
-    ensures ran { HasRunInFolder folder.now request.entry (S.account sink.old) (S.account sink.new) (O.contents out.old) (O.contents out.new) result }
+    ensures ran { HasRunInFolder request.entry (S.account sink.old) (S.account sink.new) (O.contents out.old) (O.contents out.new) result }
 {
-    let _held = match hold_folder(rt, folder) {
+    let _held = match hold_output(rt, request.output, request.in_use) {
         Ok(held) => held,
         Err(failure) => return report_failure(rt.alloc(), err, &failure, manner.explains),
     };
-    match sink.open(folder) {
-        Ok(()) => run_regions(rt, request, sink, manner, out, err),
+    match sink.open(request.output) {
+        Ok(()) => run_opened(rt, request, sink, manner, out, err),
         Err(_) => report_fault(err, &Fault::OutOfMemory),
     }
 }
 
 /// Runs `run`, or says what it would change where that alone is asked for.
 fn run_asked<
-    R: LockFiles + Input + AllocGlobal + Clone + Drop + Threads + Wait + Sync,
+    R: LockFiles + Input + Eprint + AllocGlobal + Clone + Drop + Threads + Wait + Sync,
     S: OutputFolder,
     O: Write,
     E: Write,
@@ -193,12 +279,12 @@ fn run_asked<
     if words.dry_run {
         return run_dry(rt, request, words.output, manner, out, err);
     }
-    run_in_folder(rt, request, words.output, sink, manner, out, err)
+    run_in_folder(rt, request, sink, manner, out, err)
 }
 
 /// The same. A file that is to be skipped and isn't there is refused before anything is read.
 fn run_run<
-    R: LockFiles + Input + AllocGlobal + Clone + Drop + Threads + Wait + Sync,
+    R: LockFiles + Input + Eprint + AllocGlobal + Clone + Drop + Threads + Wait + Sync,
     S: OutputFolder,
     O: Write,
     E: Write,
@@ -215,7 +301,7 @@ fn run_run<
 
 /// Runs a command. Where standard error is a terminal, it says how far long work is, and why it failed.
 fn run_command<
-    R: LockFiles + Input + AllocGlobal + Clone + Drop + Threads + Wait + Sync,
+    R: LockFiles + Input + Eprint + AllocGlobal + Clone + Drop + Threads + Wait + Sync,
     S: OutputFolder,
     O: Write,
     E: Write,
@@ -272,7 +358,7 @@ fn refuse_twice<E: Write>(err: &mut E) -> u8
 
 /// Runs the command that the words name.
 fn run_words<
-    R: LockFiles + Input + AllocGlobal + Clone + Drop + Threads + Wait + Sync,
+    R: LockFiles + Input + Eprint + AllocGlobal + Clone + Drop + Threads + Wait + Sync,
     S: OutputFolder,
     O: Write,
     E: Write,
@@ -308,7 +394,7 @@ fn as_texts(alloc: Global, words: &[String]) -> Result<Vec<&str>, AllocError> {
 /// status: 0, also where the version is asked for; 1 after a fault, where `check` found something, and where `states` left chunks
 /// out; 2 after words that are refused or call for help.
 pub fn run<
-    R: Env + LockFiles + Input + AllocGlobal + Clone + Drop + Threads + Wait + Sync,
+    R: Env + LockFiles + Input + Eprint + AllocGlobal + Clone + Drop + Threads + Wait + Sync,
     S: OutputFolder,
     O: Write,
     E: Write,

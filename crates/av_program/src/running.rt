@@ -1,22 +1,28 @@
 //! The command `run`: edits, water and light over the region files of a folder.
-ghost use Rattle.std.specs.Prelude.{◌≡◌, ◌≤◌, IfErr, IfOk, OnOk};
+ghost use Rattle.std.specs.Prelude.{◌≡◌, ◌≤◌, IfErr, IfOk, OnErr, OnOk, map};
 ghost use Rattle.std.specs.Io.KnownBytes.{Appends};
 ghost use Rattle.av_commands.specs.Output.{line};
-ghost use Rattle.av_program.specs.RunCommand.{HasCounts, HasReported, HasRunInto, HasRunOver, IsHandedOver, IsNotHandedOver, IsReadBy, IsRequestOf, IsRunOf, IsUnreadRun, IsWorkersBy, strict_text, uncovered_text};
+ghost use Rattle.av_sink.specs.Account.{with_files, with_places};
+ghost use Rattle.av_sink.specs.Saving.{named_file};
+ghost use Rattle.av_folders.specs.Folders.{IsFolderFault};
+ghost use Rattle.av_program.specs.RunCommand.{HasCounts, HasReported, HasRunInto, HasRunOver, IsHandedOver, IsNotHandedOver, IsNotTaken, IsReadBy, IsRequestOf, IsRunOf, IsUnreadRun, IsWorkersBy, strict_text, uncovered_text};
 
-use crate::causes::failure_of_run;
+use crate::causes::{failure_of_file, failure_of_run};
+use crate::dry_run::changes_of;
 use crate::skipping::read_others;
+use crate::steps::StepTeller;
+use av_changes::{CHANGED, Change, write_changes};
 use av_commands::device::read_text_or;
 use av_commands::failure::Failure;
-use av_commands::manner::Manner;
+use av_commands::manner::{Manner, Progress};
 use av_commands::output::{FAULT, report_output};
 use av_commands::reasons::report_failure;
 use av_commands::tables::read_table;
-use av_crew::NoGate;
-use av_folders::progress::note_step;
+use av_folders::LockFiles;
+use av_folders::progress::{end_steps, note_step};
 use av_region_files::RegionFile;
 use av_run::{Outcome, Ran, run_checked};
-use av_sink::{Sink, save_all};
+use av_sink::{OutputFolder, save_all};
 use av_types::Fault;
 use av_words::RunWords;
 use std::alloc::Global;
@@ -30,6 +36,8 @@ use std::thread::{self, Threads};
 pub(crate) struct Request<'a> {
     /// The folder whose region files are read.
     pub(crate) input: &'a str,
+    /// The folder that they are written to.
+    pub(crate) output: &'a str,
     /// The file of the block table, which is that of the program where none is named.
     pub(crate) table: Option<&'a str>,
     /// The file of the edits. There are none where none is named.
@@ -41,6 +49,10 @@ pub(crate) struct Request<'a> {
     pub(crate) skip: &'a [&'a str],
     /// Whether nothing is run where a state of the world has no row in the table.
     pub(crate) strict: bool,
+    /// Whether it is no matter that the game has the world open.
+    pub(crate) in_use: bool,
+    /// Whether it is run also where a run that was cut off is finished first.
+    pub(crate) again: bool,
 }
 
 /// The most workers of a run that are taken unasked.
@@ -73,12 +85,15 @@ pub(crate) fn request_of<'a, R: Threads>(rt: &R, words: &'a RunWords<'a>) -> Req
 {
     Request {
         input: words.input,
+        output: words.output,
         table: words.table,
         edits: words.edits,
         ticks: words.ticks,
         workers: workers_of(rt, words.workers),
         skip: words.skip.as_slice(),
         strict: words.strict,
+        in_use: words.in_use,
+        again: words.again,
     }
 }
 
@@ -91,7 +106,7 @@ pub(crate) struct Inputs {
 }
 
 /// What `run` reads: the table, the edits, and then the folder.
-pub(crate) fn read_inputs<R: Files + Input + AllocGlobal + Clone + Drop, E: Write>(
+pub(crate) fn read_inputs<R: LockFiles + Input + Eprint + AllocGlobal + Clone + Drop, E: Write>(
     rt: &R,
     request: Request<'_>,
     manner: Manner,
@@ -110,30 +125,62 @@ pub(crate) fn read_inputs<R: Files + Input + AllocGlobal + Clone + Drop, E: Writ
     })
 }
 
-/// Hands the files of a run to a sink that has taken none yet and has not failed.
-fn hand_over<S: Sink, E: Write>(
-    alloc: Global,
+/// Lets the files that a folder has taken take their places there.
+///
+/// Refuses with `Device` and the folder's name where they can't.
+fn place<S: OutputFolder>(alloc: Global, folder: &str, sink: &mut S) -> Result<(), Fault>
+    ensures ok { OnOk result (S.account sink.new ≡ with_places (S.account sink.old)) }
+    ensures err { OnErr result (S.account sink.new ≡ S.account sink.old) }
+    ensures named { IfErr result (IsFolderFault folder.now) }
+{
+    match sink.place() {
+        Ok(()) => Ok(()),
+        Err(_) => Err(Fault::Device(String::from_str(alloc, folder)?)),
+    }
+}
+
+/// Hands files to a folder that has taken none yet and has not failed, where they take their places.
+fn hand_over<R: Eprint + AllocGlobal, S: OutputFolder>(
+    rt: &R,
+    folder: &str,
+    files: &[RegionFile],
+    sink: &mut S,
+    progress: Progress,
+) -> Result<(), Fault>
+    requires failures { (S.account sink.old).failures ≡ 0 }
+    requires handed { (S.account sink.old).handed ≡ 0 }
+    ensures ok { OnOk result (S.account sink.new ≡ with_places (with_files (S.account sink.old) (map named_file files.now))) }
+    ensures err { IfErr result (IsNotTaken folder.now (S.account sink.old) (S.account sink.new) (map named_file files.now)) }
+{
+    let teller = StepTeller { rt, progress };
+    save_all(rt.alloc(), sink, files, &teller)?;
+    place(rt.alloc(), folder, sink)?;
+    Ok(())
+}
+
+/// Hands the files of a run over, where it has some.
+fn hand_over_run<R: Eprint + AllocGlobal, S: OutputFolder>(
+    rt: &R,
+    folder: &str,
     ran: &Ran,
     sink: &mut S,
-    manner: Manner,
-    err: &mut E,
+    progress: Progress,
 ) -> Result<(), Fault>
     requires failures { (S.account sink.old).failures ≡ 0 }
     requires handed { (S.account sink.old).handed ≡ 0 }
     ensures ok { OnOk result (IsHandedOver ran.now (S.account sink.old) (S.account sink.new)) }
-    ensures err { IfErr result (IsNotHandedOver ran.now (S.account sink.old) (S.account sink.new)) }
+    ensures err { IfErr result (IsNotHandedOver folder.now ran.now (S.account sink.old) (S.account sink.new)) }
 {
     match ran {
         Ran::Done { outcome, .. } => {
-            note_step(err, manner.progress, "writing");
-            save_all(alloc, sink, outcome.files.as_slice())
+            hand_over(rt, folder, outcome.files.as_slice(), sink, progress)
         }
         Ran::Uncovered(_) => Ok(()),
     }
 }
 
 /// Runs what was read.
-pub(crate) fn run_inputs<R: Files + Input + AllocGlobal + Threads + Wait + Sync, E: Write>(
+pub(crate) fn run_inputs<R: Files + Input + Eprint + AllocGlobal + Threads + Wait + Sync, E: Write>(
     rt: &R,
     inputs: Inputs,
     request: Request<'_>,
@@ -153,12 +200,40 @@ pub(crate) fn run_inputs<R: Files + Input + AllocGlobal + Threads + Wait + Sync,
         request.ticks,
         request.workers,
         request.strict,
-        &NoGate,
+        &StepTeller {
+            rt,
+            progress: manner.progress,
+        },
     )
 }
 
+/// What the files of a run change in the folder that they go to, where it is asked how far it is, and where that can be told.
+fn changes_asked<R: Files + AllocGlobal>(
+    rt: &R,
+    request: Request<'_>,
+    ran: &Ran,
+    manner: Manner,
+) -> Option<Vec<Change>> {
+    if manner.progress == Progress::Silent {
+        return None;
+    }
+    changes_of(rt, request.output, ran).ok()
+}
+
+/// Says what files have changed, as well as that can be written.
+fn note_changes<E: Write>(changes: Option<Vec<Change>>, progress: Progress, err: &mut E) {
+    if let Some(changes) = changes {
+        end_steps(err, progress);
+        let _ = write_changes(err, changes.as_slice(), CHANGED);
+    }
+}
+
 /// Runs what was read, and hands the files to a sink that has taken none yet and has not failed.
-fn run_into<R: Files + Input + AllocGlobal + Threads + Wait + Sync, S: Sink, E: Write>(
+fn run_into<
+    R: Files + Input + Eprint + AllocGlobal + Threads + Wait + Sync,
+    S: OutputFolder,
+    E: Write,
+>(
     rt: &R,
     inputs: Inputs,
     request: Request<'_>,
@@ -172,14 +247,33 @@ fn run_into<R: Files + Input + AllocGlobal + Threads + Wait + Sync, S: Sink, E: 
     ensures { HasRunInto request.entry inputs (S.account sink.old) (S.account sink.new) result }
 {
     let ran = run_inputs(rt, inputs, request, manner, err)?;
-    hand_over(rt.alloc(), &ran, sink, manner, err)?;
+    let changes = changes_asked(rt, request, &ran, manner);
+    hand_over_run(rt, request.output, &ran, sink, manner.progress)?;
+    note_changes(changes, manner.progress, err);
     Ok(ran)
+}
+
+/// The failure of a run with a fault: what a folder knows of a file that failed, or what else can be found.
+fn failure_after<R: LockFiles + Input + Eprint + AllocGlobal + Clone + Drop, S: OutputFolder>(
+    rt: &R,
+    request: Request<'_>,
+    fault: Fault,
+    sink: &mut S,
+    explains: bool,
+) -> Failure
+    ensures fault { result.fault ≡ fault }
+    ensures same { S.account sink.new ≡ S.account sink.old }
+{
+    match sink.last_failed() {
+        Some(failed) => failure_of_file(fault, failed),
+        None => failure_of_run(rt, request, fault, explains),
+    }
 }
 
 /// Reads what is asked for, runs it, and hands the files to a sink that has taken none yet and has not failed.
 pub(crate) fn run_over<
-    R: Files + Input + AllocGlobal + Clone + Drop + Threads + Wait + Sync,
-    S: Sink,
+    R: LockFiles + Input + Eprint + AllocGlobal + Clone + Drop + Threads + Wait + Sync,
+    S: OutputFolder,
     E: Write,
 >(rt: &R, request: Request<'_>, sink: &mut S, manner: Manner, err: &mut E) -> Result<Ran, Failure>
     requires failures { (S.account sink.old).failures ≡ 0 }
@@ -189,7 +283,7 @@ pub(crate) fn run_over<
     let inputs = read_inputs(rt, request, manner, err)?;
     match run_into(rt, inputs, request, sink, manner, err) {
         Ok(ran) => Ok(ran),
-        Err(fault) => Err(failure_of_run(rt, request, fault, manner.explains)),
+        Err(fault) => Err(failure_after(rt, request, fault, sink, manner.explains)),
     }
 }
 

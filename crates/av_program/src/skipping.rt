@@ -11,7 +11,7 @@ use av_commands::failure::{Failure, UnreadFile};
 use av_commands::manner::Manner;
 use av_commands::names::region_of_name;
 use av_commands::output::{FAULT, report_fault};
-use av_folders::{read_folder, read_readable};
+use av_folders::{LockFiles, read_folder, read_readable};
 use av_region_files::{RegionFile, region_name};
 use av_types::Fault;
 use std::alloc::{AllocError, Global};
@@ -157,7 +157,7 @@ fn first_unread<E: Write>(unread: Vec<UnreadFile>, skip: &[&str], err: &mut E) -
 }
 
 /// The region files of a folder but those that are skipped, where some are.
-fn read_unskipped<R: Files + AllocGlobal + Clone + Drop, E: Write>(
+fn read_unskipped<R: LockFiles + Eprint + AllocGlobal + Clone + Drop, E: Write>(
     rt: &R,
     folder: &str,
     skip: &[&str],
@@ -179,7 +179,7 @@ fn read_unskipped<R: Files + AllocGlobal + Clone + Drop, E: Write>(
 /// # Errors
 /// `Device` with the folder's name as it was given, where it can't be listed, or with the name of the first file
 /// that is not skipped and can't be read, without the folder's; and want of memory.
-pub(crate) fn read_others<R: Files + AllocGlobal + Clone + Drop, E: Write>(
+pub(crate) fn read_others<R: LockFiles + Eprint + AllocGlobal + Clone + Drop, E: Write>(
     rt: &R,
     folder: &str,
     skip: &[&str],

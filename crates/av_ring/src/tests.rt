@@ -1,5 +1,6 @@
 //! Jobs that are their own numbers, taken by one worker and by eight in threads of their own.
-ghost use Rattle.std.specs.Prelude.{◌≡◌, ◌+◌, ◌<◌, ◌≤◌, IfOk, All, vec_len};
+ghost use Rattle.std.specs.Prelude.{◌≡◌, ◌+◌, ◌<◌, ◌≤◌, ◌++◌, IfOk, All, vec_len};
+ghost use Rattle.std.specs.List.Sorted.{IsPermutation};
 ghost use Rattle.av_ring.specs.Numbers.{HaveDistinctNumbers};
 ghost use Rattle.av_ring.specs.Shown.{IsSeatOf};
 
@@ -31,18 +32,45 @@ fn take_up_to<R: Wait>(
     most: usize,
 ) -> Part
     requires { IsSeatOf ring.now seat }
-    ensures { IsSeatOf ring.now result.0 }
+    ensures of_ring { IsSeatOf ring.now result.0 }
+    ensures jobs { result.0.jobs ≡ seat.jobs }
+    ensures taken { result.0.taken ≡ seat.taken ++ result.1.items }
 {
     let mut taken = Vec::new(alloc);
     for _ in 0..most {
-        let Some(job) = ring.take(rt, &mut seat) else {
-            return (seat, taken);
-        };
-        let Ok(()) = taken.push(job) else {
-            return (seat, taken);
-        };
+        if taken.reserve(1).is_err() {
+            break;
+        }
+        match ring.take(rt, &mut seat) {
+            Some(job) => taken.push_reserved(job),
+            None => break,
+        }
     }
     (seat, taken)
+}
+
+/// Fills a ring, takes up to so many jobs at its one seat, and closes it: what was taken, in order, and what was left.
+fn exchange_alone<R: Wait>(
+    rt: &R,
+    alloc: Global,
+    jobs: Vec<u32>,
+    most: usize,
+) -> Result<(Vec<u32>, Vec<u32>), Fault>
+    requires { HaveDistinctNumbers (λ n. n) jobs.items }
+    ensures { IfOk result (λ r. IsPermutation jobs.items (r.0.items ++ r.1.items)) }
+{
+    let Ok((ring, mut seats)) = JobRing::fill(rt, alloc, jobs, 1) else {
+        return Err(Fault::OutOfMemory);
+    };
+    let Some(seat) = seats.pop() else {
+        unreachable!()
+    };
+    let (seat, taken) = take_up_to(rt, alloc, &ring, seat, most);
+    seats.push(seat)?;
+    let Ok(left) = ring.close(rt, alloc, seats) else {
+        return Err(Fault::OutOfMemory);
+    };
+    Ok((taken, left))
 }
 
 /// Takes at each seat in a thread of its own.
@@ -146,6 +174,17 @@ fn after_two_takes_one_job_is_left(rt: HostRuntime) -> Result<(), Fail> {
     all.sort()?;
     assert_eq!(rt; all.as_slice(), [3, 7, 9].as_slice());
     assert_eq!(rt; left[0].number(), left[0]);
+    Ok(())
+}
+
+#[test]
+fn one_seat_takes_two_jobs_and_leaves_one(rt: HostRuntime) -> Result<(), Fail> {
+    let (mut taken, mut left) = exchange_alone(&rt, rt.alloc(), three(rt.alloc())?, 2)?;
+    assert_eq!(rt; taken.len(), 2);
+    assert_eq!(rt; left.len(), 1);
+    taken.append(&mut left)?;
+    taken.sort()?;
+    assert_eq!(rt; taken.as_slice(), [3, 7, 9].as_slice());
     Ok(())
 }
 

@@ -11,6 +11,7 @@ use Rattle.av_rules.specs.Kinds.{rows_in, wets_in, table_in, kind_count}
 use Rattle.av_rules.specs.declared.kinds.Kinds.{Kinds}
 use Rattle.av_land.specs.Land.{is_loaded}
 use Rattle.av_land.specs.Good.{Good, IsTimely, HasIntCoordinates, IsSetOf}
+use Rattle.av_edits.specs.Edits.{lines_of_edits}
 use Rattle.av_edits.specs.Numbered.{number_sets}
 use Rattle.av_world.specs.Lands.{land_of, IsUncarved}
 use Rattle.av_world.specs.Views.{height_of, positions_of, is_broken}
@@ -34,7 +35,7 @@ pub record IsLoadedFrom (h : Height) (files : List File) (l : Loaded) : Type 0 w
   pub sound : is_broken l.world ≡ false
   pub rest_of : IsRestOf h (positions_of l.world) l.rest
 
--- the world and the rest of files, the edits of a text, and the kinds that a block table says
+-- the world and the rest of files, the edits of a text with their lines, and the kinds that a block table says
 pub record IsInput (files : List File) (table edits : List ℕ) (n : ℕ) (i : Input) : Type 0 where
   pub rules : BlockTable
   pub height : Height
@@ -43,6 +44,7 @@ pub record IsInput (files : List File) (table edits : List ℕ) (n : ℕ) (i : I
   pub kinds : AreKindsBy rules i.kinds
   pub load : IsLoad height files known (land_of i.world) (rest_in i.rest)
   pub read : AreEdits (is_loaded (land_of i.world)) n edits known (states (table_in i.kinds)) (number_sets i.edits.items)
+  pub lines : map (λ e. e.line) i.edits.items ≡ lines_of_edits edits
   pub whole : IsUncarved i.world
   pub sound : is_broken i.world ≡ false
   pub rest_of : IsRestOf height (positions_of i.world) i.rest

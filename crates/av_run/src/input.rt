@@ -4,7 +4,7 @@ ghost use Rattle.av_types.specs.declared.fault.Fault.TheVariants.{OutOfMemory, B
 ghost use Rattle.av_state.specs.Table.{states};
 ghost use Rattle.av_rules.specs.Tables.{table_of};
 ghost use Rattle.av_land.specs.Land.{is_loaded};
-ghost use Rattle.av_edits.specs.Edits.{first_in_edits};
+ghost use Rattle.av_edits.specs.Edits.{first_in_edits, lines_of_edits};
 ghost use Rattle.av_edits.specs.Numbered.{number_sets};
 ghost use Rattle.av_world.specs.Lands.{land_of, IsUncarved};
 ghost use Rattle.av_files.specs.Files.{File};
@@ -86,6 +86,7 @@ fn read_edits(
 ) -> Result<Vec<Edit>, Fault>
     requires { IsUncarved world.now }
     ensures ok { IfOk result (λ es. AreEdits (is_loaded (land_of world.now)) ticks text.now (states table.old) (states table.new) (number_sets es.items)) }
+    ensures lines { IfOk result (λ es. map (λ e. e.line) es.items ≡ lines_of_edits text.now) }
     ensures err { IfErr result (λ e. e ≢ OutOfMemory → first_in_edits (is_loaded (land_of world.now)) ticks (states table.old) text.now ≡ Some e) }
 {
     av_edits::read(alloc, text, ticks, world, table)

@@ -11,7 +11,7 @@ ghost use Rattle.av_run.specs.Finished.{reached_from, IsFinished};
 use crate::input::Input;
 use crate::release::release;
 use crate::writing::written;
-use av_crew::{Gate, run_ticks};
+use av_crew::{Gate, Step, run_ticks};
 use av_region_files::RegionFile;
 use av_types::Fault;
 use std::alloc::Global;
@@ -29,7 +29,7 @@ pub struct Outcome {
     pub chunks: u64,
 }
 
-/// The ticks of a run, the light after them, and the files.
+/// The ticks of a run, the light after them, and the files. The gate is told of these steps.
 pub(crate) fn finish<R: Threads + Wait + Sync, G: Gate + Sync>(
     rt: &R,
     alloc: Global,
@@ -46,6 +46,8 @@ pub(crate) fn finish<R: Threads + Wait + Sync, G: Gate + Sync>(
     let mut world = input.world;
     let rest = input.rest;
     let kinds = input.kinds;
+    let chunks = world.positions().len() as u64;
+    gate.reached(Step::Loaded { chunks });
     let turns = run_ticks(
         rt,
         alloc,
@@ -56,8 +58,7 @@ pub(crate) fn finish<R: Threads + Wait + Sync, G: Gate + Sync>(
         workers,
         gate,
     )?;
-    let files = written(rt, alloc, &world, &rest, &kinds, ticks)?;
-    let chunks = world.positions().len() as u64;
+    let files = written(rt, alloc, &world, &rest, &kinds, ticks, gate)?;
     release(rt, world, rest);
     Ok(Outcome {
         files,

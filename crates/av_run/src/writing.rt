@@ -11,6 +11,7 @@ ghost use Rattle.av_image.specs.Saving.{IsRestOf, states_in};
 ghost use Rattle.av_run.specs.Written.{AreFilesOf, IsNotWritten};
 ghost use Rattle.av_run.specs.Input.{AreKindsBy};
 
+use av_crew::{Gate, Step};
 use av_image::{Rest, save_on};
 use av_light::light_all;
 use av_region_files::RegionFile;
@@ -20,14 +21,16 @@ use av_world::World;
 use std::alloc::Global;
 use std::thread::Threads;
 
-/// The files that a world with its rest is written as after so many ticks, with its light.
-pub fn written(
+/// The files that a world with its rest is written as after so many ticks, with its light. The gate is told of both before
+/// they are made.
+pub fn written<G: Gate>(
     rt: &(impl Threads + Sync),
     alloc: Global,
     world: &World,
     rest: &Rest,
     kinds: &Kinds,
     ticks: u32,
+    gate: &G,
 ) -> Result<Vec<RegionFile>, Fault>
     requires whole { IsUncarved world.now }
     requires sound { is_broken world.now ≡ false }
@@ -36,6 +39,12 @@ pub fn written(
     ensures ok { IfOk result (λ files. (t : BlockTable) → AreKindsBy t kinds.now → AreFilesOf t (states_in kinds.now world.now) (rest_in rest.now) ticks (map file_in files.items)) }
     ensures err { IfErr result (λ e. e ≢ OutOfMemory → (t : BlockTable) → AreKindsBy t kinds.now → IsNotWritten t (states_in kinds.now world.now) (rest_in rest.now) ticks e) }
 {
+    gate.reached(Step::Light {
+        chunks: world.positions().len() as u64,
+    });
     let lights = light_all(rt, alloc, world, kinds)?;
+    gate.reached(Step::Files {
+        files: rest.regions.len() as u64,
+    });
     save_on(rt, alloc, world, rest, kinds, lights.as_slice(), ticks)
 }

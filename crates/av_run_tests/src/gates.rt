@@ -1,12 +1,12 @@
-//! A run hands its gate and its number of workers on to its ticks.
+//! A run hands its gate and its number of workers on to its ticks, and tells the gate of its steps.
 use crate::given::{Given, flat, one_region, only_file, run_gated, table_with};
-use av_crew::{Done, Gate, Job, NoGate};
+use av_crew::{Done, Gate, Job, NoGate, Step};
 use av_image_tests::flat::flat_region;
 use av_run::Outcome;
 use std::alloc::Global;
 use std::sync::Wait;
-use std::sync::atomic::AtomicU64;
 use std::sync::atomic::Ordering::SeqCst;
+use std::sync::atomic::{AtomicU64, AtomicUsize};
 use std::test::Fail;
 use std::thread::Threads;
 
@@ -100,6 +100,50 @@ impl Gate for Counting {
     fn after(&self, _done: &Done) {}
 }
 
+/// Wants to be told of these steps, in this order, and counts the others.
+#[derive(Drop)]
+struct Expecting<'a> {
+    steps: &'a [Step],
+    told: AtomicUsize,
+    others: AtomicUsize,
+}
+
+impl<'a> Expecting<'a> {
+    fn of(steps: &'a [Step]) -> Expecting<'a> {
+        Expecting {
+            steps,
+            told: AtomicUsize::new(0),
+            others: AtomicUsize::new(0),
+        }
+    }
+
+    /// How many steps it was told of, and how many of them were others than those wanted.
+    fn counts(&self) -> (usize, usize) {
+        (self.told.load(SeqCst), self.others.load(SeqCst))
+    }
+}
+
+impl<'a> Gate for Expecting<'a> {
+    ghost saw_job = { λ _ _. Unit {0} };
+
+    ghost saw_done = { λ _ _. Unit {0} };
+
+    fn watches(&self) -> bool {
+        false
+    }
+
+    fn before(&self, _job: &Job) {}
+
+    fn after(&self, _done: &Done) {}
+
+    fn reached(&self, step: Step) {
+        let place = self.told.fetch_add(1, SeqCst);
+        if self.steps.get(place) != Some(&step) {
+            self.others.fetch_add(1, SeqCst);
+        }
+    }
+}
+
 /// Six ticks of two flat chunks.
 fn ran<G: Gate + Sync>(
     rt: &(impl Threads + Wait + Sync),
@@ -130,5 +174,23 @@ fn jobs_of_a_run_meet(rt: HostRuntime) -> Result<(), Fail> {
     assert_eq!(rt; outcome.turns, 2);
     let alone = ran(&rt, alloc, 1, &NoGate)?;
     assert!(rt; only_file(outcome)? == only_file(alone)?);
+    Ok(())
+}
+
+/// Two chunks are read, sources are set in tick 1 and turned in tick 6, and then the light and the one file are made.
+#[test]
+fn a_run_tells_of_its_steps(rt: HostRuntime) -> Result<(), Fail> {
+    let steps = [
+        Step::Loaded { chunks: 2 },
+        Step::Ticks { done: 1, all: 6 },
+        Step::Ticks { done: 6, all: 6 },
+        Step::Light { chunks: 2 },
+        Step::Files { files: 1 },
+    ];
+    for workers in [1, 2] {
+        let gate = Expecting::of(&steps);
+        ran(&rt, rt.alloc(), workers, &gate)?;
+        assert_eq!(rt; gate.counts(), (5, 0));
+    }
     Ok(())
 }

@@ -12,6 +12,8 @@ mod given;
 #[cfg(test)]
 mod inputs;
 #[cfg(test)]
+mod kept;
+#[cfg(test)]
 mod parts;
 #[cfg(test)]
 mod refusals;

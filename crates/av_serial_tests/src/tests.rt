@@ -154,6 +154,16 @@ fn a_source_spreads(rt: HostRuntime) -> Result<(), Fail> {
     Ok(())
 }
 
+/// A source that waits for nothing is set to the state that it has: it wakes, and so it spreads.
+#[test]
+fn a_block_that_is_set_to_its_state_wakes(rt: HostRuntime) -> Result<(), Fail> {
+    let alloc = rt.alloc();
+    let world = world_of(alloc, &[ORIGIN], &[at(8, 64, 8)], &[])?;
+    let after = ran(alloc, 1, world, W, 6)?;
+    expect_after(&rt, alloc, &after, spread(11))?;
+    Ok(())
+}
+
 /// Each block of water is at y 64, and its level is its distance from (8, 64, 8).
 fn expect_distances(rt: &impl Abort, water: &[WetBlock]) {
     for (x, y, z, level) in water {

@@ -4,5 +4,5 @@
 pub mod saving;
 pub mod sink;
 
-pub use saving::save_all;
-pub use sink::{OutputFolder, Sink, SinkFailed};
+pub use saving::{NoTeller, Teller, save_all};
+pub use sink::{FailedFile, OutputFolder, Repair, Sink, SinkFailed};

@@ -44,30 +44,58 @@ fn hand_over<S: Sink>(sink: &mut S, file: Named<'_>) -> Result<(), Fault>
     }
 }
 
+/// Is told what becomes of files.
+pub trait Teller {
+    /// A sink has taken so many of all files.
+    fn taken(&self, _done: usize, _all: usize) {}
+
+    /// So many files of a run that was cut off have their places. What shows that there was one goes only then, so that it is told by this
+    /// call or by the next.
+    fn finished(&self, _files: usize) {}
+}
+
+/// Tells nobody.
+pub struct NoTeller;
+
+impl Teller for NoTeller {}
+
 /// Hands files over in their order, up to the first that is not taken.
-fn hand_over_all<S: Sink>(sink: &mut S, all: Vec<Named<'_>>) -> Result<(), Fault>
+fn hand_over_all<S: Sink, T: Teller>(
+    sink: &mut S,
+    all: Vec<Named<'_>>,
+    teller: &T,
+) -> Result<(), Fault>
     requires failures { (S.account sink.old).failures < 2 ^ 64 - 1 }
     requires handed { (S.account sink.old).handed + length all.items ≤ 2 ^ 64 - 1 }
     ensures ok { OnOk result (S.account sink.new ≡ with_files (S.account sink.old) (map entry_of all.entry.items)) }
     ensures err { IfErr result (IsStopped (S.account sink.old) (S.account sink.new) (map entry_of all.entry.items)) }
 {
+    let count = all.len();
+    let mut done: usize = 0;
     for file in all {
         hand_over(sink, file)?;
+        done = done.saturating_add(1);
+        teller.taken(done, count);
     }
     Ok(())
 }
 
-/// Hands files to a sink, each once and in their order, under their names `r.X.Z.mca`. The sink has failed less than
+/// Hands files to a sink, each once and in their order, under their names `r.X.Z.mca`, and tells of each that was taken. The sink has failed less than
 /// 2^64 - 1 times, and its count of files has room for these.
 ///
 /// Refuses with `Device` and the file's name where the sink does not take a file: those before it were handed over,
 /// and none behind it. With `OutOfMemory` nothing was handed over.
-pub fn save_all<S: Sink>(alloc: Global, sink: &mut S, files: &[RegionFile]) -> Result<(), Fault>
+pub fn save_all<S: Sink, T: Teller>(
+    alloc: Global,
+    sink: &mut S,
+    files: &[RegionFile],
+    teller: &T,
+) -> Result<(), Fault>
     requires failures { (S.account sink.old).failures < 2 ^ 64 - 1 }
     requires handed { (S.account sink.old).handed + length files.now ≤ 2 ^ 64 - 1 }
     ensures ok { OnOk result (S.account sink.new ≡ with_files (S.account sink.old) (map named_file files.now)) }
     ensures err { IfErr result (IsStopped (S.account sink.old) (S.account sink.new) (map named_file files.now)) }
 {
     let all = with_names(alloc, files)?;
-    hand_over_all(sink, all)
+    hand_over_all(sink, all, teller)
 }

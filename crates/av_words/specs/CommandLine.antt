@@ -74,11 +74,13 @@ with_counts app = with_rule (with_rule (with_rule app
     (count_rule (codes "workers") false))
     (repeated_rule (codes "skip"))
 
--- `[--strict] [--dry-run]`
+-- `[--strict] [--dry-run] [--again] [--in-use]`
 abbrev pub with_flags : App → App
-with_flags app = with_rule (with_rule app
+with_flags app = with_rule (with_rule (with_rule (with_rule app
     (flag_rule (codes "strict")))
-    (flag_rule (codes "dry-run"))
+    (flag_rule (codes "dry-run")))
+    (flag_rule (codes "again")))
+    (flag_rule (codes "in-use"))
 
 -- `run` with these and `[--progress] [--explain]`
 abbrev pub run_app : App
@@ -168,6 +170,8 @@ pub record HasRunValues (rows : List Row) (run : RunWords) : Type 0 where
   pub skip : HasTexts rows (codes "skip") run.skip.items
   pub strict : HasFlag rows (codes "strict") run.strict
   pub dry_run : HasFlag rows (codes "dry-run") run.dry_run
+  pub again : HasFlag rows (codes "again") run.again
+  pub in_use : HasFlag rows (codes "in-use") run.in_use
   pub progress : HasFlag rows (codes "progress") run.progress
   pub explain : HasFlag rows (codes "explain") run.explain
 

@@ -111,14 +111,18 @@ fn with_flags<'a>(alloc: Global, run: Command<'a>) -> Result<Command<'a>, Error>
 {
     let strict = "Runs nothing where a block state of the world has no row in the table";
     let dry_run = "Says which files and how many of their chunks would change, and writes nothing";
+    let again = "Runs also where an earlier run that was cut off is finished first";
+    let in_use = "Runs although the game has the world open";
     let run = run
         .arg(flag(alloc, "strict", strict))?
-        .arg(flag(alloc, "dry-run", dry_run))?;
+        .arg(flag(alloc, "dry-run", dry_run))?
+        .arg(flag(alloc, "again", again))?
+        .arg(flag(alloc, "in-use", in_use))?;
     Ok(run)
 }
 
 /// `run --in DIR --out DIR [--table FILE] [--edits FILE] --ticks N [--workers N] [--skip NAME].. [--strict] [--dry-run]
-/// [--progress] [--explain]`.
+/// [--again] [--in-use] [--progress] [--explain]`.
 fn run_command<'a>(alloc: Global) -> Result<Command<'a>, Error>
     ensures app { IfOk result (λ c. app_of c ≡ run_app) }
     ensures local { IfOk result (λ c. (out-Command c).has_globals ≡ false) }
@@ -126,7 +130,7 @@ fn run_command<'a>(alloc: Global) -> Result<Command<'a>, Error>
 {
     let about = "Runs edits, water and block light over the region files of a folder";
     let usage =
-        "anvilwater run --in DIR --out DIR [--table FILE] [--edits FILE] --ticks N [--workers N] [--skip NAME].. [--strict] [--dry-run] [--progress] [--explain]";
+        "anvilwater run --in DIR --out DIR [--table FILE] [--edits FILE] --ticks N [--workers N] [--skip NAME].. [--strict] [--dry-run] [--again] [--in-use] [--progress] [--explain]";
     let run = with_files(alloc, command(alloc, "run", about, usage))?;
     let run = with_counts(alloc, run)?;
     let run = with_flags(alloc, run)?
@@ -261,6 +265,8 @@ fn values_of_run<'a>(matches: &ArgMatches<'a>, skip: Vec<&'a str>) -> Option<Run
     let workers = count_if_given(matches, "workers")?;
     let strict = is_given(matches, "strict");
     let dry_run = is_given(matches, "dry-run");
+    let again = is_given(matches, "again");
+    let in_use = is_given(matches, "in-use");
     let progress = is_given(matches, "progress");
     let explain = is_given(matches, "explain");
     Some(RunWords {
@@ -273,6 +279,8 @@ fn values_of_run<'a>(matches: &ArgMatches<'a>, skip: Vec<&'a str>) -> Option<Run
         skip,
         strict,
         dry_run,
+        again,
+        in_use,
         progress,
         explain,
     })

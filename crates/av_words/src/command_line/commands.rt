@@ -34,6 +34,10 @@ pub struct RunWords<'a> {
     pub strict: bool,
     /// Whether to say what would change, and write nothing.
     pub dry_run: bool,
+    /// Whether to run also where an earlier run that was cut off is finished first.
+    pub again: bool,
+    /// Whether to run although the game has the world open.
+    pub in_use: bool,
     /// Whether to say how far it is.
     pub progress: bool,
     /// Whether to say why it failed.

@@ -42,6 +42,20 @@ loop-file-preserved-in_ok-write_failure-3 g c =
     c.in-Some.ensures.steps.0 c.loop-file.invariant.split c.loop-file.invariant.told c.from-failure.ensures c.in_ok-write_failure.ensures in
     record { split = more.0; told = more.1 }
 
+pub loop-file-preserved-in_ok-write_failure-4 : goal.loop-file-preserved-in_ok-write_failure-4
+loop-file-preserved-in_ok-write_failure-4 g c =
+    let more = told_more c.args.explains c.args.unread.items c.loop-file.yielded (into_iter_items c.loop-file.file-iterator) (into_iter_items c.next.new.self) c.in-Some.file
+    c.from-failure.result.fault (g.E.Write.contents c.args.err.now) (g.E.Write.contents c.loop-file.err) (g.E.Write.contents c.write_failure.new.err)
+    c.in-Some.ensures.steps.0 c.loop-file.invariant.split c.loop-file.invariant.told c.from-failure.ensures c.in_ok-write_failure.ensures in
+    record { split = more.0; told = more.1 }
+
+pub loop-file-preserved-in_ok-write_failure-5 : goal.loop-file-preserved-in_ok-write_failure-5
+loop-file-preserved-in_ok-write_failure-5 g c =
+    let more = told_more c.args.explains c.args.unread.items c.loop-file.yielded (into_iter_items c.loop-file.file-iterator) (into_iter_items c.next.new.self) c.in-Some.file
+    c.from-failure.result.fault (g.E.Write.contents c.args.err.now) (g.E.Write.contents c.loop-file.err) (g.E.Write.contents c.write_failure.new.err)
+    c.in-Some.ensures.steps.0 c.loop-file.invariant.split c.loop-file.invariant.told c.from-failure.ensures c.in_ok-write_failure.ensures in
+    record { split = more.0; told = more.1 }
+
 pub loop-file-preserved : goal.loop-file-preserved
 loop-file-preserved g c =
     let more = told_more c.args.explains c.args.unread.items c.loop-file.yielded (into_iter_items c.loop-file.file-iterator) (into_iter_items c.next.new.self) c.in-Some.file

@@ -1,9 +1,9 @@
-use Rattle.std.proofs.Common.{◌++◌, ◌∷◌, [], ap, sym, subst, ◌∙◌, arith, length, length-append, append_assoc, refl, ℕ}
+use Rattle.std.proofs.Common.{◌++◌, ◌∷◌, [], ap, sym, subst, ◌∙◌, arith, length, length-append, append_assoc, refl, ℕ, vec_len}
 use Rattle.av_world.specs.Views.{grid}
 use Rattle.av_crew.specs.Jobs.{IsJob, AreJobs, IsCarved}
 use Rattle.av_cluster.specs.Clusters.{parts_of}
 use Rattle.av_crew.specs.Parts.{picks_of, HaveParts, CarvesOne}
-use Rattle.av_crew.proofs.Steps.{can_carve, job_is, carved_more, are_more, same_trans, parts_more, at_middle}
+use Rattle.av_crew.proofs.Steps.{can_carve, job_is, carved_more, are_more, same_trans, parts_more, at_middle, carved_first}
 use Rattle.av_crew.proofs.parts.carve_all.Goals as goal
 
 pub carve_one-requires-clause-can : goal.carve_one-requires-clause-can
@@ -37,3 +37,14 @@ loop-cluster-preserved c =
       same_trans _ _ _ i.7 e.same,
       split ∙ sym (append_assoc c.loop-cluster.yielded (c.in-Some.cluster ∷ []) c.next.new.self.rest.items),
     )
+
+pub returns-in_err-reserve-clause-carved : goal.returns-in_err-reserve-clause-carved
+returns-in_err-reserve-clause-carved c =
+    let i = c.loop-cluster.invariant in
+    carved_first (grid c.args.world.now) (picks_of c.args.clusters.items) c.args.clusters.items c.loop-cluster.yielded c.loop-cluster.cluster-iterator.rest.items i.8 (vec_len c.args.clusters) c.args.clusters.ok.0 (grid c.loop-cluster.world) i.5
+
+pub returns-in_err-carve_one-clause-carved : goal.returns-in_err-carve_one-clause-carved
+returns-in_err-carve_one-clause-carved c =
+    let i = c.loop-cluster.invariant in
+    subst (λ rest. IsCarved (grid c.args.world.now) (picks_of c.args.clusters.items) (vec_len c.args.clusters) rest) (sym c.in_err-carve_one.ensures.unchanged)
+    (carved_first (grid c.args.world.now) (picks_of c.args.clusters.items) c.args.clusters.items c.loop-cluster.yielded c.loop-cluster.cluster-iterator.rest.items i.8 (vec_len c.args.clusters) c.args.clusters.ok.0 (grid c.loop-cluster.world) i.5)

@@ -1,9 +1,9 @@
-use Rattle.std.proofs.Common.{◌++◌, ap, sym, ◌∙◌, append_assoc, arith, length, length-append, [], ◌∷◌}
+use Rattle.std.proofs.Common.{◌++◌, ap, sym, ◌∙◌, append_assoc, arith, length, length-append, [], ◌∷◌, ◌||◌}
 use Rattle.std.specs.List.{flat_map}
 use Rattle.av_world.specs.Views.{lists}
 use Rattle.av_world.specs.ParcelViews.{blocks as parcel_blocks}
 use Rattle.av_world.specs.OutOf.{mended}
-use Rattle.av_crew.proofs.Steps.{mended_push, flat_push, same_trans, whole_more}
+use Rattle.av_crew.proofs.Steps.{mended_push, flat_push, same_trans, refused_more}
 use Rattle.av_crew.proofs.parts.mend_all.Goals as goal
 
 pub loop-done-preserved : goal.loop-done-preserved
@@ -18,5 +18,5 @@ loop-done-preserved c =
           ∙ append_assoc _ _ c.in-Some.done.made.items ∙ ap (λ l. flat_map (λ m. m.items) c.args.made.now.items ++ l) (sym (flat_push (λ d. d.made.items) c.loop-done.yielded c.in-Some.done)),
       (let m = ap length e.made ∙ length-append c.loop-done.made.items (c.in-Some.done.made ∷ []) in let n = length-append c.loop-done.yielded (c.in-Some.done ∷ []) in omega (arith, m, n, i.5)),
       e.capacity ∙ i.6,
-      λ f. whole_more _ _ (i.7 (c.either-refused.ensures.first f)) (e.fault (c.either-refused.ensures.second f)),
+      c.either-refused.ensures ∙ (λ t. i.7 t || e.refused t) ∙ sym (refused_more c.loop-done.yielded c.in-Some.done),
     )

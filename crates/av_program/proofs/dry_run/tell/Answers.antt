@@ -1,4 +1,4 @@
-use Rattle.std.proofs.Common.{subst, List}
+use Rattle.std.proofs.Common.{subst, codes, List}
 use Rattle.std.specs.Io.KnownBytes.{Appends}
 use Rattle.av_changes.specs.declared.change.Change.{Change}
 use Rattle.av_changes.specs.Changes.{change_lines}
@@ -8,5 +8,5 @@ use Rattle.av_program.proofs.dry_run.tell.Goals as goal
 pub returns-in-Ok : goal.returns-in-Ok
 returns-in-Ok g c =
     told (g.O.Write.contents c.write_changes.new.out)
-    (subst (λ (cs : List Change). Appends (g.O.Write.contents c.args.out.now) (g.O.Write.contents c.write_changes.new.out) (change_lines cs))
+    (subst (λ (cs : List Change). Appends (g.O.Write.contents c.args.out.now) (g.O.Write.contents c.write_changes.new.out) (change_lines (codes "would change") cs))
     c.as_slice.ensures.value c.in-Ok.ensures) c.report.ensures

@@ -14,7 +14,7 @@ over : (q : Request) (old new : Account) (i : Inputs) (answer : Result Ran Fault
     → MatchResult answer (λ r. HasRunOver q old new (Ok r)) (λ e. (x : Failure) → x.fault ≡ e → HasRunOver q old new (Err x))
 over q old new i _ (ran r answer files) = read i r answer files
 over q old new i _ (refused e answer same) = λ x is. unread x same
-over q old new i _ (stopped e r answer stops) = λ x is. stopped_at i r x answer (subst (λ (f : Fault). IsNotHandedOver r old new f) (sym is) stops)
+over q old new i _ (stopped e r answer stops) = λ x is. stopped_at i r x answer (subst (λ (f : Fault). IsNotHandedOver q.output.now r old new f) (sym is) stops)
 
 pub returns-in_err-inputs : goal.returns-in_err-inputs
 returns-in_err-inputs g c =
@@ -29,5 +29,6 @@ returns-in-Ok g c =
 
 pub returns-in-Err : goal.returns-in-Err
 returns-in-Err g c =
-    over c.args.request (g.S.Sink.account c.args.sink.now) (g.S.Sink.account c.run_into.new.sink) c.in_ok-inputs.inputs (Err c.in-Err.fault) c.in-Err.ensures
-    c.failure_of_run.result c.failure_of_run.ensures
+    over c.args.request (g.S.Sink.account c.args.sink.now) (g.S.Sink.account c.failure_after.new.sink) c.in_ok-inputs.inputs (Err c.in-Err.fault)
+    (subst (λ (a : Account). HasRunInto c.args.request c.in_ok-inputs.inputs (g.S.Sink.account c.args.sink.now) a (Err c.in-Err.fault)) (sym c.failure_after.ensures.same) c.in-Err.ensures)
+    c.failure_after.result c.failure_after.ensures.fault

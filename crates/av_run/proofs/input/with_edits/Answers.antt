@@ -43,6 +43,7 @@ returns-clause-ok c =
       };
       load = from.load;
       read = subst (λ (new : List BlockState). AreEdits (is_loaded (land_of l.world)) c.args.ticks c.args.edits.now (states l.table) new (number_sets c.in_ok-edits.edits.items)) (sym k.table) c.in_ok-edits.ensures.ok;
+      lines = c.in_ok-edits.ensures.lines;
       whole = from.whole;
       sound = from.sound;
       rest_of = from.rest_of;

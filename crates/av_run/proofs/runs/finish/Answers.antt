@@ -13,7 +13,7 @@ use Rattle.av_files.specs.Run.{stated}
 use Rattle.av_image.specs.Views.{rest_in, file_in}
 use Rattle.av_run.specs.Written.{AreFilesOf}
 use Rattle.av_run.proofs.Inputs.{can_apply_all}
-use Rattle.av_run.proofs.Answered.{good_after, same_positions}
+use Rattle.av_run.proofs.Answered.{good_after}
 use Rattle.av_run.proofs.runs.finish.Goals as goal
 
 pub run_ticks-requires-clause-edits : goal.run_ticks-requires-clause-edits
@@ -37,6 +37,6 @@ returns-clause-ok g c =
     let to = c.in_ok-turns.ensures.done ∙ ap (λ (es : List Edit). run k (number_sets es) n w) c.as_slice.ensures.value in
     record {
       turns = c.in_ok-turns.ensures.count ∙ ap (λ (es : List Edit). run_count k (number_sets es) n w) c.as_slice.ensures.value;
-      chunks = ap length (c.positions.ensures.value ∙ same_positions i.world c.run_ticks.new.world c.in_ok-turns.ensures.place);
+      chunks = ap length c.positions.ensures.value;
       files = λ t made. subst (λ (v : Land ℕ). AreFilesOf t (stated (states (table_in i.kinds)) v) (rest_in i.rest) n (map file_in c.in_ok-files.files.items)) to (c.in_ok-files.ensures.ok t made);
     }

@@ -1,0 +1,265 @@
+//! Exchanges over a folder in memory, which are cut off at each of their steps.
+ghost use Rattle.std.specs.Prelude.{None};
+
+use crate::expecting::expect_equal;
+use av_exchange::{Folder, close, place, repair, stage, sweep};
+use av_sink::NoTeller;
+use std::alloc::{AllocError, Global};
+use std::io::{self, ErrorKind};
+use std::process::Abort;
+use std::test::Fail;
+
+/// A file of the folder.
+#[derive(Drop)]
+struct Entry {
+    name: String,
+    bytes: Vec<u8>,
+}
+
+/// A folder in memory, of which so many calls are done and each one behind them fails.
+#[derive(Drop)]
+struct Memory {
+    alloc: Global,
+    entries: Vec<Entry>,
+    calls_left: u32,
+}
+
+impl Memory {
+    fn new(alloc: Global) -> Memory {
+        Memory {
+            alloc,
+            entries: Vec::new(alloc),
+            calls_left: u32::MAX,
+        }
+    }
+
+    fn add(&mut self, name: &str, bytes: &[u8]) -> Result<(), AllocError> {
+        let name = String::from_str(self.alloc, name)?;
+        let bytes = Vec::from_slice(self.alloc, bytes)?;
+        Ok(self.entries.push(Entry { name, bytes })?)
+    }
+
+    fn position(&self, name: &str) -> Option<usize> {
+        self.entries
+            .iter()
+            .position(|entry| entry.name.as_str() == name)
+    }
+
+    fn take(&mut self, name: &str) -> Option<Entry> {
+        let at = self.position(name)?;
+        if at < self.entries.len() {
+            Some(self.entries.swap_remove(at))
+        } else {
+            None
+        }
+    }
+
+    /// Whether one more call is done.
+    fn spend(&mut self) -> io::Result<()> {
+        if self.calls_left == 0 {
+            return Err(ErrorKind::BrokenPipe.into());
+        }
+        self.calls_left -= 1;
+        Ok(())
+    }
+
+    /// What a file has, as text, or `-` where there is none.
+    fn text(&self, name: &str) -> &str {
+        for entry in &self.entries {
+            if entry.name.as_str() == name {
+                return str::from_utf8(entry.bytes.as_slice()).unwrap_or("?");
+            }
+        }
+        "-"
+    }
+}
+
+impl Folder for Memory {
+    ghost history = { λ s. None };
+
+    fn write_new(&mut self, name: &str, bytes: &[u8], _like: &str) -> io::Result<()> {
+        self.spend()?;
+        if self.position(name).is_some() {
+            return Err(ErrorKind::AlreadyExists.into());
+        }
+        Ok(self.add(name, bytes)?)
+    }
+
+    fn move_over(&mut self, from: &str, to: &str) -> io::Result<()> {
+        self.spend()?;
+        let Some(entry) = self.take(from) else {
+            return Ok(());
+        };
+        let _ = self.take(to);
+        Ok(self.add(to, entry.bytes.as_slice())?)
+    }
+
+    fn remove(&mut self, name: &str) -> io::Result<()> {
+        self.spend()?;
+        let _ = self.take(name);
+        Ok(())
+    }
+
+    fn sync(&mut self) -> io::Result<()> {
+        self.spend()
+    }
+
+    fn read_text(&self, alloc: Global, name: &str) -> io::Result<Option<String>> {
+        match self.position(name) {
+            Some(_) => Ok(Some(String::from_str(alloc, self.text(name))?)),
+            None => Ok(None),
+        }
+    }
+
+    fn names(&self, alloc: Global) -> io::Result<Vec<String>> {
+        let mut names = Vec::new(alloc);
+        for entry in &self.entries {
+            names.push(entry.name.clone()?)?;
+        }
+        Ok(names)
+    }
+}
+
+/// Writes two files, of which one is there, and lets them take their places.
+fn exchange(alloc: Global, folder: &mut Memory) -> io::Result<()> {
+    let mut names = Vec::new(alloc);
+    for name in ["r.0.0.mca", "r.-1.2.mca"] {
+        names.push(String::from_str(alloc, name)?)?;
+    }
+    stage(alloc, folder, "r.0.0.mca", b"new zero")?;
+    stage(alloc, folder, "r.-1.2.mca", b"new one")?;
+    if let Err(not) = place(alloc, folder, names.as_slice()) {
+        return Err(not.error);
+    }
+    close(folder)
+}
+
+/// A folder in which an exchange was cut off behind so many calls.
+fn cut_off(alloc: Global, calls: u32) -> io::Result<Memory> {
+    let mut folder = Memory::new(alloc);
+    folder.add("r.0.0.mca", b"old zero")?;
+    folder.calls_left = calls;
+    let _ = exchange(alloc, &mut folder);
+    folder.calls_left = u32::MAX;
+    Ok(folder)
+}
+
+/// That a folder has these files of regions, and no other file.
+fn has(rt: &impl Abort, folder: &Memory, zero: &str, one: &str, count: usize) {
+    expect_equal(rt, folder.text("r.0.0.mca"), zero);
+    expect_equal(rt, folder.text("r.-1.2.mca"), one);
+    expect_equal(rt, folder.entries.len(), count);
+}
+
+/// Two files are written, then the journal; the names are synced, and the sixth step but one gives the journal its name. Two files take their
+/// places behind the sync of that, one step each; then come a sync, the end of the journal, and a sync.
+#[test]
+fn a_cut_off_leaves_old_or_new(rt: HostRuntime) -> Result<(), Fail> {
+    for calls in 0..12 {
+        let mut folder = cut_off(rt.alloc(), calls)?;
+        repair(rt.alloc(), &mut folder, &NoTeller)?;
+        if calls < 5 {
+            has(&rt, &folder, "old zero", "-", 1);
+        } else {
+            has(&rt, &folder, "new zero", "new one", 2);
+        }
+    }
+    Ok(())
+}
+
+/// What a repair says, by how many calls were done before.
+#[test]
+fn a_repair_tells_what_it_did(rt: HostRuntime) -> Result<(), Fail> {
+    let told = [
+        (0, None, 0),
+        (2, None, 2),
+        (3, None, 3),
+        (5, Some(2), 0),
+        (7, Some(2), 0),
+        (10, None, 0),
+    ];
+    for (calls, finished, removed) in told {
+        let mut folder = cut_off(rt.alloc(), calls)?;
+        let repaired = repair(rt.alloc(), &mut folder, &NoTeller)?;
+        expect_equal(&rt, repaired.finished, finished);
+        expect_equal(&rt, repaired.removed, removed);
+    }
+    Ok(())
+}
+
+/// A repair may be cut off too, and be done again.
+#[test]
+fn a_repair_that_is_cut_off(rt: HostRuntime) -> Result<(), Fail> {
+    for calls in 0..5 {
+        let mut folder = cut_off(rt.alloc(), 5)?;
+        folder.calls_left = calls;
+        let _ = repair(rt.alloc(), &mut folder, &NoTeller);
+        folder.calls_left = u32::MAX;
+        repair(rt.alloc(), &mut folder, &NoTeller)?;
+        has(&rt, &folder, "new zero", "new one", 2);
+    }
+    Ok(())
+}
+
+/// The journal's text, once it has its name.
+#[test]
+fn the_text_of_a_journal(rt: HostRuntime) -> Result<(), Fail> {
+    let folder = cut_off(rt.alloc(), 5)?;
+    expect_equal(
+        &rt,
+        folder.text(".anvilwater-journal"),
+        "anvilwater journal 1\nr.0.0.mca\nr.-1.2.mca\n",
+    );
+    expect_equal(&rt, folder.text(".anvilwater-r.-1.2.mca"), "new one");
+    Ok(())
+}
+
+/// A text of another form is refused, and nothing is done.
+#[test]
+fn texts_that_are_no_journal(rt: HostRuntime) -> Result<(), Fail> {
+    let texts: [&[u8]; 6] = [
+        b"",
+        b"anvilwater journal 2\nr.0.0.mca\n",
+        b"anvilwater journal 1\nr.0.0.mca",
+        b"anvilwater journal 1\n../r.0.0.mca\n",
+        b"anvilwater journal 1\nr.00.0.mca\n",
+        b"anvilwater journal 1\n\n",
+    ];
+    for text in texts {
+        let mut folder = Memory::new(rt.alloc());
+        folder.add(".anvilwater-journal", text)?;
+        folder.add(".anvilwater-r.0.0.mca", b"new")?;
+        let error = repair(rt.alloc(), &mut folder, &NoTeller)
+            .err()
+            .ok_or("a journal that is none")?;
+        expect_equal(&rt, error.kind(), ErrorKind::InvalidData);
+        expect_equal(&rt, folder.entries.len(), 2);
+    }
+    Ok(())
+}
+
+/// Only files that an exchange makes are taken away.
+#[test]
+fn files_that_are_left_alone(rt: HostRuntime) -> Result<(), Fail> {
+    let mut folder = Memory::new(rt.alloc());
+    let gone = [
+        ".anvilwater-r.0.0.mca",
+        ".anvilwater-journal-new",
+        ".anvilwater-trial",
+    ];
+    let kept = [
+        "r.0.0.mca",
+        ".anvilwater-notes",
+        ".anvilwater-r.0.mca",
+        "anvilwater-r.0.0.mca",
+    ];
+    for name in gone.iter().chain(kept.iter()) {
+        folder.add(*name, b"text")?;
+    }
+    expect_equal(&rt, sweep(rt.alloc(), &mut folder)?, 3);
+    for name in kept {
+        expect_equal(&rt, folder.text(name), "text");
+    }
+    expect_equal(&rt, folder.entries.len(), 4);
+    Ok(())
+}

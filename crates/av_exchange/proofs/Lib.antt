@@ -1,0 +1,10 @@
+pub mod Own
+pub mod Listing
+pub mod Crash
+pub mod History
+pub mod Stepwise
+pub mod Beside
+pub mod Placed
+pub mod Exchanged
+pub mod Repaired
+pub mod Swept

@@ -1,0 +1,166 @@
+-- Loops over files that take their places, and over names.
+use Rattle.std.proofs.Common.{◌≡◌, ◌∙◌, ◌<◌, ◌+◌, ap, ap₂, sym, subst, refl, ℕ, zero, suc, List, [], ◌∷◌, ◌++◌, append_assoc, length, map, take, get_or, add-one, Option, Some, None, String, Global, option_map, string_bytes}
+use Rattle.std.proofs.Math.Seq.{take-suc}
+use Rattle.std.proofs.lemmas.List.{map-append}
+use Rattle.std.specs.List.{AllByRecursion}
+use Rattle.av_sink.specs.declared.sink.Repair.{Repair}
+use Rattle.av_exchange.specs.Steps.{AreSomeOf, none, kept, History, IfTold, IsCutOff, ended, during, later, Moved, Removed, Synced, Written, Step, all_of, with_steps}
+use Rattle.av_exchange.specs.Exchange.{IsJournaled, closing, finishing, placed, placing, repairing, sweeping}
+use Rattle.av_exchange.specs.Names.{IsRegionName, head_line, journal_name, journal_of, name_lines, new_journal_name}
+use Rattle.av_exchange.specs.Outcomes.{HasStopped, IsFinished, IsMovedInPart, IsRepaired, IsSettledInPart, IsSwept, IsSweepStopped, IsUnrepaired, in_part, name_of, stopped, unsynced}
+use Rattle.av_exchange.specs.declared.moves.Move.{Move}
+use Rattle.av_exchange.proofs.Crash.{all_some, none_some}
+use Rattle.av_exchange.proofs.History.{then_steps}
+
+-- what a function makes of one element more
+pub one_more : {X Y : Type 0} (f : X → Y) (xs : List X) (i : ℕ) (x : X) → i < length xs → x ≡ get_or xs i x → map f (take (i + 1) xs) ≡ map f (take i xs) ++ f x ∷ []
+one_more f xs i x lt is =
+    ap (λ (n : ℕ). map f (take n xs)) (add-one i)
+    ∙ (ap (map f) (take-suc xs i x lt)
+    ∙ (map-append f (take i xs) (get_or xs i x ∷ []) ∙ ap (λ (y : _). map f (take i xs) ++ f y ∷ []) (sym is)))
+
+pub one_more_placed : (moves : List Move) (i : ℕ) (m : Move) → i < length moves → m ≡ get_or moves i m
+    → map placed (map name_of (take (i + 1) moves)) ≡ map placed (map name_of (take i moves)) ++ placed (name_of m) ∷ []
+one_more_placed moves i m lt is =
+    ap (map placed) (one_more name_of moves i m lt is) ∙ map-append placed (map name_of (take i moves)) (name_of m ∷ [])
+
+pub first_placed : (n : ℕ) (moves : List Move) → AreSomeOf (map placed (map name_of (take n moves))) (map placed (map name_of moves))
+first_placed zero moves = none_some _
+first_placed (suc n) [] = none
+first_placed (suc n) (m ∷ moves) = kept (placed (name_of m)) _ _ (first_placed n moves)
+
+-- a new file's own step, by the names that were passed
+pub placed_by : (m : Move) (part name : List ℕ) → part ≡ string_bytes m.part → name ≡ string_bytes m.name → Moved part name ≡ placed (name_of m)
+placed_by m part name parts names = ap₂ Moved (parts ∙ m.beside) names
+
+-- ---- what was stopped
+
+pub stopped_moving : (names : List (List ℕ)) (old new : Option History) → IsMovedInPart names old new → HasStopped (finishing names) old new
+stopped_moving names old new part = record { left = part.left; cut_off = during _ _ part.left part.some; steps = part.steps }
+
+pub stopped_closing : (names : List (List ℕ)) (old mid new : Option History) → mid ≡ with_steps old (all_of (map placed names ∷ [])) → HasStopped closing mid new
+    → HasStopped (finishing names) old new
+stopped_closing names old mid new first part = record {
+  left = map placed names ++ (Synced ∷ part.left);
+  cut_off = later _ _ _ part.cut_off;
+  steps = then_steps old mid new (map placed names ++ (Synced ∷ [])) part.left first part.steps
+      ∙ ap (with_steps old) (append_assoc (map placed names) (Synced ∷ []) part.left);
+}
+
+pub placed_all : (old mid new : Option History) (text : List ℕ) (names moved : List (List ℕ)) → text ≡ journal_of names → moved ≡ names
+    → mid ≡ with_steps old (Written new_journal_name text ∷ Synced ∷ Moved new_journal_name journal_name ∷ [])
+    → new ≡ with_steps mid (Synced ∷ all_of (map placed moved ∷ [])) → new ≡ with_steps old (all_of (placing names))
+placed_all old mid new text names moved texts same first next =
+    then_steps old mid new (Written new_journal_name text ∷ Synced ∷ Moved new_journal_name journal_name ∷ []) (Synced ∷ all_of (map placed moved ∷ [])) first next
+    ∙ ap₂ (λ (t : List ℕ) (ns : List (List ℕ)). with_steps old (Written new_journal_name t ∷ Synced ∷ Moved new_journal_name journal_name ∷ Synced ∷ all_of (map placed ns ∷ []))) texts same
+
+stopped_settling : (old mid new : Option History) (names : List (List ℕ))
+    → mid ≡ with_steps old (Written new_journal_name (journal_of names) ∷ Synced ∷ Moved new_journal_name journal_name ∷ [])
+    → IsSettledInPart names mid new → HasStopped (placing names) old new
+stopped_settling old mid new names first (unsynced same) = record {
+  left = Written new_journal_name (journal_of names) ∷ Synced ∷ Moved new_journal_name journal_name ∷ [];
+  cut_off = later _ _ _ (during _ _ _ (all_some _));
+  steps = same ∙ first;
+}
+stopped_settling old mid new names first (in_part left some is) = record {
+  left = Written new_journal_name (journal_of names) ∷ Synced ∷ Moved new_journal_name journal_name ∷ Synced ∷ left;
+  cut_off = later _ _ _ (later _ _ _ (during _ _ left some));
+  steps = then_steps old mid new (Written new_journal_name (journal_of names) ∷ Synced ∷ Moved new_journal_name journal_name ∷ []) (Synced ∷ left) first is;
+}
+
+pub stopped_placing : (old mid new : Option History) (text : List ℕ) (names moved : List (List ℕ)) → text ≡ journal_of names → moved ≡ names
+    → mid ≡ with_steps old (Written new_journal_name text ∷ Synced ∷ Moved new_journal_name journal_name ∷ [])
+    → IsSettledInPart moved mid new → HasStopped (placing names) old new
+stopped_placing old mid new text names moved texts same first part =
+    stopped_settling old mid new names
+    (first ∙ ap (λ (t : List ℕ). with_steps old (Written new_journal_name t ∷ Synced ∷ Moved new_journal_name journal_name ∷ [])) texts)
+    (subst (λ (ns : List (List ℕ)). IsSettledInPart ns mid new) same part)
+
+pub sweep_part : (names : List (List ℕ)) (left : List Step) → AreSomeOf left (map Removed names) → IsCutOff (sweeping names) left
+sweep_part [] _ none = ended
+sweep_part (n ∷ names) left some = during _ [] left some
+
+pub first_removed : (n : ℕ) (names : List (String Global)) → AreSomeOf (map Removed (map string_bytes (take n names))) (map Removed (map string_bytes names))
+first_removed zero names = none_some _
+first_removed (suc n) [] = none
+first_removed (suc n) (m ∷ names) = kept (Removed (string_bytes m)) _ _ (first_removed n names)
+
+pub one_more_removed : (names : List (String Global)) (i : ℕ) (m : String Global) → i < length names → m ≡ get_or names i m
+    → map Removed (map string_bytes (take (i + 1) names)) ≡ map Removed (map string_bytes (take i names)) ++ Removed (string_bytes m) ∷ []
+one_more_removed names i m lt is =
+    ap (map Removed) (one_more string_bytes names i m lt is) ∙ map-append Removed (map string_bytes (take i names)) (string_bytes m ∷ [])
+
+behind : (journal : Option (List (List ℕ))) (gone : List (List ℕ)) (left : List Step) → IsCutOff (sweeping gone) left
+    → IsCutOff (repairing journal gone) (all_of (repairing journal []) ++ left)
+behind None gone left cut = cut
+behind (Some names) gone left cut =
+    subst (IsCutOff (repairing (Some names) gone)) (sym (append_assoc (map placed names) (Synced ∷ Removed journal_name ∷ Synced ∷ []) left)) (later _ _ _ (later _ _ left cut))
+
+pub stopped_sweeping : (old mid new : Option History) (finished : Option ℕ) → IsFinished old mid finished → IsSweepStopped mid new → IsUnrepaired old new
+stopped_sweeping old mid new finished done part =
+    stopped done.journal part.gone done.journaled part.beside (record {
+      left = all_of (repairing done.journal []) ++ part.stopped.left;
+      cut_off = behind done.journal part.gone part.stopped.left part.stopped.cut_off;
+      steps = then_steps old mid new (all_of (repairing done.journal [])) part.stopped.left done.steps part.stopped.steps;
+    })
+
+all_behind : (journal : Option (List (List ℕ))) (gone : List (List ℕ)) → all_of (repairing journal []) ++ all_of (sweeping gone) ≡ all_of (repairing journal gone)
+all_behind None gone = refl
+all_behind (Some names) gone = append_assoc (map placed names) (Synced ∷ Removed journal_name ∷ Synced ∷ []) (all_of (sweeping gone))
+
+pub repaired_all : (old mid new : Option History) (finished : Option ℕ) (removed : ℕ) (r : Repair) → r.finished ≡ finished → r.removed ≡ removed
+    → IsFinished old mid finished → IsSwept mid new removed → IsRepaired old new r
+repaired_all old mid new finished removed r fin rem done swept = record {
+  journal = done.journal;
+  gone = swept.gone;
+  journaled = done.journaled;
+  beside = swept.beside;
+  steps = then_steps old mid new (all_of (repairing done.journal [])) (all_of (sweeping swept.gone)) done.steps swept.steps
+      ∙ ap (with_steps old) (all_behind done.journal swept.gone);
+  finished = fin ∙ done.count;
+  removed = rem ∙ swept.count;
+}
+
+pub lines_more : (names : List (List ℕ)) (name : List ℕ) → name_lines (names ++ name ∷ []) ≡ name_lines names ++ (name ++ (10 ∷ []))
+lines_more [] name = refl
+lines_more (n ∷ names) name =
+    ap (λ (l : List ℕ). n ++ (10 ∷ l)) (lines_more names name) ∙ sym (append_assoc n (10 ∷ name_lines names) (name ++ (10 ∷ [])))
+
+-- ---- what a folder has under the journal's name
+
+pub told_none : (t : Option History) (text : Option (String Global)) → text ≡ None → IfTold t (λ h. h journal_name ≡ option_map string_bytes text)
+    → IfTold t (λ h. IsJournaled h None)
+told_none None text is told = tt
+told_none (Some t) text is told = told ∙ ap (option_map string_bytes) is
+
+pub told_journal : (t : Option History) (text : Option (String Global)) (s : String Global) (bytes : List ℕ) (names : List (List ℕ)) → text ≡ Some s
+    → bytes ≡ string_bytes s → bytes ≡ journal_of names → AllByRecursion IsRegionName names → IfTold t (λ h. h journal_name ≡ option_map string_bytes text)
+    → IfTold t (λ h. IsJournaled h (Some names))
+told_journal None text s bytes names is same journal all told = tt
+told_journal (Some t) text s bytes names is same journal all told = (told ∙ (ap (option_map string_bytes) is ∙ ap Some (sym same ∙ journal)), all)
+
+pub as_many : {X Y : Type 0} (f : X → Y) (xs : List X) → length (map f xs) ≡ length xs
+as_many f [] = refl
+as_many f (x ∷ xs) = ap suc (as_many f xs)
+
+-- one line more of a journal
+pub text_more : (names : List (String Global)) (i : ℕ) (m : String Global) (old mid new : List ℕ) → i < length names → m ≡ get_or names i m
+    → old ≡ head_line ++ name_lines (map string_bytes (take i names)) → mid ≡ old ++ string_bytes m → new ≡ mid ++ (10 ∷ [])
+    → new ≡ head_line ++ name_lines (map string_bytes (take (i + 1) names))
+text_more names i m old mid new lt is before named closed =
+    let lines = name_lines (map string_bytes (take i names)) in
+    closed ∙ (ap (λ (t : List ℕ). t ++ (10 ∷ [])) (named ∙ ap (λ (t : List ℕ). t ++ string_bytes m) before)
+    ∙ (append_assoc (head_line ++ lines) (string_bytes m) (10 ∷ [])
+    ∙ (append_assoc head_line lines (string_bytes m ++ (10 ∷ []))
+    ∙ ap (λ (l : List ℕ). head_line ++ l)
+    (sym (lines_more (map string_bytes (take i names)) (string_bytes m)) ∙ ap name_lines (sym (one_more string_bytes names i m lt is))))))
+
+pushed : (P : List ℕ → Type 0) (names : List (String Global)) (m : String Global) → AllByRecursion P (map string_bytes names) → P (string_bytes m)
+    → AllByRecursion P (map string_bytes (names ++ m ∷ []))
+pushed P [] m all p = (p, tt)
+pushed P (n ∷ names) m all p = (all.0, pushed P names m all.1 p)
+
+-- one name more, which is as the others
+pub all_more : (P : List ℕ → Type 0) (names : List (String Global)) (m : String Global) (new : List (String Global)) → new ≡ names ++ m ∷ []
+    → AllByRecursion P (map string_bytes names) → P (string_bytes m) → AllByRecursion P (map string_bytes new)
+all_more P names m new is all p = subst (λ (ns : List (String Global)). AllByRecursion P (map string_bytes ns)) (sym is) (pushed P names m all p)

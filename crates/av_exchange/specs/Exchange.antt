@@ -1,0 +1,111 @@
+-- New files of a folder that take their places all or none, and what the folder stands for meanwhile.
+use Rattle.std.specs.Prelude.{◌≡◌, ◌⊎◌, ℕ, List, [], ◌∷◌, ◌++◌, Bool, false, cond, Option, Some, None, map}
+use Rattle.std.specs.Str.{bytes_eq}
+use Rattle.std.specs.List.{list_any, AllByRecursion}
+use Rattle.std.specs.Option.{option_or}
+use Rattle.av_sink.specs.Account.{NamedFile}
+use Rattle.av_exchange.specs.Names.{IsBeside, IsRegionName, journal_name, journal_of, new_journal_name, part_of, is_own}
+use Rattle.av_exchange.specs.Steps.{Holdings, Step, Written, Spoiled, Moved, Removed, Synced, IsCutOff, all_of, after_all}
+
+-- ---- the steps
+
+-- a new file is written beside the one that it is to replace
+abbrev pub staged : NamedFile → Step
+staged file = Written (part_of file.name) file.bytes
+
+-- it takes its place
+abbrev pub placed : List ℕ → Step
+placed name = Moved (part_of name) name
+
+-- a journal is done with: its files take their places, and then it goes
+abbrev pub finishing : List (List ℕ) → List (List Step)
+finishing names = map placed names ∷ (Removed journal_name ∷ []) ∷ []
+
+-- new files that were written take their places: once the journal has its name, they are to do so. Until the journal goes, which is the last
+-- of the exchange, a call that is cut off is known by it
+abbrev pub placing : List (List ℕ) → List (List Step)
+placing names = (Written new_journal_name (journal_of names) ∷ []) ∷ (Moved new_journal_name journal_name ∷ []) ∷ map placed names ∷ []
+
+abbrev pub closing : List (List Step)
+closing = (Removed journal_name ∷ []) ∷ []
+
+-- the whole exchange: new files are written, take their places, and it is closed
+abbrev pub exchanging : List NamedFile → List (List Step)
+exchanging files = (map staged files ++ (Written new_journal_name (journal_of (map (λ f. f.name) files)) ∷ []))
+    ∷ (Moved new_journal_name journal_name ∷ []) ∷ finishing (map (λ f. f.name) files)
+
+-- files that belong to none go
+abbrev pub sweeping : List (List ℕ) → List (List Step)
+sweeping [] = []
+sweeping (name ∷ names) = (Removed name ∷ map Removed names) ∷ []
+
+-- what is done to a folder where an exchange may have been cut off: by its journal, where there is one, and then these files go
+abbrev pub repairing : Option (List (List ℕ)) → List (List ℕ) → List (List Step)
+repairing None gone = sweeping gone
+repairing (Some names) gone = map placed names ∷ (Removed journal_name ∷ []) ∷ sweeping gone
+
+-- ---- what a folder stands for
+
+-- its journal lists these names, or there is none
+abbrev pub IsJournaled : Holdings → Option (List (List ℕ)) → Type 0
+IsJournaled h None = h journal_name ≡ None
+IsJournaled h (Some names) = (h journal_name ≡ Some (journal_of names)) × AllByRecursion IsRegionName names
+
+abbrev pub is_listed : List (List ℕ) → List ℕ → Bool
+is_listed names name = list_any (λ other. bytes_eq name other) names
+
+-- what counts under each name: the new file, where the journal lists the name and the new file has not taken its place
+abbrev pub counted : Option (List (List ℕ)) → Holdings → Holdings
+counted None h = h
+counted (Some names) h = λ m. cond (is_listed names m) (option_or (h (part_of m)) (h m)) (h m)
+
+-- What a folder stands for, by names that are not an exchange's own.
+pub record StandsFor (h k : Holdings) : Type 0 where
+  pub journal : Option (List (List ℕ))
+  pub journaled : IsJournaled h journal
+  pub counts : (name : List ℕ) → is_own name ≡ false → k name ≡ counted journal h name
+
+-- the bytes that files have under a name
+abbrev pub bytes_under : List NamedFile → Holdings
+bytes_under [] name = None
+bytes_under (f ∷ files) name = option_or (bytes_under files name) (cond (bytes_eq name f.name) (Some f.bytes) None)
+
+-- the same folder with these files in the place of those of their names
+abbrev pub with_all : Holdings → List NamedFile → Holdings
+with_all k files = λ name. option_or (bytes_under files name) (k name)
+
+-- a step on files that are not the journal's, nor of a region
+abbrev pub IsStepBeside : Step → Type 0
+IsStepBeside (Written name bytes) = IsBeside name
+IsStepBeside (Spoiled name left) = IsBeside name
+IsStepBeside (Moved from to) = ⊥
+IsStepBeside (Removed name) = IsBeside name
+IsStepBeside Synced = Unit {0}
+
+-- ---- laws
+
+-- steps beside change nothing of what a folder without a journal stands for, so that new files that are only written, or given up, don't count
+abbrev pub BesideKeeps : Type 0
+BesideKeeps = (h k : Holdings) (steps : List Step) → h journal_name ≡ None → AllByRecursion IsStepBeside steps
+    → StandsFor h k → StandsFor (after_all h steps) k
+
+-- a crash during an exchange leaves the old files, or all new ones
+abbrev pub LeavesOldOrNew : Type 0
+LeavesOldOrNew = (h k : Holdings) (files : List NamedFile) (left : List Step) → h journal_name ≡ None → AllByRecursion (λ f. IsRegionName f.name) files
+    → StandsFor h k → IsCutOff (exchanging files) left → StandsFor (after_all h left) k ⊎ StandsFor (after_all h left) (with_all k files)
+
+-- at its end it is the new ones
+abbrev pub LeavesNew : Type 0
+LeavesNew = (h k : Holdings) (files : List NamedFile) → h journal_name ≡ None → AllByRecursion (λ f. IsRegionName f.name) files
+    → StandsFor h k → StandsFor (after_all h (all_of (exchanging files))) (with_all k files)
+
+-- a crash during a repair changes nothing of what the folder stands for
+abbrev pub RepairKeeps : Type 0
+RepairKeeps = (h k : Holdings) (journal : Option (List (List ℕ))) (gone : List (List ℕ)) (left : List Step) → IsJournaled h journal
+    → AllByRecursion IsBeside gone → StandsFor h k → IsCutOff (repairing journal gone) left → StandsFor (after_all h left) k
+
+-- at its end the folder has no journal, and holds what it stood for
+abbrev pub RepairHolds : Type 0
+RepairHolds = (h k : Holdings) (journal : Option (List (List ℕ))) (gone : List (List ℕ)) → IsJournaled h journal
+    → AllByRecursion IsBeside gone → StandsFor h k → (after_all h (all_of (repairing journal gone)) journal_name ≡ None)
+    × ((name : List ℕ) → is_own name ≡ false → after_all h (all_of (repairing journal gone)) name ≡ k name)

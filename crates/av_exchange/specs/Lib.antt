@@ -1,0 +1,4 @@
+pub mod Steps
+pub mod Names
+pub mod Exchange
+pub mod Outcomes

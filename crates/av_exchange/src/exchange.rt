@@ -1,0 +1,169 @@
+//! New files take their places.
+ghost use Rattle.std.specs.Prelude.{◌≡◌, ◌∷◌, [], IfErr, IfOk, OnErr, OnOk, map, string_bytes};
+ghost use Rattle.av_sink.specs.Account.{file_named};
+ghost use Rattle.av_exchange.specs.Exchange.{closing, finishing, placed, placing, staged};
+ghost use Rattle.av_exchange.specs.Names.{journal_name, new_journal_name};
+ghost use Rattle.av_exchange.specs.Outcomes.{HasStopped, IsBesideAlone, IsMovedInPart, IsNotPlaced, IsPlacedInPart, IsSettledInPart, IsUnstaged, name_of};
+ghost use Rattle.av_exchange.specs.Steps.{Moved, Synced, Written, all_of, with_steps};
+
+use crate::folder::Folder;
+use crate::journal::journal_text;
+use crate::moves::Move;
+use crate::names::{JOURNAL, NEW_JOURNAL, part_name};
+use av_sink::Teller;
+use std::alloc::{AllocError, Global};
+use std::io;
+
+/// Why new files did not take their places.
+#[derive(Debug, Drop)]
+pub struct NotPlaced {
+    /// Whether the journal has its name, so that a repair lets them take their places.
+    pub begun: bool,
+    pub error: io::Error,
+}
+
+/// Writes a new file beside the one of that name, which it is to replace.
+///
+/// # Errors
+/// What the system says, and want of memory. The old file stays, and what is left of the new one goes by a repair.
+pub fn stage<F: Folder>(alloc: Global, folder: &mut F, name: &str, bytes: &[u8]) -> io::Result<()>
+    ensures ok { OnOk result (F.history folder.new ≡ with_steps (F.history folder.old) (staged (file_named name.now bytes.now) ∷ [])) }
+    ensures err { OnErr result (IsUnstaged name.now (F.history folder.old) (F.history folder.new)) }
+{
+    let part = part_name(alloc, name)?;
+    folder.write_new(part.as_str(), bytes, name)?;
+    Ok(())
+}
+
+/// Lets one new file that was staged take its place, at once.
+///
+/// # Errors
+/// What the system says, and want of memory: the new file may stay beside the old one.
+pub fn place_alone<F: Folder>(alloc: Global, folder: &mut F, name: &str) -> io::Result<()>
+    ensures ok { OnOk result (F.history folder.new ≡ with_steps (F.history folder.old) (placed name.now ∷ Synced ∷ [])) }
+    ensures err { OnErr result (IsPlacedInPart name.now (F.history folder.old) (F.history folder.new)) }
+{
+    let part = part_name(alloc, name)?;
+    folder.move_over(part.as_str(), name)?;
+    folder.sync()?;
+    Ok(())
+}
+
+/// The new files of these names.
+pub(crate) fn moves_of(alloc: Global, names: &[String]) -> Result<Vec<Move>, AllocError>
+    ensures { IfOk result (λ moves. map name_of moves.items ≡ map string_bytes names.now) }
+{
+    let mut moves = Vec::new(alloc);
+    for name in names {
+        moves.push(Move::new(alloc, name.as_str())?)?;
+    }
+    Ok(moves)
+}
+
+/// Lets each new file take its place, where it is there.
+fn move_all<F: Folder>(folder: &mut F, moves: &[Move]) -> io::Result<()>
+    ensures ok { OnOk result (F.history folder.new ≡ with_steps (F.history folder.old) (map placed (map name_of moves.now))) }
+    ensures err { OnErr result (IsMovedInPart (map name_of moves.now) (F.history folder.old) (F.history folder.new)) }
+{
+    for file in moves {
+        folder.move_over(file.part.as_str(), file.name.as_str())?;
+    }
+    Ok(())
+}
+
+/// Takes the journal away.
+///
+/// # Errors
+/// What the system says: the journal may be there.
+pub fn close<F: Folder>(folder: &mut F) -> io::Result<()>
+    ensures ok { OnOk result (F.history folder.new ≡ with_steps (F.history folder.old) (all_of closing)) }
+    ensures err { OnErr result (HasStopped closing (F.history folder.old) (F.history folder.new)) }
+{
+    folder.remove(JOURNAL)?;
+    folder.sync()?;
+    Ok(())
+}
+
+/// Lets new files take their places, and waits until they have them.
+fn settle<F: Folder>(folder: &mut F, moves: &[Move]) -> io::Result<()>
+    ensures ok { OnOk result (F.history folder.new ≡ with_steps (F.history folder.old) (all_of (map placed (map name_of moves.now) ∷ []))) }
+    ensures err { OnErr result (IsMovedInPart (map name_of moves.now) (F.history folder.old) (F.history folder.new)) }
+{
+    move_all(folder, moves)?;
+    folder.sync()?;
+    Ok(())
+}
+
+/// Does what the journal says, by the new files that it lists, tells it, and takes the journal away.
+pub(crate) fn finish<F: Folder, T: Teller>(
+    folder: &mut F,
+    moves: &[Move],
+    teller: &T,
+) -> io::Result<()>
+    ensures ok { OnOk result (F.history folder.new ≡ with_steps (F.history folder.old) (all_of (finishing (map name_of moves.now)))) }
+    ensures err { OnErr result (HasStopped (finishing (map name_of moves.now)) (F.history folder.old) (F.history folder.new)) }
+{
+    settle(folder, moves)?;
+    teller.finished(moves.len());
+    close(folder)?;
+    Ok(())
+}
+
+/// Writes the journal, and gives it its name.
+fn record<F: Folder>(folder: &mut F, text: &str) -> io::Result<()>
+    ensures ok { OnOk result (F.history folder.new ≡ with_steps (F.history folder.old)
+        (Written new_journal_name text.now ∷ Synced ∷ Moved new_journal_name journal_name ∷ [])) }
+    ensures err { OnErr result (IsBesideAlone (F.history folder.old) (F.history folder.new)) }
+{
+    folder.write_new(NEW_JOURNAL, text.as_bytes(), JOURNAL)?;
+    folder.sync()?;
+    folder.move_over(NEW_JOURNAL, JOURNAL)?;
+    Ok(())
+}
+
+/// Lets new files take their places once the journal's name is on the device.
+fn settle_behind<F: Folder>(folder: &mut F, moves: &[Move]) -> io::Result<()>
+    ensures ok { OnOk result (F.history folder.new ≡ with_steps (F.history folder.old) (Synced ∷ all_of (map placed (map name_of moves.now) ∷ []))) }
+    ensures err { OnErr result (IsSettledInPart (map name_of moves.now) (F.history folder.old) (F.history folder.new)) }
+{
+    folder.sync()?;
+    settle(folder, moves)?;
+    Ok(())
+}
+
+/// Lets new files that were staged take their places, all or none: a journal is written, and once it has its name they are to do so, and
+/// do. It stays until `close`.
+///
+/// # Errors
+/// What the system says, and want of memory before the first step. Where the journal does not have its name the old files stay, and a repair
+/// takes the new ones away; else a repair lets the others take their places too.
+pub fn place<F: Folder>(alloc: Global, folder: &mut F, names: &[String]) -> Result<(), NotPlaced>
+    ensures ok { OnOk result (F.history folder.new ≡ with_steps (F.history folder.old) (all_of (placing (map string_bytes names.now)))) }
+    ensures err { IfErr result (λ e. IsNotPlaced (map string_bytes names.now) (F.history folder.old) (F.history folder.new) e.begun) }
+{
+    let moves = moves_of(alloc, names)?;
+    let text = journal_text(alloc, names)?;
+    if let Err(error) = record(folder, text.as_str()) {
+        return Err(NotPlaced {
+            begun: false,
+            error,
+        });
+    }
+    match settle_behind(folder, moves.as_slice()) {
+        Ok(()) => Ok(()),
+        Err(error) => Err(NotPlaced { begun: true, error }),
+    }
+}
+
+impl From<AllocError> for NotPlaced {
+    ghost use Rattle.std.specs.Prelude.{false};
+
+    ghost from_gives = { λ _ not. not.begun ≡ false };
+
+    fn from(error: AllocError) -> NotPlaced {
+        NotPlaced {
+            begun: false,
+            error: error.into(),
+        }
+    }
+}

@@ -1,0 +1,17 @@
+//! New files of a folder that take the places of old ones all or none, whenever a process or the machine ends: they are written beside
+//! the old ones, a journal says that they are to take their places, they do, and the journal goes. What was cut off is finished by the
+//! journal, or taken away where there is none.
+#![tactic(auto)]
+
+pub mod exchange;
+pub mod folder;
+pub mod journal;
+pub mod laws;
+pub mod moves;
+pub mod names;
+pub mod repairing;
+
+pub use exchange::{NotPlaced, close, place, place_alone, stage};
+pub use folder::Folder;
+pub use names::{JOURNAL, TRIAL, is_own};
+pub use repairing::{repair, sweep};

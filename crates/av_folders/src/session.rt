@@ -1,0 +1,81 @@
+//! Worlds that the game has open.
+ghost use Rattle.std.specs.Prelude.{IfErr};
+ghost use Rattle.av_folders.specs.Folders.{IsOutputFault, IsSessionFault};
+
+use crate::holding::{HeldFolder, LockFiles, hold_folder};
+use crate::locks::holder_of;
+use av_commands::failure::Failure;
+use std::fs;
+use std::io::{self, ErrorKind};
+use std::path::{Path, PathBuf};
+use std::rt::Files;
+
+/// The file of a world that the game locks while it has the world open.
+const SESSION: &str = "session.lock";
+
+/// How many folders above that of the region files may be the world's: that of the world, whose folder `region` it is, or that of one of
+/// its dimensions, as `DIM-1`.
+const LEVELS: usize = 2;
+
+/// What is said of a file that the game holds, where it does.
+fn held_text<R: Files + AllocGlobal>(rt: &R, session: Path<'_>) -> Option<String> {
+    let found = fs::metadata(rt, session).ok()?;
+    let holder = holder_of(rt, &found)?;
+    format!(in rt.alloc();
+        "{holder} has the world open: stop the game, or call again with --in-use"
+    ).ok()
+}
+
+/// Whether nobody holds the `session.lock` of a folder, as far as the system tells.
+fn look_in<R: Files + AllocGlobal>(rt: &R, folder: Path<'_>) -> Result<(), Failure>
+    ensures { IfErr result (λ e. IsSessionFault e.fault) }
+{
+    let session = folder.join(rt.alloc(), SESSION)?;
+    match held_text(rt, session.as_path()) {
+        None => Ok(()),
+        Some(text) => {
+            let error = io::Error::new(ErrorKind::WouldBlock, text.as_str());
+            let path = session.as_str();
+            Err(Failure::of_device(rt.alloc(), error, path, path))
+        }
+    }
+}
+
+/// The path of a folder without links, where it can be told.
+fn real_path<R: Files + AllocGlobal>(rt: &R, folder: &str) -> Option<PathBuf> {
+    fs::canonicalize(rt, folder).ok()
+}
+
+/// Looks whether the game has the world open that a folder of region files is of.
+fn look_for_game<R: Files + AllocGlobal>(rt: &R, folder: &str) -> Result<(), Failure>
+    ensures { IfErr result (λ e. IsSessionFault e.fault) }
+{
+    let Some(real) = real_path(rt, folder) else {
+        return Ok(());
+    };
+    for above in real.ancestors().skip(1).take(LEVELS) {
+        look_in(rt, above)?;
+    }
+    Ok(())
+}
+
+/// Holds a folder for a run, as `hold_folder` does, and looks whether the game has the world open that it is of, unless that is no matter:
+/// whether a process has locked `session.lock` in the folder above it or in the one above that. What the system does not list is
+/// not seen.
+///
+/// # Errors
+/// Those of `hold_folder`; `Device` with the path of `session.lock`, where that is locked; and want of memory.
+pub fn hold_output<R: LockFiles + AllocGlobal>(
+    rt: &R,
+    folder: &str,
+    in_use: bool,
+) -> Result<HeldFolder<R>, Failure>
+    ensures { IfErr result (λ e. IsOutputFault folder.now in_use e.fault) }
+{
+    let held = hold_folder(rt, folder)?;
+    if in_use {
+        return Ok(held);
+    }
+    look_for_game(rt, folder)?;
+    Ok(held)
+}

@@ -1,0 +1,171 @@
+//! A folder of the system, for exchanges.
+ghost use Rattle.std.specs.Prelude.{None};
+
+use av_exchange::Folder;
+use std::alloc::Global;
+use std::fs::{self, DirEntry, File, Metadata, OpenFile};
+use std::io::{self, ErrorKind, Write};
+use std::os::unix::fs::{MetadataExt, chown};
+use std::path::{Path, PathBuf};
+use std::rt::Files;
+
+/// What is said of a name that no file has, but something else.
+const NO_FILE: &str = "a link, a folder or a pipe, where a file is to be";
+
+/// A folder of the system, by its path.
+#[derive(Drop)]
+pub struct SystemFolder<'a, R> {
+    rt: &'a R,
+    pub(crate) path: String,
+}
+
+impl<'a, R: Files + AllocGlobal + Clone + Drop> SystemFolder<'a, R> {
+    /// The folder of that path.
+    pub fn new(rt: &'a R, path: String) -> SystemFolder<'a, R> {
+        SystemFolder { rt, path }
+    }
+
+    /// The folder's own path, which is that of the folder in which this process works where it is empty.
+    fn own_path(&self) -> &str {
+        if self.path.is_empty() {
+            "."
+        } else {
+            self.path.as_str()
+        }
+    }
+
+    /// The path of a file of the folder.
+    fn path_of(&self, name: &str) -> io::Result<PathBuf> {
+        Ok(Path::new(self.path.as_str()).join(self.rt.alloc(), name)?)
+    }
+
+    /// Whether a file of that name has these bytes. Where that can't be told it is not so.
+    pub(crate) fn has(&self, name: &str, bytes: &[u8]) -> bool {
+        let Ok(path) = self.path_of(name) else {
+            return false;
+        };
+        match fs::symlink_metadata(self.rt, path.as_path()) {
+            Ok(found) if found.is_file() && found.len() == bytes.len() as u64 => {
+                fs::read(self.rt, path.as_path()).is_ok_and(|there| there.as_slice() == bytes)
+            }
+            _ => false,
+        }
+    }
+}
+
+/// The file of a path, where there is one. A link is none: what it leads to would be written elsewhere, or stay old.
+fn file_there<R: Files>(rt: &R, path: Path<'_>) -> io::Result<Option<Metadata>> {
+    match fs::symlink_metadata(rt, path) {
+        Ok(found) if found.is_file() => Ok(Some(found)),
+        Ok(_) => Err(io::Error::new(ErrorKind::InvalidInput, NO_FILE)),
+        Err(error) if error.kind() == ErrorKind::NotFound => Ok(None),
+        Err(error) => Err(error),
+    }
+}
+
+/// Passes over that something is not permitted.
+fn where_permitted(done: io::Result<()>) -> io::Result<()> {
+    match done {
+        Err(error) if error.kind() != ErrorKind::PermissionDenied => Err(error),
+        _ => Ok(()),
+    }
+}
+
+/// Gives a new file the owner and the rights of the one that it is to replace, where this process may.
+fn keep_owner<R: Files>(rt: &R, path: Path<'_>, file: &R::File, old: &Metadata) -> io::Result<()> {
+    where_permitted(chown(rt, path, Some(old.uid()), Some(old.gid())))?;
+    where_permitted(file.set_permissions(old.permissions()))
+}
+
+/// Writes a new file, up to the device.
+fn fill<R: Files>(
+    rt: &R,
+    path: Path<'_>,
+    file: R::File,
+    old: Option<Metadata>,
+    bytes: &[u8],
+) -> io::Result<()> {
+    let mut file = file;
+    if let Some(old) = old {
+        keep_owner(rt, path, &file, &old)?;
+    }
+    file.write_all(bytes)?;
+    file.sync_all()
+}
+
+/// The name of an entry. One that is no text in UTF-8 is none of ours.
+fn name_of<R: Files + Drop>(
+    alloc: Global,
+    entry: io::Result<DirEntry<R>>,
+) -> io::Result<Option<String>> {
+    match entry {
+        Ok(entry) => Ok(Some(String::from_str(alloc, entry.file_name())?)),
+        Err(error) if error.kind() == ErrorKind::InvalidFilename => Ok(None),
+        Err(error) => Err(error),
+    }
+}
+
+/// Whether a file system says that it can't wait for names.
+fn has_no_sync(error: &io::Error) -> bool {
+    matches!(
+        error.kind(),
+        ErrorKind::InvalidInput | ErrorKind::Unsupported
+    )
+}
+
+impl<'a, R: Files + AllocGlobal + Clone + Drop> Folder for SystemFolder<'a, R> {
+    ghost history = { λ s. None };
+
+    fn write_new(&mut self, name: &str, bytes: &[u8], like: &str) -> io::Result<()> {
+        let path = self.path_of(name)?;
+        let old = file_there(self.rt, self.path_of(like)?.as_path())?;
+        let file = File::create_new(self.rt, path.as_path())?;
+        let written = fill(self.rt, path.as_path(), file, old, bytes);
+        if written.is_err() {
+            let _ = fs::remove_file(self.rt, path.as_path());
+        }
+        written
+    }
+
+    fn move_over(&mut self, from: &str, to: &str) -> io::Result<()> {
+        let from = self.path_of(from)?;
+        let to = self.path_of(to)?;
+        match fs::rename(self.rt, from.as_path(), to.as_path()) {
+            Err(error) if error.kind() != ErrorKind::NotFound => Err(error),
+            _ => Ok(()),
+        }
+    }
+
+    fn remove(&mut self, name: &str) -> io::Result<()> {
+        let path = self.path_of(name)?;
+        match fs::remove_file(self.rt, path.as_path()) {
+            Err(error) if error.kind() != ErrorKind::NotFound => Err(error),
+            _ => Ok(()),
+        }
+    }
+
+    fn sync(&mut self) -> io::Result<()> {
+        match fs::open(self.rt, self.own_path())?.sync_all() {
+            Err(error) if !has_no_sync(&error) => Err(error),
+            _ => Ok(()),
+        }
+    }
+
+    fn read_text(&self, alloc: Global, name: &str) -> io::Result<Option<String>> {
+        let path = self.path_of(name)?;
+        match file_there(self.rt, path.as_path())? {
+            Some(_) => Ok(Some(fs::read_to_string(self.rt, path.as_path())?)),
+            None => Ok(None),
+        }
+    }
+
+    fn names(&self, alloc: Global) -> io::Result<Vec<String>> {
+        let mut names = Vec::new(alloc);
+        for entry in fs::read_dir(self.rt, self.own_path())? {
+            if let Some(name) = name_of(alloc, entry)? {
+                names.push(name)?;
+            }
+        }
+        Ok(names)
+    }
+}

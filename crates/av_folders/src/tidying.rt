@@ -1,0 +1,135 @@
+//! Folders in which a run was cut off.
+ghost use Rattle.std.specs.Prelude.{IfErr, OnOk};
+ghost use Rattle.std.specs.Io.KnownBytes.{Appends};
+ghost use Rattle.av_folders.specs.Folders.{IsFolderFault};
+ghost use Rattle.av_folders.specs.Repairs.{removed_text};
+
+use crate::holding::LockFiles;
+use crate::system_folder::SystemFolder;
+use av_commands::failure::Failure;
+use av_exchange::{Folder, JOURNAL, is_own, repair};
+use av_sink::{Repair, Teller};
+use std::fs::{self, TryLockError};
+use std::io::{self, Write};
+use std::path::Path;
+use std::rt::Files;
+
+/// What a folder has that an exchange made.
+#[derive(Clone, Copy)]
+struct Traces {
+    /// Whether there is anything.
+    any: bool,
+    /// Whether there is a journal.
+    journal: bool,
+}
+
+/// What a folder has by its files' names.
+fn traces_in(names: &[String]) -> Traces {
+    let mut found = Traces {
+        any: false,
+        journal: false,
+    };
+    for name in names {
+        found.any |= is_own(name.as_str());
+        found.journal |= name.as_str() == JOURNAL;
+    }
+    found
+}
+
+/// Locks a folder, unless another process holds it. Where its file system has no locks it is as if it did.
+fn hold_if_free<R: LockFiles>(rt: &R, folder: &str) -> io::Result<Option<R::File>> {
+    let opened = fs::open(rt, folder)?;
+    match R::try_lock(&opened) {
+        Err(TryLockError::WouldBlock) => Ok(None),
+        _ => Ok(Some(opened)),
+    }
+}
+
+/// Repairs a folder that is not held. Nothing is done about one that another process holds, which works on it.
+fn repair_if_free<R: LockFiles + Eprint + AllocGlobal + Clone + Drop>(
+    rt: &R,
+    path: &str,
+    folder: &mut SystemFolder<'_, R>,
+) -> io::Result<Option<Repair>> {
+    let Some(_held) = hold_if_free(rt, path)? else {
+        return Ok(None);
+    };
+    let teller = RepairTeller { rt, folder: path };
+    Ok(Some(repair(rt.alloc(), folder, &teller)?))
+}
+
+/// Repairs a folder where a run was cut off there. Files that belong to none may stay, as where nothing can be written.
+fn repair_found<R: LockFiles + Eprint + AllocGlobal + Clone + Drop>(
+    rt: &R,
+    path: &str,
+) -> io::Result<Option<Repair>> {
+    let mut folder = SystemFolder::new(rt, String::from_str(rt.alloc(), path)?);
+    let Ok(names) = folder.names(rt.alloc()) else {
+        return Ok(None);
+    };
+    let found = traces_in(names.as_slice());
+    if !found.any {
+        return Ok(None);
+    }
+    match repair_if_free(rt, path, &mut folder) {
+        Err(_) if !found.journal => Ok(None),
+        repaired => repaired,
+    }
+}
+
+fn write_removed<E: Write>(err: &mut E, folder: &str, files: usize) -> io::Result<()>
+    ensures { OnOk result (Appends (E.contents err.old) (E.contents err.new) (removed_text folder.now files)) }
+{
+    writeln!(
+        err,
+        "{folder}: {files} files that a run left behind when it was cut off are taken away"
+    )
+}
+
+/// Says how many files are taken away that a run left behind, where there were some, as well as that can be written.
+pub fn note_removed<E: Write>(err: &mut E, folder: &str, repaired: Repair) {
+    if repaired.removed > 0 {
+        let _ = write_removed(err, folder, repaired.removed);
+    }
+}
+
+/// Tells on standard error that a run of a folder that was cut off is finished.
+#[derive(Drop)]
+pub struct RepairTeller<'a, R> {
+    pub rt: &'a R,
+    pub folder: &'a str,
+}
+
+impl<'a, R: Eprint> Teller for RepairTeller<'a, R> {
+    fn finished(&self, files: usize) {
+        let folder = self.folder;
+        let _ = eprintln!(self.rt;
+            "{folder}: a run that was cut off is finished: {files} files took their places"
+        );
+    }
+}
+
+/// Repairs a folder that is to be read, where a run was cut off there and no other process holds it, and says so on standard error.
+///
+/// # Errors
+/// `Device` with the name that is given for the folder in faults, where a journal stands that can't be done with; and want of memory.
+pub fn tidy<R: LockFiles + Eprint + AllocGlobal + Clone + Drop, E: Write>(
+    rt: &R,
+    folder: &str,
+    name: &str,
+    err: &mut E,
+) -> Result<(), Failure>
+    ensures { IfErr result (λ e. IsFolderFault name.now e.fault) }
+{
+    match repair_found(rt, folder) {
+        Ok(Some(repaired)) => {
+            note_removed(err, folder, repaired);
+            Ok(())
+        }
+        Ok(None) => Ok(()),
+        Err(error) => {
+            let path = Path::new(folder).join(rt.alloc(), JOURNAL)?;
+            Err(Failure::of_device(rt.alloc(), error, name, path.as_str()))
+        }
+    }
+}
