@@ -1,4 +1,4 @@
-//! The program that `bench/run.sh` times: hot paths of the crates, one a command. Beside this it runs ticks of a small world
+//! The program that `bench/plain.sh` times: hot paths of the crates, one a command. Beside this it runs ticks of a small world
 //! for the merge gate, which refuses its growths.
 #![tactic(auto)]
 

@@ -1,6 +1,6 @@
 #!/usr/bin/env bash
 # Times the proved code beside the plain program, both over one full region of 1,024 chunks, in one run.
-#   bench/run.sh [TIMES]    how often each command runs, 7 by default (block 8 times as often); the best time counts
+#   bench/plain.sh [TIMES]    how often each command runs, 7 by default (block 8 times as often); the best time counts
 set -eu
 top=$(cd "$(dirname "$0")/.." && pwd)
 times=${1:-7}
