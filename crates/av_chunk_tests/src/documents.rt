@@ -1,5 +1,7 @@
 //! Chunks of documents that were put together by hand, read and written back.
-ghost use Rattle.std.specs.Prelude.{◌≡◌, ◌≤◌, IfOk, length};
+ghost use Rattle.std.specs.Int.{w32};
+ghost use Rattle.std.specs.Prelude.{◌≡◌, ◌≤◌, ◌-ℤ◌, IfOk, IsTrue, All, length, pos};
+ghost use Rattle.std.specs.Int.RustNames.{FitsSigned};
 ghost use Rattle.av_state.specs.Table.{states};
 ghost use Rattle.av_rules.specs.declared.kinds.Kinds.{Kinds};
 ghost use Rattle.av_chunk.specs.Writing.{CanWrite, states_of_kinds};
@@ -49,17 +51,18 @@ fn kinds_of(alloc: Global, table: StateTable) -> Result<Kinds, Fault>
     Kinds::new(alloc, table, &rules)
 }
 
-/// What is written of a chunk, no tick after it was read.
+/// What is written of a chunk, so many ticks after it was read.
 fn written(
     alloc: Global,
     chunk: &Chunk,
     rest: &ChunkRest,
     kinds: &Kinds,
     light: &ChunkLight,
+    ticks: u32,
 ) -> Result<Vec<u8>, Fault>
-    requires { CanWrite chunk.now rest.now kinds.now light.now 0 }
+    requires { CanWrite chunk.now rest.now kinds.now light.now ticks }
 {
-    let root = chunk.write(alloc, rest, kinds, light, 0)?;
+    let root = chunk.write(alloc, rest, kinds, light, ticks)?;
     encode(alloc, &root)
 }
 
@@ -70,15 +73,38 @@ fn written_by(
     rest: &ChunkRest,
     table: StateTable,
     light: &ChunkLight,
+    ticks: u32,
 ) -> Result<Vec<u8>, Fault>
-    requires { (kinds : Kinds) → states_of_kinds kinds ≡ states table → CanWrite chunk.now rest.now kinds light.now 0 }
+    requires { (kinds : Kinds) → states_of_kinds kinds ≡ states table → CanWrite chunk.now rest.now kinds light.now ticks }
 {
     let kinds = kinds_of(alloc, table)?;
-    written(alloc, chunk, rest, &kinds, light)
+    written(alloc, chunk, rest, &kinds, light, ticks)
 }
 
-/// What is written of the chunk that bytes spell, no tick after it was read. The light is that of all sections from 0 up.
-pub(crate) fn rewritten(alloc: Global, bytes: &[u8], light: &ChunkLight) -> Result<Vec<u8>, Fail> {
+/// Whether the time of an entry fits an Int so many ticks later.
+fn fits_after(entry: &Entry, ticks: u32) -> bool
+    ensures { IsTrue result → FitsSigned w32 (entry.now.due -ℤ pos ticks) }
+{
+    match entry.due.checked_sub(i64::from(ticks)) {
+        Some(due) => i32::try_from(due).is_ok(),
+        None => false,
+    }
+}
+
+/// Whether the times of all entries do.
+fn fit_after(entries: &[Entry], ticks: u32) -> bool
+    ensures { IsTrue result → All (λ e. FitsSigned w32 (e.due -ℤ pos ticks)) entries.now }
+{
+    entries.iter().all(|entry| fits_after(entry, ticks))
+}
+
+/// What is written of the chunk that bytes spell, so many ticks after it was read. The light is that of all sections from 0 up.
+pub(crate) fn rewritten_after(
+    alloc: Global,
+    bytes: &[u8],
+    light: &ChunkLight,
+    ticks: u32,
+) -> Result<Vec<u8>, Fail> {
     let sections = light.len();
     if bytes.len() > MOST_BYTES || sections < 1 || sections > 64 {
         return Err(Fail::new("too many bytes or sections"));
@@ -93,7 +119,15 @@ pub(crate) fn rewritten(alloc: Global, bytes: &[u8], light: &ChunkLight) -> Resu
     let Reading::Full { chunk, rest } = reading else {
         return Err(Fail::new("a chunk that is not full"));
     };
-    Ok(written_by(alloc, &chunk, &rest, table, light)?)
+    if !fit_after(chunk.ticks.as_slice(), ticks) {
+        return Err(Fail::new("an entry that is due too early"));
+    }
+    Ok(written_by(alloc, &chunk, &rest, table, light, ticks)?)
+}
+
+/// The same before any tick.
+pub(crate) fn rewritten(alloc: Global, bytes: &[u8], light: &ChunkLight) -> Result<Vec<u8>, Fail> {
+    rewritten_after(alloc, bytes, light, 0)
 }
 
 /// A document is written as another one, with this light.
@@ -250,6 +284,15 @@ const WRITTEN_TICKS: &[Piece<'static>] = &[
     Tick(FLOWING, [18, 0, -32, 2, 5]),
 ];
 
+/// The same five ticks after they were read.
+const TICKS_AFTER_5: &[Piece<'static>] = &[
+    Tick(FLOWING, [20, 0, -32, 4, 0]),
+    Tick(STILL, [16, 0, -32, 2, -1]),
+    Tick(STILL, [19, 0, -32, -8, 0]),
+    Tick(FLOWING, [17, 0, -32, 2, 0]),
+    Tick(FLOWING, [18, 0, -32, -3, 5]),
+];
+
 /// A second entry of a block, which is dropped.
 const SECOND: Piece<'static> = Tick(FLOWING, [16, 0, -32, 0, 0]);
 
@@ -260,20 +303,43 @@ const OLD_FIVE: Piece<'static> = Longs([0, 0, 0, 0, 0, 0, 0x43, 0x21], 0);
 
 const NEW_FIVE: Piece<'static> = Longs([68, 68, 68, 68, 68, 68, 0x32, 0x10], 68);
 
+/// What follows the ticks of a chunk of five states, as it is read.
+const READ_FIVE: &[Piece<'static>] = &[
+    SECOND, LOW_LAVA, SECTIONS_1, Y_0, STATES, PALETTE_5, STONE, WATER, LEVEL_0, WATER, LEVEL_3,
+    WATER, LEVEL_8, SLAB, DATA, OLD_FIVE, END, END, END,
+];
+
+/// The same as it is written.
+const WRITTEN_FIVE: &[Piece<'static>] = &[
+    SECTIONS_1, Y_0, STATES, PALETTE_5, WATER, LEVEL_0, WATER, LEVEL_3, WATER, LEVEL_8, SLAB, STONE,
+    DATA, NEW_FIVE, END, DARK, END, END,
+];
+
+/// That chunk is written so, so many ticks after it was read.
+fn expect_ticks_after(
+    rt: &impl Abort,
+    alloc: Global,
+    ticks: u32,
+    ticks_written: &[Piece],
+) -> Result<(), Fail> {
+    let light = ChunkLight::new(alloc, 1)?;
+    let bytes = joined(alloc, &[&[ROOT, TICKS_7], READ_TICKS, READ_FIVE])?;
+    let written = rewritten_after(alloc, &bytes, &light, ticks)?;
+    let mut want = joined(alloc, &[&[ROOT, TICKS_6, LOW_LAVA]])?;
+    push_all(&mut want, ticks_written)?;
+    push_all(&mut want, WRITTEN_FIVE)?;
+    expect_equal(rt, written, want);
+    Ok(())
+}
+
 #[test]
 fn water_ticks_keep_their_order(rt: HostRuntime) -> Result<(), Fail> {
-    let light = ChunkLight::new(rt.alloc(), 1)?;
-    let read: &[Piece] = &[
-        SECOND, LOW_LAVA, SECTIONS_1, Y_0, STATES, PALETTE_5, STONE, WATER, LEVEL_0, WATER,
-        LEVEL_3, WATER, LEVEL_8, SLAB, DATA, OLD_FIVE, END, END, END,
-    ];
-    let written: &[Piece] = &[
-        SECTIONS_1, Y_0, STATES, PALETTE_5, WATER, LEVEL_0, WATER, LEVEL_3, WATER, LEVEL_8, SLAB,
-        STONE, DATA, NEW_FIVE, END, DARK, END, END,
-    ];
-    let document = [&[ROOT, TICKS_7], READ_TICKS, read];
-    let want = [&[ROOT, TICKS_6, LOW_LAVA], WRITTEN_TICKS, written];
-    expect_written(&rt, rt.alloc(), &light, &document, &want)
+    expect_ticks_after(&rt, rt.alloc(), 0, WRITTEN_TICKS)
+}
+
+#[test]
+fn water_ticks_come_sooner_by_the_ticks_that_were_run(rt: HostRuntime) -> Result<(), Fail> {
+    expect_ticks_after(&rt, rt.alloc(), 5, TICKS_AFTER_5)
 }
 
 /// Section -1, and 16 sections of air from 0 on.
