@@ -6,3 +6,4 @@ pub mod CheckCommand
 pub mod Tables
 pub mod Texts
 pub mod Shipped
+pub mod Edits

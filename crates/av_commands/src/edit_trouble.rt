@@ -1,4 +1,7 @@
 //! What is wrong with a line of edits that is refused.
+ghost use Rattle.std.specs.Prelude.{IfOk};
+ghost use Rattle.av_commands.specs.Edits.{IsEditCause, IsTroubleOf};
+
 use av_types::Fault;
 use std::alloc::{AllocError, Global};
 
@@ -26,7 +29,9 @@ pub struct EditTrouble {
 }
 
 /// The line of a fault of edits, from 1 on, and why it is refused by a run of so many ticks.
-pub fn edit_cause(fault: &Fault, ticks: u32) -> Option<(u64, EditCause)> {
+pub fn edit_cause(fault: &Fault, ticks: u32) -> Option<(u64, EditCause)>
+    ensures { IsEditCause ticks fault.now result }
+{
     match fault {
         Fault::BadEdit(line) => Some((*line, EditCause::Form)),
         Fault::EditTick(line) => Some((*line, EditCause::Tick(ticks))),
@@ -55,7 +60,9 @@ impl EditTrouble {
         text: Option<&[u8]>,
         line: u64,
         cause: EditCause,
-    ) -> Result<EditTrouble, AllocError> {
+    ) -> Result<EditTrouble, AllocError>
+        ensures { IfOk result (IsTroubleOf path.now line cause) }
+    {
         let said = match text {
             Some(text) => said_line(text, line),
             None => None,
