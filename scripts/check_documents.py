@@ -12,8 +12,9 @@ import sys
 import tempfile
 
 sys.dont_write_bytecode = True
-from check_memory import ENDED, answer_of, answers, refusing
+from check_memory import ENDED, answer_of, answers
 from make_samples import BYTE, BYTES, COMPOUND, DOUBLE, FLOAT, INT, INTS, LIST, LONG, LONGS, SHORT, TEXT
+from preloads import built_library
 
 # What BENCH answers of a document that spells nothing.
 NO_DOCUMENT = ("", "Error: fault 10: BadNbt", 1)
@@ -96,7 +97,7 @@ def check(bench, library, work):
 def main():
     bench = os.path.abspath(sys.argv[1])
     with tempfile.TemporaryDirectory() as work:
-        library = refusing(work)
+        library = built_library("refuse", work)
         if library is None:
             print("0 asked of documents that spell nothing: there is no C compiler")
             return

@@ -20,6 +20,7 @@ from concurrent.futures import ThreadPoolExecutor
 
 sys.dont_write_bytecode = True
 from flat_runs import TABLE, WATER, edit, flat, many_chunks, said
+from preloads import built_library
 
 # A run of many chunks has some ten thousand growths: this many are passed over from one that is refused to the next.
 STEP = 499
@@ -121,22 +122,11 @@ def check_ticks(name, case):
     return asked, wrong
 
 
-def refusing(work):
-    """The library that refuses growths, made in a folder. None where there is no C compiler."""
-    compiler = shutil.which("cc")
-    if compiler is None:
-        return None
-    library = os.path.join(work, "refuse.so")
-    source = os.path.join(os.path.dirname(os.path.abspath(__file__)), "refuse.c")
-    subprocess.run([compiler, "-shared", "-fPIC", "-O1", source, "-o", library, "-ldl"], check=True)
-    return library
-
-
 def main():
     program, bench = map(os.path.abspath, sys.argv[1:])
     counts = []
     with tempfile.TemporaryDirectory() as work:
-        library = refusing(work)
+        library = built_library("refuse", work)
         if library is None:
             print("0 asked of refused growths: there is no C compiler")
             return

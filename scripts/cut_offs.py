@@ -1,7 +1,6 @@
 """Runs of a small world in place that halt.c stops or lets fail, for check_cut_off.py and check_devices.py, and what they leave."""
 import itertools
 import os
-import shutil
 import signal
 import stat
 import subprocess
@@ -10,6 +9,7 @@ import typing
 
 from flat_runs import TABLE, WATER, chunk, edit, said
 from make_samples import region_bytes
+from preloads import built_library
 
 # A chunk of each of four regions. A source of water is set in the first three, so that they change with every run.
 CHUNKS = (-1, 0), (0, 0), (0, 32), (96, 96)
@@ -94,22 +94,11 @@ def is_left(name):
     return name in (NEW_JOURNAL, TRIAL) or name in map(part, REGIONS)
 
 
-def halting(work):
-    """The library that stops calls, made in a folder. None where there is no C compiler."""
-    compiler = shutil.which("cc")
-    if compiler is None:
-        return None
-    library = os.path.join(work, "halt.so")
-    source = os.path.join(os.path.dirname(os.path.abspath(__file__)), "halt.c")
-    subprocess.run([compiler, "-shared", "-fPIC", "-O1", source, "-o", library, "-ldl"], check=True)
-    return library
-
-
 class World:
     """A world of four regions in a folder of its own, as it is before, after one run in place and after two."""
 
     def __init__(self, program, work):
-        self.program, self.work, self.library, self.folders = program, os.path.realpath(work), halting(work), itertools.count()
+        self.program, self.work, self.library, self.folders = program, os.path.realpath(work), built_library("halt", work), itertools.count()
         for name, text in (("table", TABLE), ("edits", EDITS)):
             with open(self.path(name), "w") as file:
                 file.write(text)
