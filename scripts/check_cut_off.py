@@ -167,7 +167,10 @@ class Stopped:
         folder, answer, calls = self.stopped(call, when, sent=sent)
         yield "its end", (-sent, self.calls[:call]), (answer.status, calls)
         found = shots(folder)
-        phase = self.phase.after(calls if when == "after" else calls[:-1])
+        done = calls if when == "after" else calls[:-1]
+        phase = self.phase.after(done)
+        if self.name == "run" and not {*PLACES} <= {*done}:
+            yield "what it says before all files have their places", "", answer.line
         if phase is Phase.DONE:
             has_said = Answer(-sent, TOLD, []) if self.phase is Phase.BEGUN else Answer(-sent, "", told(folder, self.phase, self.files))
             yield "what it has said", has_said, answer._replace(errors=answer.errors[:1])
@@ -187,6 +190,10 @@ class Stopped:
         folder, answer, _ = self.stopped(call, when, error=error)
         found, old, new = contents(shots(folder)), contents(self.world.old), contents(self.world.new)
         yield "its answer", True, self.is_answer(folder, answer)
+        if self.name == "run" and answer.status == 1 and not {*PLACES} <= {*self.calls[:call - 1]}:
+            yield "what it says where not all files have their places", "", answer.line
+        if self.phase is Phase.BEGUN and self.calls[call - 1] == GO:
+            yield "its answer where the journal stays", Answer(1, TOLD, ["fault 25: Device " + folder]), answer
         if answer.status == 0:
             yield "regions", [], differing(self.goal, found, REGIONS)
         elif JOURNAL not in found:

@@ -69,6 +69,10 @@ def commands(world):
         yield "a run from it", answer._replace(errors=[line % (folder, left)]), world.ask(world.words(out, source=folder))
         yield "files after a run from it", [], differing(seen, shots(folder))
         yield "what that run writes", [], differing(contents(written), contents(shots(out)), REGIONS)
+        folder = world.laid(files)
+        told = "".join("%s: 1 chunks would change\n" % name for name in sorted(CHANGED)) + answer.line
+        yield "a dry run, which goes on", Answer(0, told, [line % (folder, left)]), world.run(folder, "--dry-run")
+        yield "files after a dry run", [], differing(seen, shots(folder))
     folder = world.laid(with_journal(world))
     yield "a run into it", Answer(0, "", [FINISHED % (folder, 3), NOTHING_ELSE]), world.ask(world.words(folder, source=world.laid(world.twice)))
     yield "files after a run into it", [], differing(world.new, shots(folder))

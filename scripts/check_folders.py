@@ -74,6 +74,7 @@ def check_held(program, work, want):
         status, lines = run(program, folder, folder, "--explain")
         process = "  %s: process %d works on it: wait until it has ended" % (folder, os.getpid())
         expect("the process that holds it", (1, ["fault 25: Device %s" % folder, process]), (status, lines))
+        expect("a dry run, which holds none", 0, run(program, folder, folder, "--dry-run")[0])
         expect("its files", before, contents(folder))
     expect("the folder once it is free", (0, []), run(program, folder, folder))
     expect("what is written then", want, contents(folder))

@@ -15,7 +15,7 @@ cd "$top"
 expect() {
   local status=$1 line=$2 answered=0 said=err silent=out right=true
   shift 2
-  case "$status $*" in '0 '* | *--help) said=out silent=err ;; esac
+  case "$status $*" in '0 '* | *--help | '2 help'* | *' -h') said=out silent=err ;; esac
   "$program" "$@" > "$work/out" 2> "$work/err" || answered=$?
   asked=$((asked + 1))
   [ "$answered" = "$status" ] && [ ! -s "$work/$silent" ] || right=false
@@ -84,34 +84,70 @@ expect 2 "$not_a_region" block README.md 0 0 0
 expect 2 "error: the following required arguments were not provided:" block samples/r.0.0.mca 0 0
 expect 2 "error: unexpected argument '-1' found" block samples/r.0.0.mca 0 -1 0
 expect 2 "error: 'anvilwater' requires a subcommand but one was not provided"
-expect 2 "Reads Minecraft region files, and runs water and light over them" --help
+for words in --help -h help; do
+  expect 2 "Reads Minecraft region files, and runs water and light over them" $words
+done
 expect 2 "error: unrecognized subcommand 'blocks'" blocks
 expect 0 "anvilwater 0.1.0" --version
 expect 0 "anvilwater 0.1.0" -V
 expect 2 "error: unexpected argument '--version' found" check --version
 expect 2 "error: the words are no text in UTF-8" block $'\377' 0 0 0
+expect 2 "error: unrecognized subcommand 'bloc'" bloc samples/r.0.0.mca 4 67 15
+expect 2 "error: unexpected argument '--tab' found" check --tab tables/blocks.toml --in samples
+
+# Each command has its own words, and is refused with those that only others have. A word has no letter, and all but --skip are given once.
+for command in block check run map states; do
+  case $command in
+    block) others='in out edits ticks workers skip strict dry-run again in-use progress colours light' ;;
+    check) others='out edits ticks workers skip strict dry-run again in-use colours light' ;;
+    run) others='colours light' ;;
+    map) others='edits ticks workers skip strict dry-run again in-use progress' ;;
+    states) others='out edits ticks workers skip strict dry-run again in-use progress colours light' ;;
+  esac
+  for other in $others version; do
+    expect 2 "error: unexpected argument '--$other' found" $command --$other
+  done
+  for letter in {a..g} {i..z} V; do
+    expect 2 "error: unexpected argument '-$letter' found" $command -$letter
+  done
+  [ $command = block ] || expect 2 "error: unexpected argument 'samples' found" $command samples
+done
+for word in out=DIR table=FILE edits=FILE ticks=N workers=N; do
+  expect 2 "error: the argument '--${word%=*} <${word#*=}>' cannot be used multiple times" run --in samples --${word%=*}=1 --${word%=*}=1
+done
+for word in strict dry-run again in-use progress explain; do
+  expect 2 "error: the argument '--$word' cannot be used multiple times" run --in samples --$word --$word
+done
 
 # A coordinate is a number of 32 bits.
 expect 0 unloaded block -- samples/r.0.0.mca 2147483647 -2147483648 2147483647
 expect 0 unloaded block -- samples/r.0.0.mca -2147483648 2147483647 -2147483648
 for number in 2147483648 -2147483649; do
-  expect 2 "error: invalid value '$number' for '<Y>': $number is not in -2147483648..=2147483647" \
-    block -- samples/r.0.0.mca 0 $number 0
+  limits="$number is not in -2147483648..=2147483647"
+  expect 2 "error: invalid value '$number' for '<X>': $limits" block -- samples/r.0.0.mca $number 0 0
+  expect 2 "error: invalid value '$number' for '<Y>': $limits" block -- samples/r.0.0.mca 0 $number 0
+  expect 2 "error: invalid value '$number' for '<Z>': $limits" block -- samples/r.0.0.mca 0 0 $number
+done
+for number in 0x1 1.0 ' 1' 1_0; do
+  expect 2 "error: invalid value '$number' for '<X>': invalid digit found in string" block -- samples/r.0.0.mca "$number" 0 0
 done
 
 # The file is read before its name is, and the name before the region.
-for name in r.60001.0 r.0.60001 r.-60001.0 r.2147483647.0 r.2147483648.0 r.-2147483649.0 r.00.0 r.-0.0; do
+large='r.2147483648.0 r.-2147483649.0 r.0.2147483648 r.0.-2147483649'
+for name in r.60001.0 r.0.60001 r.-60001.0 r.0.-60001 r.2147483647.0 $large r.00.0 r.-0.0; do
   expect 1 "fault 25: Device $work/$name.mca" block "$work/$name.mca" 0 0 0
   head -c 100 /dev/zero > "$work/$name.mca"
 done
-for name in r.60001.0 r.0.60001 r.-60001.0 r.2147483647.0; do
+for name in r.60001.0 r.0.60001 r.-60001.0 r.0.-60001 r.2147483647.0; do
   expect 1 "fault 02: RegionRange" block "$work/$name.mca" 0 0 0
 done
-for name in r.2147483648.0 r.-2147483649.0 r.00.0 r.-0.0; do
+for name in $large r.00.0 r.-0.0; do
   expect 2 "$not_a_region" block "$work/$name.mca" 0 0 0
 done
-: > "$work/r.60000.-60000.mca"
-expect 0 unloaded block "$work/r.60000.-60000.mca" 0 0 0
+for name in r.60000.-60000 r.-60000.60000; do
+  : > "$work/$name.mca"
+  expect 0 unloaded block "$work/$name.mca" 0 0 0
+done
 mkdir "$work/r.1.1.mca"
 expect 1 "fault 25: Device $work/r.1.1.mca" block "$work/r.1.1.mca" 0 0 0
 
@@ -134,6 +170,31 @@ expect_full() {
 expect_full "$full" block samples/r.0.0.mca 4 67 15
 expect_full "$full" --version
 expect_full "$work/nothing$bare$full" "${nothing[@]}"
+# But for help, whose status stays, and on standard error: what can't be said there changes no status.
+# expect_unsaid STATUS STREAM WORDS..
+expect_unsaid() {
+  local status=$1 stream=$2 answered=0
+  shift 2
+  [ -c /dev/full ] || return 0
+  if [ "$stream" = out ]; then
+    "$program" "$@" > /dev/full || answered=$?
+  else
+    "$program" "$@" > "$work/out" 2> /dev/full || answered=$?
+  fi
+  asked=$((asked + 1))
+  if [ "$answered" != "$status" ]; then
+    wrong=$((wrong + 1))
+    echo "$*: standard $stream to /dev/full: expected $status, status $answered"
+  fi
+}
+expect_unsaid 2 out --help
+expect_unsaid 2 err blocks
+expect_unsaid 2 err block README.md 0 0 0
+expect_unsaid 1 err block missing/r.0.0.mca 0 0 0
+expect_unsaid 0 err block --explain samples/r.0.0.mca 512 67 15
+expect_unsaid 1 err "${nothing[@]}" --skip README
+expect_unsaid 0 err "${nothing[@]}"
+expect_unsaid 0 err check --progress --in samples
 
 # What is wrong with a folder. The words are judged before the table, the table before the folder, and that before its
 # files, which are read in the byte order of their names.
@@ -172,7 +233,9 @@ expect_on_terminal() {
     echo "$*, on a terminal: expected '$want', found '$told'"
   fi
 }
-expect_on_terminal "|1 of 2 files read|2 of 2 files read|2 files, 6 chunks, 0 findings\n" check --in samples
+for words in '' --progress; do
+  expect_on_terminal "|1 of 2 files read|2 of 2 files read|2 files, 6 chunks, 0 findings\n" check $words --in samples
+done
 expect_on_terminal "fault 25: Device missing\n  missing: No such file or directory (os error 2)\n$missing" check --in missing
 expect 1 "fault 25: Device missing.toml" check --table missing.toml --in missing
 expect 1 "fault 19: BadTable" check --table README.md --in missing
@@ -295,6 +358,28 @@ for left_out in 5 7 11; do
   expect_all 0 "chunks 0 turns 0\n" "$work/nothing$bare" "${nothing[@]:0:left_out}" "${nothing[@]:left_out + 2}"
 done
 expect_all 0 "chunks 0 turns 0\n" "$work/nothing$bare" "${nothing[@]:0:5}" --ticks 0
+# They are 8 at most, where the system says that it has 64 processors. That it was asked is written to 9.
+if command -v cc > /dev/null; then
+  cc -shared -fPIC -O1 -x c - -o "$work/processors.so" << 'END'
+#define _GNU_SOURCE
+#include <sched.h>
+#include <string.h>
+#include <unistd.h>
+
+int sched_getaffinity(pid_t process, size_t size, cpu_set_t *set)
+{
+    memset(set, 0, size);
+    memset(set, 255, 8);
+    return write(9, "asked", 5) == 5 ? 0 : -1;
+}
+END
+  LD_PRELOAD="$work/processors.so" expect_all 0 "chunks 0 turns 0\n" "$work/nothing$bare" "${nothing[@]:0:11}" 9> "$work/asked"
+  asked=$((asked + 1))
+  if ! grep -q asked "$work/asked"; then
+    wrong=$((wrong + 1))
+    echo "a run without --workers did not ask for the processors"
+  fi
+fi
 expect 2 "Runs edits, water and block light over the region files of a folder" run --help
 run() {
   local table=$1 edits=$2 input=$3 output=$4 workers=$5
@@ -332,6 +417,8 @@ expect_run 1 "" "$input${bare}fault 23: BadCount\n" README.md "$edits" "$input" 
 expect_run 1 "" "$input${bare}fault 19: BadTable\n" README.md "$edits" "$input" "$output" +08
 expect_all 1 "" "$work/nothing${bare}fault 23: BadCount\n" "${nothing[@]:0:9}" --ticks 4294967295 --workers 9
 for number in 4294967296 -1; do
+  expect 2 "error: invalid value '$number' for '--workers <N>': $number is not in 0..=4294967295" \
+    "${nothing[@]:0:9}" --ticks 0 "--workers=$number"
   expect 2 "error: invalid value '$number' for '--ticks <N>': $number is not in 0..=4294967295" \
     "${nothing[@]:0:9}" "--ticks=$number" --workers 1
 done
@@ -342,7 +429,10 @@ head -c 8192 /dev/zero > "$input/r.-1.0.mca"
 printf 'no region' > "$input/README"
 mkdir "$input/r.2.0.mca"
 expect_run 1 "" "fault 25: Device r.2.0.mca\n" "$blocks" "$edits" "$input" "$output" 9
-rmdir "$input/r.2.0.mca"
+mkdir "$input/r.10.0.mca"
+expect_run 1 "" "fault 25: Device r.10.0.mca\n" "$blocks" "$edits" "$input" "$output" 9
+expect_run 1 "" "fault 25: Device r.10.0.mca\n" "$blocks" "$edits" "$input" "$output" 9 --skip r.0.0.mca
+rmdir "$input/r.2.0.mca" "$input/r.10.0.mca"
 # Files are written by (z, x) of their regions, and none behind one that can't be written.
 mkdir "$output/r.-1.0.mca"
 expect_run 1 "" "fault 25: Device r.-1.0.mca\n" "$blocks" "$edits" "$input" "$output" 1
@@ -431,6 +521,19 @@ expect 1 "fault 19: BadTable" check --table - --in missing < README.md
 expect 1 "fault 19: BadTable" states --table - --in missing < README.md
 expect 1 "fault 19: BadTable" map --colours - --in missing --out "$work/twice.png" < README.md
 expect 1 "fault 25: Device missing" map --colours - --in missing --out "$work/twice.png" < tables/colours.toml
+# One that can't be read is named -.
+expect 1 "fault 25: Device -" block --table - samples/r.0.0.mca 4 67 15 < "$work"
+expect 1 "fault 25: Device -" run --in samples --out "$output" --ticks 0 --edits - < "$work"
+expect 1 "fault 25: Device -" map --in samples --out "$work/twice.png" --colours - < "$work"
+# Two are refused before all else. A text of a longer name is none, nor is a region's file, a folder or a picture that is named -.
+expect 2 "$twice" run --in missing --out missing --ticks 0 --table - --edits - --skip README < "$edits"
+expect 1 "fault 25: Device -x" block --table=-x missing/r.0.0.mca 0 0 0
+expect 1 "fault 25: Device -x" run --in "$input" --out "$output" --ticks 0 --table=-x --edits=-x
+expect 1 "fault 25: Device -" block --table - - 0 0 0 < "$blocks"
+expect 1 "fault 25: Device -" check --table - --in - < "$blocks"
+expect 1 "fault 25: Device -" states --table - --in - < "$blocks"
+expect 1 "fault 25: Device -" map --table - --in - --out - < "$blocks"
+expect 1 "fault 25: Device -" run --table - --in - --out - --ticks 0 < "$blocks"
 rm "$output"/*
 
 # Files that are skipped count as not there, and stay as they are, even where they can't be read.
@@ -438,6 +541,11 @@ skipped=" is skipped: it counts as not there and stays as it is\n"
 expect_run 1 "" "--skip README: the name of a region's file is r.X.Z.mca\n" "$blocks" "$edits" "$input" "$output" 1 --skip README
 expect_run 1 "" "--skip r.01.0.mca: the name of a region's file is r.X.Z.mca\n" "$blocks" "$edits" "$input" "$output" 1 --skip r.01.0.mca
 expect_run 1 "" "--skip r.9.9.mca: the folder has no such file\n" "$blocks" "$edits" "$input" "$output" 1 --skip r.-1.-1.mca --skip r.9.9.mca
+# They are judged before all else, one after the other.
+expect_run 1 "" "--skip README: the name of a region's file is r.X.Z.mca\n" missing.toml missing.edits missing missing 9 --skip README
+expect_run 1 "" "--skip r.9.9.mca: the folder has no such file\n" missing.toml missing.edits missing missing 9 --skip r.9.9.mca
+expect_run 1 "" "--skip r.9.9.mca: the folder has no such file\n" "$blocks" "$edits" "$input" "$output" 1 --skip r.9.9.mca --skip README
+expect_run 1 "" "--skip README: the name of a region's file is r.X.Z.mca\n" "$blocks" "$edits" "$input" missing 1 --skip README --dry-run
 mkdir "$input/r.2.0.mca"
 head -c 100 /dev/zero > "$input/r.3.0.mca"
 expect_run 1 "" "fault 25: Device r.2.0.mca\n" "$blocks" "$edits" "$input" "$output" 1
@@ -457,11 +565,21 @@ if [ "$(ls "$output")" != r.-1.-1.mca ] || [ "$(stat -c %s "$input/r.3.0.mca")" 
   wrong=$((wrong + 1))
   echo "folders after files were skipped: $(ls -l "$input" "$output")"
 fi
+# One that is given twice is said once, and one beyond the limits may be given too.
+expect_run 0 "chunks 1 turns 0\n" "r.2.0.mca${skipped}r.3.0.mca$skipped" \
+  "$blocks" "$edits" "$input" "$output" 1 --skip r.3.0.mca --skip r.2.0.mca --skip r.3.0.mca
 rmdir "$input/r.2.0.mca"
-rm "$input/r.3.0.mca" "$output"/*
+rm "$input/r.3.0.mca"
+: > "$input/r.60001.0.mca"
+expect_run 1 "" "fault 02: RegionRange\n" "$blocks" "$edits" "$input" "$output" 1
+expect_run 0 "chunks 1 turns 0\n" "r.60001.0.mca$skipped" "$blocks" "$edits" "$input" "$output" 1 --skip r.60001.0.mca
+rm "$input/r.60001.0.mca" "$output"/*
 
 # What a run would change, in the order of the names, and nothing is written.
 expect_run 0 "r.-1.-1.mca: 1 chunks would change\nchunks 1 turns 0\n" "" "$blocks" "$edits" "$input" "$output" 1 --dry-run
+expect_run 0 "chunks 0 turns 0\n" "r.-1.-1.mca$skipped" "$blocks" "$edits" "$input" "$output" 1 --dry-run --skip r.-1.-1.mca
+mapfile -t words < <(run "$blocks" "$edits" "$input" "$output" 1 --dry-run)
+expect_full "$full" "${words[@]}"
 expect_run 1 "" "fault 25: Device missing\n" "$blocks" "$edits" "$input" missing 1 --dry-run
 expect_run 1 "" "fault 23: BadCount\n" "$blocks" "$edits" "$input" "$output" 9 --dry-run
 expect_run 1 "" "1$strict" "$work/bare.toml" "$edits" "$input" "$output" 1 --strict --dry-run
@@ -519,10 +637,16 @@ expect 1 "fault 25: Device $work/missing/picture.png" map --in samples --out "$w
 mkdir "$picture"
 expect 1 "fault 25: Device $picture" map --in samples --out "$picture"
 rmdir "$picture"
+expect 1 "fault 25: Device $work/empty/" map --in samples --out "$work/empty/"
 asked=$((asked + 1))
-if [ -e "$picture.part" ]; then
+if [ -n "$(ls -A "$work/empty")" ]; then
   wrong=$((wrong + 1))
-  echo "a picture that failed is left behind"
+  echo "folder after a picture without a name: $(ls -A "$work/empty")"
+fi
+asked=$((asked + 1))
+if compgen -G "$work/.anvilwater*" > "$work/out" || compgen -G "$picture*" >> "$work/out"; then
+  wrong=$((wrong + 1))
+  echo "a picture that failed is left behind: $(cat "$work/out")"
 fi
 expect_all 0 "" "" map --in samples --out "$picture"
 expect_all 0 "" "" map --in samples --out "$work/light.png" --light
@@ -587,11 +711,14 @@ while read -r bytes line; do
 done << 'END'
 \0\0\0\5\3\12\0\0\0 fault 12: BadChunk
 \0\0\0\1\203 fault 08: ExternalChunk
+\0\0\0\1\200 fault 08: ExternalChunk
 \0\0\0\0 fault 07: BadLength
 \0\0\20\0\3 fault 06: TruncatedChunk
 END
-sector "$one" '\0\0\0\5\2\12\0\0\0'
-expect_all 1 "" "fault 09: Compression 2\n$advice" block "$one" 0 900 0
+for type in 0 1 2 4 127; do
+  sector "$one" "\\0\\0\\0\\5$(printf '\\%03o' $type)\\12\\0\\0\\0"
+  expect_all 1 "" "fault 09: Compression $type\n$advice" block "$one" 0 900 0
+done
 
 # Payloads that spell no root: a negative length, elements of no kind, a name twice, a byte after the root, each proper
 # beginning of a root, and a chain of 512 Lists one in another. That root and a chain of 511 are read, but are no chunk.
