@@ -412,7 +412,7 @@ expect_run 1 "" "$input${bare}fault 19: BadTable\n  $work/twice.toml, line 2: du
   "$work/twice.toml" "$edits" "$input" "$output" 1 --explain
 expect_all 1 "" "$work/nothing${bare}fault 23: BadCount\n  --ticks is 1000001, and 1000000 at most are run\n" \
   "${nothing[@]:0:9}" --ticks 1000001 --workers 8 --explain
-# A count is a number of 32 bits without a minus.
+# A count is a number of 32 bits that is not negative.
 expect_run 1 "" "$input${bare}fault 23: BadCount\n" README.md "$edits" "$input" "$output" 4294967295
 expect_run 1 "" "$input${bare}fault 19: BadTable\n" README.md "$edits" "$input" "$output" +08
 expect_all 1 "" "$work/nothing${bare}fault 23: BadCount\n" "${nothing[@]:0:9}" --ticks 4294967295 --workers 9
