@@ -1,7 +1,8 @@
 #!/usr/bin/env python3
 """Refuses each growth of small runs in turn, the first, the second and so on until a run ends with none refused: each run
-answers want of memory, or exactly what it answers when nothing is refused. Want of memory for the path of a file that is to be
-written counts as a write that failed. Where memory is refused in a tick, the world then answers 26 to each call.
+answers want of memory, or exactly what it answers when nothing is refused. Want of memory for the path of a file or a folder counts
+as a call of the system that failed; all files are then written or none, once the next command has looked at the folder. Where memory is
+refused in a tick, the world then answers 26 to each call.
 
 Of a run of many chunks, whose threads read chunks ahead and give memory back, each start of a thread is refused in turn, and every
 STEP-th growth.
@@ -25,7 +26,8 @@ from preloads import built_library
 # A run of many chunks has some ten thousand growths: this many are passed over from one that is refused to the next.
 STEP = 499
 
-REFUSALS = [("", "fault 01: OutOfMemory", 1), ("", "fault 25: Device r.0.0.mca", 1)]
+# The faults of a run in which a growth was refused: that of a path is one of its file or of the folder, which is called OUT here.
+REFUSALS = ["fault 01: OutOfMemory", "fault 25: Device r.0.0.mca", "fault 25: Device OUT"]
 
 # What BENCH answers where no growth is refused, where one is in a tick, and where one is before or after the ticks.
 TOLD = ("turns 2; 8 71 8 due 11 number 9; 8 72 8 due 11 number 1; 8 39 8 due 11 number 9; 8 40 8 due 11 number 1", "", 0)
@@ -61,10 +63,13 @@ class Run:
         os.mkdir(out)
         words = [self.program, "run", "--in", "in", "--out", out, "--table", "table", "--edits", "edits", "--ticks", "6",
                  "--workers", str(self.workers)]
-        answer, refused = answer_of(self.library, call, words, self.work, self.refuse)
+        (line, fault, status), refused = answer_of(self.library, call, words, self.work, self.refuse)
+        if any(name.startswith(".") for name in os.listdir(out)):
+            # What was cut off is finished or taken away by the next command.
+            subprocess.run([self.program, "check", "--in", out], capture_output=True, check=True)
         files = {name: open(os.path.join(out, name), "rb").read() for name in os.listdir(out)}
         shutil.rmtree(out)
-        return (answer, files), refused
+        return ((line, fault.replace(out, "OUT"), status), files), refused
 
 
 class Ticks:
@@ -90,13 +95,19 @@ def answers(case, step=1):
             first = last
 
 
+def is_refusal(answer, whole):
+    """Whether a run that was refused a growth answers that, and leaves all files or none: all where it told the counts."""
+    (line, fault, status), files = answer
+    return fault in REFUSALS and status == 1 and (line, files) in (("", {}), ("", whole[1]), (whole[0][0], whole[1]))
+
+
 def check_run(name, line, case, step=1):
     """How many growths of a run were refused, and how many of the answers are wrong. With none refused it answers the line."""
     whole, _ = case.ask(0)
     asked = wrong = 0
     for answer in answers(case, step):
         asked += 1
-        if answer != whole and (answer[0] not in REFUSALS or answer[1]):
+        if answer != whole and not is_refusal(answer, whole):
             wrong += 1
             growth = 1 + step * (asked - 1)
             print("growth %d of a run with %s: %s and the files %s" % (growth, name, answer[0], list(answer[1])))
