@@ -311,8 +311,8 @@ const READ_FIVE: &[Piece<'static>] = &[
 
 /// The same as it is written.
 const WRITTEN_FIVE: &[Piece<'static>] = &[
-    SECTIONS_1, Y_0, STATES, PALETTE_5, WATER, LEVEL_0, WATER, LEVEL_3, WATER, LEVEL_8, SLAB, STONE,
-    DATA, NEW_FIVE, END, DARK, END, END,
+    SECTIONS_1, Y_0, STATES, PALETTE_5, WATER, LEVEL_0, WATER, LEVEL_3, WATER, LEVEL_8, SLAB,
+    STONE, DATA, NEW_FIVE, END, DARK, END, END,
 ];
 
 /// That chunk is written so, so many ticks after it was read.

@@ -14,9 +14,9 @@ pub record IsOfNoLine (fault : Fault) : Type 0 where
 
 -- the line of a fault of edits, and why it is refused by a run of so many ticks
 pub data IsEditCause (ticks : ℕ) (fault : Fault) (cause : Option (ℕ × EditCause)) : Type 0 where
-  form : (line : ℕ) → fault ≡ BadEdit line → cause ≡ Some (line , Form) → IsEditCause ticks fault cause
-  tick : (line : ℕ) → fault ≡ EditTick line → cause ≡ Some (line , Tick ticks) → IsEditCause ticks fault cause
-  outside : (line : ℕ) → fault ≡ EditOutside line → cause ≡ Some (line , Outside) → IsEditCause ticks fault cause
+  form : (line : ℕ) → fault ≡ BadEdit line → cause ≡ Some (line, Form) → IsEditCause ticks fault cause
+  tick : (line : ℕ) → fault ≡ EditTick line → cause ≡ Some (line, Tick ticks) → IsEditCause ticks fault cause
+  outside : (line : ℕ) → fault ≡ EditOutside line → cause ≡ Some (line, Outside) → IsEditCause ticks fault cause
   none : IsOfNoLine fault → cause ≡ None → IsEditCause ticks fault cause
 
 -- the trouble with this line of a text of this name
