@@ -5,8 +5,8 @@
 
 Each job is an `rt lib`, in a copy of the tree of its own, since two of them in one tree wait for each other where they stand on the
 same crates. What a job has built goes to the tree itself, and from there to the copies that need it, so that no crate is proved twice.
-A crate is begun when those that it stands on are proved, first the one that most is left to prove above; those that less waits for leave
-it the processors (`nice`). COMMAND is run in the crate's own folder when all are proved; without one, `rt check`.
+A crate is begun when those that it stands on are proved, first the one that most is left to prove above. That one is proved by as many
+processes as rt chooses, and those beside it by one each. COMMAND is run in the crate's own folder when all are proved; without one, `rt check`.
 
 Lines on standard error say which crates are being proved, how many are done and about how long it will still take. Status: that of
 the command; 1 where a check failed before, which then tells what it printed; 2 where other words are needed.
@@ -119,11 +119,11 @@ class Trees:
         hand_on(built(TOP, name), built(tree, name), shutil.copy2)
 
     def check(self, name, is_awaited):
-        """Proves a crate in a copy that is free. One that is not awaited leaves the others the processors."""
+        """Proves a crate in a copy that is free. One that is not awaited is proved by one process."""
         with self.lock:
             tree = self.free.pop()
         self.prepare(tree, name)
-        command = ["nice", "-n", "0" if is_awaited else "10", "rt", "lib"]
+        command = ["rt", "lib"] if is_awaited else ["rt", "lib", "--jobs", "1"]
         started = subprocess.Popen(
             command, cwd=tree / "crates" / name, stdin=subprocess.DEVNULL, stdout=subprocess.PIPE, stderr=subprocess.STDOUT,
             start_new_session=True)
