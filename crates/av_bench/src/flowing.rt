@@ -2,7 +2,7 @@
 ghost use Rattle.std.specs.Prelude.{◌<◌, IfOk, IfSome};
 ghost use Rattle.av_rules.specs.Kinds.{kind_count};
 ghost use Rattle.av_cells.specs.Rule.{HasKinds};
-ghost use Rattle.av_column.specs.Columns.{world_of};
+ghost use Rattle.av_column.specs.Views.{blocks_of};
 
 use av_cells::{Cells, set_awake};
 use av_column::Column;
@@ -99,8 +99,8 @@ fn watered(alloc: Global, kinds: &Kinds) -> Result<Option<Column>, Fault>
 
 /// Turns the entry of a place in the list, where there is one, and says whether there was.
 fn turn_entry(column: &mut Column, kinds: &Kinds, place: usize) -> Result<bool, Fault>
-    requires { HasKinds (kind_count kinds.now) (world_of column.old.bottom column.old.layers column.old.numbers.items column.old.waiting.items) }
-    ensures { HasKinds (kind_count kinds.now) (world_of column.new.bottom column.new.layers column.new.numbers.items column.new.waiting.items) }
+    requires { HasKinds (kind_count kinds.now) (blocks_of column.old) }
+    ensures { HasKinds (kind_count kinds.now) (blocks_of column.new) }
 {
     let entry = column.entries().get(place).copied();
     match entry {

@@ -22,13 +22,18 @@ struct Scene {
 }
 
 /// What a file of the region (0, 0) holds, by a block table.
-fn read(alloc: Global, bytes: Vec<u8>, table: &[u8]) -> Result<Scene, Fault> {
+fn read(
+    rt: &(impl Threads + Sync),
+    alloc: Global,
+    bytes: Vec<u8>,
+    table: &[u8],
+) -> Result<Scene, Fault> {
     let rules = Rules::read(alloc, table)?;
     let mut states = StateTable::new(alloc)?;
     let pos = RegionPos { x: 0, z: 0 };
     let mut files = Vec::new(alloc);
     files.push(RegionFile { pos, bytes })?;
-    let (world, _rest) = load(alloc, files, &rules, &mut states)?;
+    let (world, _rest) = load(rt, alloc, files, &rules, &mut states)?;
     let kinds = Kinds::new(alloc, states, &rules)?;
     Ok(Scene { world, kinds })
 }
@@ -84,7 +89,7 @@ fn light<R: Threads + Clock + Sync>(
 }
 
 /// The file of a region, by a block table.
-fn read_files<R: Files + AllocGlobal>(
+fn read_files<R: Files + AllocGlobal + Threads + Sync>(
     rt: &R,
     alloc: Global,
     path: &str,
@@ -92,7 +97,7 @@ fn read_files<R: Files + AllocGlobal>(
 ) -> Result<Scene> {
     let bytes = fs::read(rt, path)?;
     let table = fs::read(rt, table)?;
-    Ok(read(alloc, bytes, table.as_slice())?)
+    Ok(read(rt, alloc, bytes, table.as_slice())?)
 }
 
 /// How many chunks there are, and the sum of their lights.

@@ -114,7 +114,7 @@ fn refused_reads<R: Threads + Sync>(
     let rest = Rest {
         regions: Vec::new(alloc),
     };
-    let saved = save(alloc, world, &rest, kinds, &[], TICKS).err();
+    let saved = save(rt, alloc, world, &rest, kinds, &[], TICKS).err();
     (number_of(lit), number_of(saved))
 }
 

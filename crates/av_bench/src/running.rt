@@ -17,6 +17,7 @@ use std::time::Instant;
 
 /// What a file of the region (0, 0), a block table and edits say.
 fn read(
+    rt: &(impl Threads + Sync),
     alloc: Global,
     bytes: Vec<u8>,
     table: &[u8],
@@ -28,7 +29,7 @@ fn read(
     let pos = RegionPos { x: 0, z: 0 };
     let mut files = Vec::new(alloc);
     files.push(RegionFile { pos, bytes })?;
-    read_input(alloc, files, table, edits, ticks)
+    read_input(rt, alloc, files, table, edits, ticks)
 }
 
 /// The ticks on so many workers, or by the tick of one thread where there are none. What chunks keep beside their blocks is
@@ -66,7 +67,7 @@ pub(crate) fn run_region<R: Threads + Wait + Sync + Clock>(
     ticks: u32,
     workers: u32,
 ) -> Result<String> {
-    let input = read(alloc, bytes, table, edits, ticks)?;
+    let input = read(rt, alloc, bytes, table, edits, ticks)?;
     let start = Instant::now(rt)?;
     let (after, _rest) = run_input(rt, alloc, input, ticks, workers)?;
     let took = start.elapsed(rt)?.as_micros();

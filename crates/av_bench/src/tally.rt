@@ -1,5 +1,5 @@
 //! A sum over all that a tag tree holds, by which two programs compare what they decoded.
-use av_nbt::{Named, Root, Tag};
+use av_tags::{Named, Root, Tag};
 
 /// The number of tags, and the sum of all numbers and bytes, which wraps round.
 #[derive(Clone, Copy, Debug, Default)]

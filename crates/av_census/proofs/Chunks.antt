@@ -10,7 +10,7 @@ use Rattle.av_types.specs.Places.{IsSectionOf, is_section_of}
 use Rattle.av_types.specs.declared.fault.Fault.{Fault}
 use Rattle.av_types.specs.declared.place.ChunkPos.{ChunkPos}
 use Rattle.av_types.specs.declared.place.Height.{Height}
-use Rattle.av_nbt.specs.Nbt.{Document, NamedTag}
+use Rattle.av_tags.specs.Nbt.{Document, NamedTag}
 use Rattle.av_nbt.specs.Spelling.{SpellsDocument}
 use Rattle.av_region.specs.Region.{IsAbsent, Holds, IsChunkFault}
 use Rattle.av_state.specs.BlockState.{BlockState}

@@ -9,7 +9,7 @@ use Rattle.av_types.specs.declared.fault.Fault.{Fault}
 use Rattle.av_types.specs.declared.place.ChunkPos.{ChunkPos}
 use Rattle.av_types.specs.declared.place.Height.{Height}
 use Rattle.av_types.specs.declared.place.RegionPos.{RegionPos}
-use Rattle.av_nbt.specs.Nbt.{NamedTag, Document}
+use Rattle.av_tags.specs.Nbt.{NamedTag, Document}
 use Rattle.av_nbt.specs.Spelling.{SpellsDocument}
 use Rattle.av_region.specs.Region.{IsShort, IsAbsent, Holds}
 use Rattle.av_state.specs.BlockState.{BlockState}

@@ -6,9 +6,9 @@ use Rattle.av_types.specs.declared.place.ChunkPos.{ChunkPos}
 use Rattle.av_types.specs.declared.place.Height.{Height}
 use Rattle.av_types.specs.declared.fault.Fault.{Fault}
 use Rattle.av_types.specs.declared.fault.Fault.TheVariants.{OutOfMemory, OldLayout, BadChunk, WrongPlace}
-use Rattle.av_nbt.specs.Nbt.{Nbt, NamedTag}
-use Rattle.av_nbt.specs.Place.{tag_of}
-use Rattle.av_nbt.specs.Shape.{◌>>=◌, compounds_of, lacks, or_else}
+use Rattle.av_tags.specs.Nbt.{Nbt, NamedTag}
+use Rattle.av_tags.specs.Place.{tag_of}
+use Rattle.av_tags.specs.Shape.{◌>>=◌, compounds_of, lacks, or_else}
 use Rattle.av_state.specs.BlockState.{BlockState}
 use Rattle.av_section.specs.BlockStates.{when}
 use Rattle.av_document.specs.Ticks.{is_bad_tick, int_at}

@@ -10,11 +10,11 @@ use Rattle.av_types.specs.declared.place.Pos.{Pos}
 use Rattle.av_types.specs.declared.place.ChunkPos.{ChunkPos}
 use Rattle.av_types.specs.declared.place.Height.{Height}
 use Rattle.av_types.specs.declared.tick.Entry.{Entry}
-use Rattle.av_nbt.specs.Nbt.{NamedTag, Document, members_of}
-use Rattle.av_nbt.specs.Place.{emptied}
-use Rattle.av_nbt.specs.Shape.{members_in}
-use Rattle.av_nbt.specs.View.{named_views}
-use Rattle.av_nbt.specs.declared.tag.Named.{Named}
+use Rattle.av_tags.specs.Nbt.{NamedTag, Document, members_of}
+use Rattle.av_tags.specs.Place.{emptied}
+use Rattle.av_tags.specs.Shape.{members_in}
+use Rattle.av_tags.specs.View.{named_views}
+use Rattle.av_tags.specs.declared.tag.Named.{Named}
 use Rattle.av_state.specs.BlockState.{BlockState}
 use Rattle.av_state.specs.StateList.{with_states, most_states}
 use Rattle.av_ticks.specs.Entries.{is_pending}

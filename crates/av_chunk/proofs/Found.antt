@@ -9,10 +9,10 @@ use Rattle.av_types.specs.declared.place.RegionPos.{RegionPos}
 use Rattle.av_types.specs.declared.place.Height.{Height}
 use Rattle.av_types.specs.declared.fault.Fault.{Fault}
 use Rattle.av_types.specs.declared.fault.Fault.TheVariants.{OutOfMemory}
-use Rattle.av_nbt.specs.Nbt.{Document}
+use Rattle.av_tags.specs.Nbt.{Document}
 use Rattle.av_nbt.specs.Spelling.{SpellsDocument}
 use Rattle.av_region.specs.Region.{IsShort, Holds}
-use Rattle.av_nbt.specs.Shape.{or_else}
+use Rattle.av_tags.specs.Shape.{or_else}
 use Rattle.av_state.specs.BlockState.{BlockState, air}
 use Rattle.av_state.specs.StateList.{first_states}
 use Rattle.av_document.specs.Ticks.{lies_in}

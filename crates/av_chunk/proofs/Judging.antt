@@ -8,7 +8,7 @@ use Rattle.av_types.specs.declared.fault.Fault.TheVariants.{OutOfMemory, TooMany
 use Rattle.std.specs.List.{flat_map, list_any}
 use Rattle.std.proofs.lemmas.Grind.{flat_map-append}
 use Rattle.av_types.specs.declared.place.Height.{Height}
-use Rattle.av_nbt.specs.Nbt.{Nbt, NamedTag}
+use Rattle.av_tags.specs.Nbt.{Nbt, NamedTag}
 use Rattle.av_document.specs.Chunk.{section_number, is_in_height, section_faults, section_states, block_states_of, block_faults}
 use Rattle.av_state.specs.BlockState.{BlockState}
 use Rattle.av_state.specs.StateList.{with_state, with_states, most_states, same_state}

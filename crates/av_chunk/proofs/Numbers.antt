@@ -3,8 +3,8 @@ use Rattle.std.proofs.Common.{◌≡◌, ◌≢◌, ℕ, ◌<◌, ℤ, pos, negs
 use Rattle.std.proofs.lemmas.Int.{ints}
 use Rattle.std.specs.Ordering.{int_eq}
 use Rattle.std.specs.List.{list_any}
-use Rattle.av_nbt.specs.Nbt.{Nbt, NamedTag}
-use Rattle.av_nbt.specs.Shape.{◌>>=◌, compound_of, compounds_of, items_of_list, each, lacks}
+use Rattle.av_tags.specs.Nbt.{Nbt, NamedTag}
+use Rattle.av_tags.specs.Shape.{◌>>=◌, compound_of, compounds_of, items_of_list, each, lacks}
 use Rattle.std.proofs.Common.{subst, Decides}
 use Rattle.std.proofs.lemmas.Bool.Decides.{Decides-int_eq}
 use Rattle.av_types.specs.declared.place.Height.{Height}
@@ -12,7 +12,7 @@ use Rattle.av_chunk.specs.Working.{has_other, flag_of, Noted, are_bad_items, che
 use Rattle.std.proofs.Common.{◌&&◌, if◌then◌else◌, codes}
 use Rattle.std.proofs.Math.Bool.{or-true, or-false}
 use Rattle.av_types.specs.Places.{is_section_of}
-use Rattle.av_nbt.specs.Place.{tag_of}
+use Rattle.av_tags.specs.Place.{tag_of}
 use Rattle.std.specs.Prelude.{◌++◌, is_some}
 use Rattle.av_document.specs.Chunk.{section_number, numbered, is_number, is_numbered_in, share_a_number, is_other, is_bad_list}
 use Rattle.av_document.proofs.Rows.{int_eq-refl}

@@ -3,10 +3,10 @@ use Rattle.std.proofs.Common.{◌≡◌, ℤ, Bool, true, false, true≢false, �
 use Rattle.av_types.specs.Places.{is_section_of}
 use Rattle.av_types.specs.declared.place.Height.{Height}
 use Rattle.av_types.specs.declared.fault.Fault.{Fault}
-use Rattle.av_nbt.specs.Nbt.{NamedTag}
-use Rattle.av_nbt.specs.Place.{tag_of, emptied}
-use Rattle.av_nbt.specs.Shape.{compound_of}
-use Rattle.av_nbt.specs.View.{named_views}
+use Rattle.av_tags.specs.Nbt.{NamedTag}
+use Rattle.av_tags.specs.Place.{tag_of, emptied}
+use Rattle.av_tags.specs.Shape.{compound_of}
+use Rattle.av_tags.specs.View.{named_views}
 use Rattle.av_state.specs.BlockState.{BlockState}
 use Rattle.av_section.specs.declared.section.Section.{Section}
 use Rattle.av_document.specs.Chunk.{section_number, is_other, block_states_of}

@@ -9,8 +9,8 @@ use Rattle.std.proofs.lemmas.List.Elements.{All-weaker, recursion_from_All}
 use Rattle.av_types.specs.Places.{is_section_of}
 use Rattle.av_types.specs.declared.place.ChunkPos.{ChunkPos}
 use Rattle.av_types.specs.declared.place.Height.{Height}
-use Rattle.av_nbt.specs.Nbt.{Document}
-use Rattle.av_nbt.specs.Shape.{◌>>=◌, or_else}
+use Rattle.av_tags.specs.Nbt.{Document}
+use Rattle.av_tags.specs.Shape.{◌>>=◌, or_else}
 use Rattle.av_nbt.specs.Writing.{IsWellFormed}
 use Rattle.av_state.specs.BlockState.{BlockState, air, meant}
 use Rattle.av_state.specs.Table.{states}

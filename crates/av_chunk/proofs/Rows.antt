@@ -5,16 +5,16 @@ use Rattle.std.specs.List.{list_any}
 use Rattle.av_types.specs.declared.place.ChunkPos.{ChunkPos}
 use Rattle.av_types.specs.declared.place.Height.{Height}
 use Rattle.av_types.specs.declared.tick.Entry.{Entry}
-use Rattle.av_nbt.specs.declared.tag.Tag.{Tag}
-use Rattle.av_nbt.specs.Nbt.{Nbt, NamedTag}
-use Rattle.av_nbt.specs.Shape.{◌>>=◌, compound_of, compounds_of, items_of_list, each, lacks, or_else}
+use Rattle.av_tags.specs.declared.tag.Tag.{Tag}
+use Rattle.av_tags.specs.Nbt.{Nbt, NamedTag}
+use Rattle.av_tags.specs.Shape.{◌>>=◌, compound_of, compounds_of, items_of_list, each, lacks, or_else}
 use Rattle.std.proofs.Common.{ℤ, true≢false}
 use Rattle.std.proofs.Math.Bool.{or-true}
 use Rattle.std.specs.Ordering.{int_eq}
 use Rattle.av_document.specs.Chunk.{is_bad_list}
 use Rattle.av_document.specs.Working.{with_number}
 use Rattle.av_chunk.proofs.Numbers.{lacks-each, is_bad_list-each}
-use Rattle.av_nbt.specs.View.{view, views}
+use Rattle.av_tags.specs.View.{view, views}
 use Rattle.av_document.specs.Ticks.{is_bad_tick, water_entry, with_water, foreign}
 use Rattle.av_chunk.specs.Working.{has_other, tags_in, has_bad_number, checked_number, is_refused, are_bad_items, list_items}
 use Rattle.av_chunk.specs.Rest.{opened}

@@ -1,5 +1,5 @@
 -- Sections put in their places.
-use Rattle.std.proofs.Common.{◌≡◌, ◌≢◌, ℕ, ◌<◌, ◌≤◌, ◌+◌, ℤ, Bool, true, false, true≢false, Option, Some, None, List, [], ◌∷◌, ◌++◌, length, get_or, slice_set, slice_get, refl, sym, ap, ◌∙◌, arith, if◌then◌else◌, Decides, get_or-set_same, get_or-set_other, length-set, zero, suc, below_more, option_map, take, append_assoc}
+use Rattle.std.proofs.Common.{◌≡◌, ◌≢◌, ℕ, ◌<◌, ◌≤◌, ◌+◌, ℤ, Bool, true, false, true≢false, Option, Some, None, List, [], ◌∷◌, ◌++◌, length, get_or, slice_set, slice_get, refl, sym, ap, ◌∙◌, arith, if◌then◌else◌, Decides, get_or-set_same, get_or-set_other, length-set, zero, suc, below_more, option_map, take}
 use Rattle.std.proofs.lemmas.Bool.Decides.{Decides-int_eq}
 use Rattle.std.proofs.lemmas.Option.{same_Some}
 use Rattle.std.specs.Ordering.{int_eq}
@@ -11,8 +11,8 @@ use Rattle.av_types.specs.Faults.{fault_number, lesser}
 use Rattle.av_types.specs.Places.{is_section_of}
 use Rattle.av_types.specs.declared.place.Height.{Height}
 use Rattle.av_types.specs.declared.fault.Fault.{Fault}
-use Rattle.av_nbt.specs.Nbt.{NamedTag}
-use Rattle.av_nbt.specs.View.{named_views}
+use Rattle.av_tags.specs.Nbt.{NamedTag}
+use Rattle.av_tags.specs.View.{named_views}
 use Rattle.av_state.specs.BlockState.{BlockState, air}
 use Rattle.av_state.specs.StateList.{first_states}
 use Rattle.av_section.specs.Section.{number_at}
@@ -255,9 +255,6 @@ kept_counts h (Outside o) r u p l = ap length p.1 ∙ l
 pub part_fits : (h : Height) (table : List BlockState) (ms : List NamedTag) (part : Part) → IsPart h table ms part → FitsHeight h part
 part_fits h table ms (Inside y s kept) p = p.within
 part_fits h table ms (Outside o) p = tt
-
-pub OnlyGrows-trans : (a b d : List BlockState) → OnlyGrows a b → OnlyGrows b d → OnlyGrows a d
-OnlyGrows-trans a b d p q = record { more = p.more ++ q.more; grown = q.grown ∙ (ap (λ (x : List BlockState). x ++ q.more) p.grown ∙ append_assoc a p.more q.more) }
 
 pub OnlyGrows-same : (table : List BlockState) → OnlyGrows table table
 OnlyGrows-same table = record { more = []; grown = sym (append-nil table) }

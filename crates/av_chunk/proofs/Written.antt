@@ -12,13 +12,13 @@ use Rattle.av_types.specs.declared.place.Pos.{Pos}
 use Rattle.av_types.specs.declared.place.ChunkPos.{ChunkPos}
 use Rattle.av_types.specs.declared.place.Height.{Height}
 use Rattle.av_types.specs.declared.tick.Entry.{Entry}
-use Rattle.av_nbt.specs.declared.tag.TagType.TheVariants as tag_type
-use Rattle.av_nbt.specs.Nbt.{Nbt, NamedTag, list, items_of}
-use Rattle.av_nbt.specs.View.{view, views}
-use Rattle.av_nbt.specs.declared.tag.Tag.{Tag}
+use Rattle.av_tags.specs.declared.tag.TagType.TheVariants as tag_type
+use Rattle.av_tags.specs.Nbt.{Nbt, NamedTag, list, items_of}
+use Rattle.av_tags.specs.View.{view, views}
+use Rattle.av_tags.specs.declared.tag.Tag.{Tag}
 use Rattle.av_ticks.specs.Ticks.{entries}
 use Rattle.av_rules.specs.Kinds.{kind_count}
-use Rattle.av_nbt.specs.Shape.{◌>>=◌, or_else}
+use Rattle.av_tags.specs.Shape.{◌>>=◌, or_else}
 use Rattle.av_state.specs.BlockState.{BlockState, air}
 use Rattle.av_section.specs.Section.{number_at, HasNumbersBelow, section_states}
 use Rattle.av_section.specs.declared.section.Section.{Section}

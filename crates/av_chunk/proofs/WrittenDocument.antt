@@ -1,10 +1,10 @@
 -- The whole document, from its parts.
 use Rattle.std.proofs.Common.{◌≡◌, ℕ, List, ◌++◌, map, ap, ◌∙◌}
 use Rattle.std.specs.Prelude.{codes}
-use Rattle.av_nbt.specs.declared.tag.TagType.TheVariants as tag_type
-use Rattle.av_nbt.specs.Nbt.{Nbt, NamedTag, Document, list, items_of, members_of}
-use Rattle.av_nbt.specs.Place.{with_tag}
-use Rattle.av_nbt.specs.View.{views, named_views}
+use Rattle.av_tags.specs.declared.tag.TagType.TheVariants as tag_type
+use Rattle.av_tags.specs.Nbt.{Nbt, NamedTag, Document, list, items_of, members_of}
+use Rattle.av_tags.specs.Place.{with_tag}
+use Rattle.av_tags.specs.View.{views, named_views}
 use Rattle.av_rules.specs.declared.kinds.Kinds.{Kinds}
 use Rattle.av_ticks.specs.Ticks.{entries}
 use Rattle.av_document.specs.Layout.{compound_with, compounds, all_of, section_at, section_numbers, ticks_layout}

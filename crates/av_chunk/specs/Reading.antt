@@ -8,8 +8,8 @@ use Rattle.av_types.specs.declared.place.ChunkPos.{ChunkPos}
 use Rattle.av_types.specs.declared.place.Height.{Height}
 use Rattle.av_types.specs.declared.fault.Fault.{Fault}
 use Rattle.av_types.specs.declared.fault.Fault.TheVariants.{OutOfMemory}
-use Rattle.av_nbt.specs.Nbt.{Document, NamedTag}
-use Rattle.av_nbt.specs.Shape.{lacks}
+use Rattle.av_tags.specs.Nbt.{Document, NamedTag}
+use Rattle.av_tags.specs.Shape.{lacks}
 use Rattle.av_state.specs.BlockState.{BlockState}
 use Rattle.av_state.specs.StateList.{with_states}
 use Rattle.av_ticks.specs.Entries.{is_pending}

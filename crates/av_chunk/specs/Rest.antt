@@ -3,11 +3,11 @@ use Rattle.std.specs.Prelude.{ℕ, ℤ, pos, negsuc, ◌-ℤ◌, List, [], ◌�
 use Rattle.std.specs.Ordering.{int_eq}
 use Rattle.av_types.specs.Places.{is_section_of}
 use Rattle.av_types.specs.declared.place.Height.{Height}
-use Rattle.av_nbt.specs.Nbt.{Nbt, byte, NamedTag}
-use Rattle.av_nbt.specs.Shape.{compound_of, or_else}
-use Rattle.av_nbt.specs.View.{views, named_views}
-use Rattle.av_nbt.specs.declared.tag.Tag.{Tag}
-use Rattle.av_nbt.specs.declared.tag.Named.{Named}
+use Rattle.av_tags.specs.Nbt.{Nbt, byte, NamedTag}
+use Rattle.av_tags.specs.Shape.{compound_of, or_else}
+use Rattle.av_tags.specs.View.{views, named_views}
+use Rattle.av_tags.specs.declared.tag.Tag.{Tag}
+use Rattle.av_tags.specs.declared.tag.Named.{Named}
 use Rattle.av_document.specs.Chunk.{SectionRest, RestOfChunk, section_rest}
 use Rattle.av_chunk.specs.declared.rest.SectionTags.{SectionTags}
 use Rattle.av_chunk.specs.declared.rest.OutsideSection.{OutsideSection}

@@ -6,10 +6,10 @@ use Rattle.av_types.specs.Places.{is_section_of}
 use Rattle.av_types.specs.declared.place.Height.{Height}
 use Rattle.av_types.specs.declared.fault.Fault.{Fault}
 use Rattle.av_types.specs.declared.fault.Fault.TheVariants.{OutOfMemory}
-use Rattle.av_nbt.specs.Nbt.{NamedTag, byte}
-use Rattle.av_nbt.specs.Place.{without}
-use Rattle.av_nbt.specs.Shape.{or_else}
-use Rattle.av_nbt.specs.View.{named_views}
+use Rattle.av_tags.specs.Nbt.{NamedTag, byte}
+use Rattle.av_tags.specs.Place.{without}
+use Rattle.av_tags.specs.Shape.{or_else}
+use Rattle.av_tags.specs.View.{named_views}
 use Rattle.av_state.specs.BlockState.{BlockState}
 use Rattle.av_state.specs.StateList.{with_states, most_states}
 use Rattle.av_section.specs.BlockStates.{when}

@@ -10,8 +10,8 @@ use Rattle.av_types.specs.declared.place.ChunkPos.{ChunkPos}
 use Rattle.av_types.specs.declared.place.Height.{Height}
 use Rattle.av_types.specs.declared.fault.Fault.{Fault}
 use Rattle.av_types.specs.declared.fault.Fault.TheVariants.{OutOfMemory, BadTick}
-use Rattle.av_nbt.specs.Nbt.{NamedTag}
-use Rattle.av_nbt.specs.View.{views}
+use Rattle.av_tags.specs.Nbt.{NamedTag}
+use Rattle.av_tags.specs.View.{views}
 use Rattle.av_ticks.specs.Ticks.{entries}
 use Rattle.av_document.specs.Ticks.{is_bad_tick, with_water, foreign}
 use Rattle.av_chunk.specs.declared.water.Ticks.{Ticks}

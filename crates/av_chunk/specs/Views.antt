@@ -4,7 +4,7 @@ use Rattle.av_types.specs.Division.{divided}
 use Rattle.av_types.specs.Places.{place_of}
 use Rattle.av_types.specs.declared.place.Pos.{Pos}
 use Rattle.av_types.specs.declared.place.Height.{Height}
-use Rattle.av_nbt.specs.Shape.{◌>>=◌, or_else}
+use Rattle.av_tags.specs.Shape.{◌>>=◌, or_else}
 use Rattle.av_state.specs.BlockState.{BlockState, air}
 use Rattle.av_section.specs.Section.{number_at, is_pending}
 use Rattle.av_section.specs.declared.section.Section.{Section}

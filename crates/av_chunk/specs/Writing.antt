@@ -6,7 +6,7 @@ use Rattle.std.specs.List.{All}
 use Rattle.av_types.specs.Water.{is_source}
 use Rattle.av_types.specs.declared.place.Pos.{Pos}
 use Rattle.av_types.specs.declared.place.Height.{Height}
-use Rattle.av_nbt.specs.Nbt.{Document}
+use Rattle.av_tags.specs.Nbt.{Document}
 use Rattle.av_state.specs.BlockState.{BlockState}
 use Rattle.av_state.specs.Table.{states}
 use Rattle.av_rules.specs.Kinds.{table_in, wet_at}

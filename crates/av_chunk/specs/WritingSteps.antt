@@ -11,8 +11,8 @@ use Rattle.av_types.specs.declared.place.Pos.{Pos}
 use Rattle.av_document.specs.Ticks.{lies_in}
 use Rattle.av_chunk.specs.Reading.{HasAllSections}
 use Rattle.av_chunk.specs.Light.{section_count}
-use Rattle.av_nbt.specs.Nbt.{Nbt, NamedTag, byte_array}
-use Rattle.av_nbt.specs.Place.{with_tag}
+use Rattle.av_tags.specs.Nbt.{Nbt, NamedTag, byte_array}
+use Rattle.av_tags.specs.Place.{with_tag}
 use Rattle.av_state.specs.BlockState.{BlockState}
 use Rattle.av_rules.specs.declared.kinds.Kinds.{Kinds}
 use Rattle.av_document.specs.Chunk.{SectionRest}

@@ -1,13 +1,13 @@
 //! Tags, put together.
 ghost use Rattle.std.specs.Prelude.{◌≡◌, [], ◌∷◌, ◌++◌, IfOk};
-ghost use Rattle.av_nbt.specs.Nbt.{list, items_of};
-ghost use Rattle.av_nbt.specs.declared.tag.TagType.TheVariants.{Compound};
-ghost use Rattle.av_nbt.specs.Place.{with_tag};
-ghost use Rattle.av_nbt.specs.Shape.{compound_of, or_else};
-ghost use Rattle.av_nbt.specs.View.{view, views, named_view, named_views};
+ghost use Rattle.av_tags.specs.Nbt.{list, items_of};
+ghost use Rattle.av_tags.specs.declared.tag.TagType.TheVariants.{Compound};
+ghost use Rattle.av_tags.specs.Place.{with_tag};
+ghost use Rattle.av_tags.specs.Shape.{compound_of, or_else};
+ghost use Rattle.av_tags.specs.View.{view, views, named_view, named_views};
 ghost use Rattle.av_document.specs.Layout.{compound_with};
 
-use av_nbt::{Named, Tag, TagType, copy_tags, put};
+use av_tags::{Named, Tag, TagType, copy_tags, put};
 use std::alloc::{AllocError, Global};
 
 /// A tag under a name.

@@ -1,8 +1,8 @@
 //! A chunk, read from its document.
 ghost use Rattle.std.specs.Prelude.{◌≡◌, IfOk, IfErr, false, option_map};
 ghost use Rattle.av_types.specs.declared.fault.Fault.TheVariants.{OutOfMemory};
-ghost use Rattle.av_nbt.specs.Shape.{compounds_of};
-ghost use Rattle.av_nbt.specs.View.{document, view, views};
+ghost use Rattle.av_tags.specs.Shape.{compounds_of};
+ghost use Rattle.av_tags.specs.View.{document, view, views};
 ghost use Rattle.av_state.specs.Table.{states};
 ghost use Rattle.av_section.specs.Reading.{OnlyGrows};
 ghost use Rattle.av_document.specs.Chunk.{is_other, root_tags, share_a_number};
@@ -17,9 +17,9 @@ use crate::rest::ChunkRest;
 use crate::sections::{Sections, emptied, read_sections};
 use crate::shape::admitted;
 use crate::water::{Ticks, read_ticks};
-use av_nbt::{Root, Tag};
 use av_section::Section;
 use av_state::StateTable;
+use av_tags::{Root, Tag};
 use av_ticks::TickList;
 use av_types::{ChunkPos, Fault, Height};
 use std::alloc::Global;

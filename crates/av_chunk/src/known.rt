@@ -2,8 +2,8 @@
 //! readers can share it.
 ghost use Rattle.std.specs.Prelude.{◌≡◌, IfOk, IfErr, IfSome, IsSome, Ok, Err, false, option_map};
 ghost use Rattle.av_types.specs.declared.fault.Fault.TheVariants.{OutOfMemory};
-ghost use Rattle.av_nbt.specs.Shape.{compound_of};
-ghost use Rattle.av_nbt.specs.View.{document, view, views, named_views};
+ghost use Rattle.av_tags.specs.Shape.{compound_of};
+ghost use Rattle.av_tags.specs.View.{document, view, views, named_views};
 ghost use Rattle.av_state.specs.Table.{states};
 ghost use Rattle.av_document.specs.Chunk.{is_other, share_a_number};
 ghost use Rattle.av_chunk.specs.SectionsRead.{AreStates, IsSectionRead, AreFound, AreSectionsRead};
@@ -17,9 +17,9 @@ use crate::sections::{Part, Sections, emptied, fill_all, is_inside};
 use crate::shape::admitted;
 use crate::tags::byte_at;
 use crate::water::read_ticks;
-use av_nbt::{Named, Root, Tag, find, remove};
 use av_section::Section;
 use av_state::StateTable;
+use av_tags::{Named, Root, Tag, find, remove};
 use av_types::{ChunkPos, Fault, Height};
 use std::alloc::{AllocError, Global};
 

@@ -2,7 +2,7 @@
 ghost use Rattle.av_document.specs.Stored.{WasRead};
 ghost use Rattle.av_chunk.specs.Rest.{rest_with};
 
-use av_nbt::{Named, Tag};
+use av_tags::{Named, Tag};
 use av_types::{ChunkPos, Height};
 
 /// What a section keeps.

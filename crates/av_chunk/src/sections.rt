@@ -2,9 +2,9 @@
 ghost use Rattle.std.specs.Prelude.{◌≡◌, IfOk, IfErr, OnOk, IsSome, ◌<◌, ◌≢◌, length, true, false, option_map};
 ghost use Rattle.av_types.specs.declared.fault.Fault.TheVariants.{OutOfMemory};
 ghost use Rattle.av_types.specs.Places.{is_section_of};
-ghost use Rattle.av_nbt.specs.Place.{tag_of, emptied, blank};
-ghost use Rattle.av_nbt.specs.Shape.{compound_of};
-ghost use Rattle.av_nbt.specs.View.{view, views, named_view, named_views};
+ghost use Rattle.av_tags.specs.Place.{tag_of, emptied, blank};
+ghost use Rattle.av_tags.specs.Shape.{compound_of};
+ghost use Rattle.av_tags.specs.View.{view, views, named_view, named_views};
 ghost use Rattle.av_state.specs.Table.{states};
 ghost use Rattle.av_section.specs.Reading.{OnlyGrows};
 ghost use Rattle.av_document.specs.Chunk.{is_other, share_a_number};
@@ -15,9 +15,9 @@ ghost use Rattle.av_chunk.specs.Working.{checked_number, compound_in, tags_in, h
 use crate::faults::lesser;
 use crate::rest::{OutsideSection, SectionTags};
 use crate::tags::byte_at;
-use av_nbt::{Named, Tag, exchange, find, remove};
 use av_section::Section;
 use av_state::StateTable;
+use av_tags::{Named, Tag, exchange, find, remove};
 use av_types::{Fault, Height};
 use std::alloc::{AllocError, Global};
 

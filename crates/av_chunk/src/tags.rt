@@ -1,11 +1,11 @@
 //! The tags that a chunk's parts are read from.
 ghost use Rattle.std.specs.Prelude.{◌≡◌, option_map};
 ghost use Rattle.std.specs.Option.{option_copied};
-ghost use Rattle.av_nbt.specs.View.{views, named_views};
+ghost use Rattle.av_tags.specs.View.{views, named_views};
 ghost use Rattle.av_document.specs.Ticks.{int_at};
 ghost use Rattle.av_chunk.specs.Working.{text_at, byte_at, items_at};
 
-use av_nbt::{Named, Tag, find};
+use av_tags::{Named, Tag, find};
 
 /// The Int of a name.
 pub(crate) fn int_at(tags: &[Named], name: &[u8]) -> Option<i32>

@@ -1,8 +1,8 @@
 //! One section of a chunk, written.
 ghost use Rattle.std.specs.Prelude.{◌≡◌, ◌<◌, length, [], ◌∷◌, ◌++◌, codes, option_map, IfOk};
 ghost use Rattle.std.specs.Option.{option_copied};
-ghost use Rattle.av_nbt.specs.Nbt.{byte};
-ghost use Rattle.av_nbt.specs.View.{view, named_views};
+ghost use Rattle.av_tags.specs.Nbt.{byte};
+ghost use Rattle.av_tags.specs.View.{view, named_views};
 ghost use Rattle.av_state.specs.Table.{states};
 ghost use Rattle.av_section.specs.Section.{HasNumbersBelow, section_states};
 ghost use Rattle.av_document.specs.Layout.{data_tags, states_layout};
@@ -11,9 +11,9 @@ ghost use Rattle.av_chunk.specs.WritingSteps.{section_with};
 
 use crate::build::{appended, copied, joined, placed};
 use crate::rest::{OutsideSection, SectionTags};
-use av_nbt::{Named, Tag};
 use av_section::Section;
 use av_state::StateTable;
+use av_tags::{Named, Tag};
 use std::alloc::{AllocError, Global};
 
 /// The packed indices, where there are any, after other tags.

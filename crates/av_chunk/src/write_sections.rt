@@ -2,7 +2,7 @@
 ghost use Rattle.std.specs.Prelude.{◌≡◌, ◌<◌, ◌++◌, true, map, option_map, None, slice_index_or, IfOk, OnOk};
 ghost use Rattle.std.specs.Option.{option_copied};
 ghost use Rattle.av_types.specs.Places.{is_section_of};
-ghost use Rattle.av_nbt.specs.View.{views, named_views};
+ghost use Rattle.av_tags.specs.View.{views, named_views};
 ghost use Rattle.av_document.specs.Layout.{compound_with, kept_section};
 ghost use Rattle.av_chunk.specs.WritingSteps.{CanWriteSections, number_at, inside_layout, written_section, first_sections};
 
@@ -11,9 +11,9 @@ use crate::light::ChunkLight;
 use crate::rest::{ChunkRest, SectionTags};
 use crate::sections::offset_of;
 use crate::write_section::{kept_section, outside_section, section_tags};
-use av_nbt::{Named, Tag};
 use av_rules::Kinds;
 use av_section::Section;
+use av_tags::{Named, Tag};
 use av_types::Height;
 use std::alloc::{AllocError, Global};
 

@@ -2,8 +2,8 @@
 ghost use Rattle.std.specs.Int.{w32};
 ghost use Rattle.std.specs.Int.RustNames.{FitsSigned};
 ghost use Rattle.std.specs.Prelude.{◌≡◌, pos, ◌-ℤ◌, [], ◌∷◌, ◌++◌, map, codes, true, ◌<◌, IfOk, IfSome};
-ghost use Rattle.av_nbt.specs.Nbt.{int};
-ghost use Rattle.av_nbt.specs.View.{view, views, named_views};
+ghost use Rattle.av_tags.specs.Nbt.{int};
+ghost use Rattle.av_tags.specs.View.{view, views, named_views};
 ghost use Rattle.av_document.specs.Layout.{compound_with, fluid_name, entry_layout};
 ghost use Rattle.av_document.specs.Law.{HasInts};
 ghost use Rattle.av_types.specs.Division.{divided};
@@ -21,8 +21,8 @@ use crate::chunk::Chunk;
 use crate::rest::ChunkRest;
 use crate::sections::offset_of;
 use crate::write_sections::section_at;
-use av_nbt::{Named, Tag};
 use av_rules::Kinds;
+use av_tags::{Named, Tag};
 use av_types::{Entry, Height, Pos};
 use std::alloc::{AllocError, Global};
 

@@ -1,7 +1,7 @@
 //! A chunk, written as a document.
 ghost use Rattle.std.specs.Prelude.{◌≡◌, IfOk, IfErr};
 ghost use Rattle.av_types.specs.declared.fault.Fault.TheVariants.{OutOfMemory};
-ghost use Rattle.av_nbt.specs.View.{document};
+ghost use Rattle.av_tags.specs.View.{document};
 ghost use Rattle.av_nbt.specs.Writing.{IsWellFormed};
 ghost use Rattle.av_chunk.specs.Writing.{CanWrite, DenotesSooner, written};
 
@@ -11,8 +11,8 @@ use crate::light::ChunkLight;
 use crate::rest::ChunkRest;
 use crate::write_sections::all_sections;
 use crate::write_ticks::all_ticks;
-use av_nbt::{Root, copy_tags};
 use av_rules::Kinds;
+use av_tags::{Root, copy_tags};
 use av_types::Fault;
 use std::alloc::Global;
 

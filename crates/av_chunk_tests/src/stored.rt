@@ -4,9 +4,9 @@ ghost use Rattle.av_state.specs.Table.{states};
 ghost use Rattle.av_section.specs.Section.{HasNumbersBelow};
 
 use crate::expecting::{expect_equal, expect_true};
-use av_nbt::{Named, Tag, TagType};
 use av_section::Section;
 use av_state::StateTable;
+use av_tags::{Named, Tag, TagType};
 use av_types::{Fault, Place};
 use std::alloc::Global;
 use std::process::Abort;

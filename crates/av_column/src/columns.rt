@@ -1,13 +1,12 @@
 //! Some layers of the chunk at x 0 and z 0.
-ghost use Rattle.std.specs.Prelude.{◌≡◌, ◌<◌, ◌≤◌, ◌+◌, ◌*◌, ◌-◌, ℕ, ◌+ℤ◌, ◌-ℤ◌, ◌≤ℤ◌, ◌<ℤ◌, pos, negsuc, nat_abs, length, vec_len, [], replicate, drop, slice_get, IsTrue, Some, None, IfSome, IfNone, IfOk, IfErr, if◌then◌else◌, true, false, nat_lt, ◌↔◌};
+ghost use Rattle.std.specs.Prelude.{◌≡◌, ◌<◌, ◌≤◌, ◌+◌, ◌*◌, ◌-◌, ℕ, ◌+ℤ◌, ◌-ℤ◌, ◌≤ℤ◌, ◌<ℤ◌, pos, negsuc, nat_abs, length, [], replicate, drop, slice_get, IsTrue, Some, None, IfSome, IfNone, IfOk, IfErr, true, false, nat_lt, ◌↔◌};
 ghost use Rattle.std.specs.List.{list_all};
-ghost use Rattle.arrayvec.specs.ArrayVec.{array_vec_len};
 ghost use Rattle.av_rules.specs.Kinds.{kind_count};
 ghost use Rattle.av_cells.specs.Rule.{HasKinds};
 ghost use Rattle.av_cells.specs.World.{without_entry};
 ghost use Rattle.av_types.specs.declared.fault.Fault.TheVariants.{OutOfMemory};
 ghost use Rattle.av_types.specs.declared.place.Pos.{Pos};
-ghost use Rattle.av_column.specs.Columns.{is_in, is_there, slot, world_of, lists_of};
+ghost use Rattle.av_column.specs.Columns.{is_in, is_there, slot, lists_of};
 
 use arrayvec::ArrayVec;
 use av_cells::Cells;
@@ -56,6 +55,8 @@ fn are_below(numbers: &[u16], count: usize) -> bool
 }
 
 impl Column {
+    ghost use Rattle.av_column.specs.Views.{blocks_of, bottom_of, entries_of, layer_count, numbers_of, waits_of};
+
     /// Whether a block is one of these layers.
     fn is_there(&self, pos: Pos) -> bool
         ensures { result ≡ is_there self.now.bottom self.now.layers pos }
@@ -84,13 +85,12 @@ impl Column {
         requires low { negsuc 1023 ≤ℤ bottom }
         requires high { (bottom +ℤ pos layers) ≤ℤ pos 1024 }
         ensures fault { IfErr result (λ e. e ≡ OutOfMemory) }
-        ensures bottom { IfOk result (λ c. c.bottom ≡ bottom) }
-        ensures layers { IfOk result (λ c. c.layers ≡ layers) }
-        ensures numbers { IfOk result (λ c. c.numbers.items ≡ replicate (256 * layers) number) }
-        ensures waiting { IfOk result (λ c. c.waiting.items ≡ replicate (256 * layers) false) }
-        ensures entries { IfOk result (λ c. c.entries.items ≡ []) }
-        ensures kinds { IfOk result (λ c. (k : ℕ) → number < k
-            → HasKinds k (world_of c.bottom c.layers c.numbers.items c.waiting.items)) }
+        ensures bottom { IfOk result (λ c. bottom_of c ≡ bottom) }
+        ensures layers { IfOk result (λ c. layer_count c ≡ layers) }
+        ensures numbers { IfOk result (λ c. numbers_of c ≡ replicate (256 * layers) number) }
+        ensures waiting { IfOk result (λ c. waits_of c ≡ replicate (256 * layers) false) }
+        ensures entries { IfOk result (λ c. entries_of c ≡ []) }
+        ensures kinds { IfOk result (λ c. (k : ℕ) → number < k → HasKinds k (blocks_of c)) }
     {
         let count = 256 * layers as usize;
         Ok(Column {
@@ -104,37 +104,31 @@ impl Column {
 
     /// Whether each block's number has a kind.
     pub fn has_kinds(&self, kinds: &Kinds) -> bool
-        ensures { IsTrue result ↔ HasKinds (kind_count kinds.now)
-            (world_of self.now.bottom self.now.layers self.now.numbers.items self.now.waiting.items) }
+        ensures { IsTrue result ↔ HasKinds (kind_count kinds.now) (blocks_of self.now) }
     {
         are_below(self.numbers.as_slice(), kinds.count())
     }
 
     /// The entries, in the order in which they were added.
     pub fn entries(&self) -> &[Entry]
-        ensures { result.now ≡ self.now.entries.items }
+        ensures { result.now ≡ entries_of self.now }
     {
         self.entries.as_slice()
     }
 
     /// How many more entries it can take.
     pub fn room(&self) -> usize
-        ensures { result ≡ 512 - array_vec_len self.now.entries }
+        ensures { result ≡ 512 - length (entries_of self.now) }
     {
         self.entries.remaining_capacity()
     }
 
     /// Takes the first entry out, if there is one. Its block is pending no longer, and keeps its state.
     pub fn take_first(&mut self) -> Option<Entry>
-        ensures first { result ≡ slice_get self.old.entries.items 0 }
-        ensures rest { self.new.entries.items ≡ drop 1 self.old.entries.items }
-        ensures leaves { IfSome result (λ e.
-            world_of self.new.bottom self.new.layers self.new.numbers.items self.new.waiting.items
-            ≡ without_entry
-            (world_of self.old.bottom self.old.layers self.old.numbers.items self.old.waiting.items) e) }
-        ensures stays { IfNone result (
-            world_of self.new.bottom self.new.layers self.new.numbers.items self.new.waiting.items
-            ≡ world_of self.old.bottom self.old.layers self.old.numbers.items self.old.waiting.items) }
+        ensures first { result ≡ slice_get (entries_of self.old) 0 }
+        ensures rest { entries_of self.new ≡ drop 1 (entries_of self.old) }
+        ensures leaves { IfSome result (λ e. blocks_of self.new ≡ without_entry (blocks_of self.old) e) }
+        ensures stays { IfNone result (blocks_of self.new ≡ blocks_of self.old) }
     {
         if self.entries.is_empty() {
             return None;
@@ -151,12 +145,13 @@ impl Column {
 impl Cells for Column {
     ghost use Rattle.av_cells.specs.World.{World, Lists, Site};
     ghost use Rattle.av_column.specs.Limits.{there_is_near};
+    ghost use Rattle.av_column.specs.Views.{blocks_of, entries_of};
 
-    ghost world = { λ c. world_of c.bottom c.layers c.numbers.items c.waiting.items };
+    ghost world = { blocks_of };
 
-    ghost lists = { λ c. lists_of c.entries.items };
+    ghost lists = { λ c. lists_of (entries_of c) };
 
-    ghost room = { λ c _. 512 - array_vec_len c.entries };
+    ghost room = { λ c _. 512 - length (entries_of c) };
 
     ghost can_set = { λ _ _ _. Unit {0} };
 

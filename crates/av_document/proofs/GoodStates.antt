@@ -9,7 +9,7 @@ use Rattle.std.proofs.lemmas.Bool.{and_parts}
 use Rattle.std.proofs.lemmas.List.{length-take, length-map}
 use Rattle.std.proofs.lemmas.List.Elements.{All-take, All-drop}
 use Rattle.av_types.specs.declared.tick.Entry.{Entry}
-use Rattle.av_nbt.specs.Nbt.{text, members_of, LacksMember, HaveDistinctNames}
+use Rattle.av_tags.specs.Nbt.{text, members_of, LacksMember, HaveDistinctNames}
 use Rattle.av_state.specs.BlockState.{BlockState, Property, is_short, is_short_property, is_storable}
 use Rattle.av_state.proofs.Storable.{storable-name, storable-properties, storable-distinct}
 use Rattle.av_section.specs.Palette.{name_key, properties_key, property_tag, properties_tags, state_tag}

@@ -12,8 +12,8 @@ use Rattle.av_types.specs.declared.place.ChunkPos.{ChunkPos}
 use Rattle.av_types.specs.declared.place.Height.{Height}
 use Rattle.av_types.specs.declared.tick.Entry.{Entry}
 use Rattle.av_types.proofs.SamePlaces.{same_pos-turned}
-use Rattle.av_nbt.specs.Nbt.{Nbt, NamedTag, Document}
-use Rattle.av_nbt.specs.Shape.{◌>>=◌, compound_of, items_of_list, each, lacks, or_else}
+use Rattle.av_tags.specs.Nbt.{Nbt, NamedTag, Document}
+use Rattle.av_tags.specs.Shape.{◌>>=◌, compound_of, items_of_list, each, lacks, or_else}
 use Rattle.av_state.specs.BlockState.{BlockState, air, air_name, water, water_name, level_texts, index_in, capped_level, water_level, level_key, value_of, level_of, meant, is_storable, storable}
 use Rattle.av_section.specs.Palette.{described_state, written_state, state_in, states_if, palette_of}
 use Rattle.av_section.specs.BlockStates.{read_states, read_indices}

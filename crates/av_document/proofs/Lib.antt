@@ -22,3 +22,5 @@ pub mod Stored
 pub mod Lawful
 pub mod Rewritten
 pub mod Inside
+pub mod InOrder
+pub mod StoredEntries

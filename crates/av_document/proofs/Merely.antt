@@ -6,8 +6,8 @@ use mir.Val.{bits}
 use Rattle.std.specs.List.{AllByRecursion, flat_map}
 use Rattle.std.proofs.Math.Logic.{∥∥₁_elim, ∥∥₁_map}
 use Rattle.std.proofs.Props.{props}
-use Rattle.av_nbt.specs.declared.tag.TagType.{TagType}
-use Rattle.av_nbt.specs.Nbt.{Nbt, byte, int16, int, int64, bits32, bits64, byte_array, text, list, compound, int_array, long_array, Items, no_items, item, Members, no_members, member, Document, item_count, LacksMember, HaveDistinctNames, AreOf, depth}
+use Rattle.av_tags.specs.declared.tag.TagType.{TagType}
+use Rattle.av_tags.specs.Nbt.{Nbt, byte, int16, int, int64, bits32, bits64, byte_array, text, list, compound, int_array, long_array, Items, no_items, item, Members, no_members, member, Document, item_count, LacksMember, HaveDistinctNames, AreOf, depth}
 use Rattle.av_nbt.specs.Spelling.{Spells, SpellsItems, SpellsMembers, SpellsNumbers, count_of}
 use Rattle.av_nbt.specs.Writing.{signed_bytes, text_bytes, written, written_items, written_members, written_document, IsWellFormed}
 use Rattle.av_document.proofs.Spelled.{IsSpelled}

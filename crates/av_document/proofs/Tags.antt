@@ -4,8 +4,8 @@ use Rattle.std.specs.Prelude.{is_some}
 use Rattle.std.specs.Str.{bytes_eq}
 use Rattle.std.proofs.lemmas.Slice.Eq.{bytes_eq-Decides}
 use Rattle.std.proofs.lemmas.Bool.{false≢true, true≢false}
-use Rattle.av_nbt.specs.Nbt.{Nbt, NamedTag}
-use Rattle.av_nbt.specs.Place.{tag_of, with_tag, without}
+use Rattle.av_tags.specs.Nbt.{Nbt, NamedTag}
+use Rattle.av_tags.specs.Place.{tag_of, with_tag, without}
 
 pub bytes_eq-refl : (n : List ℕ) → bytes_eq n n ≡ true
 bytes_eq-refl n = (bytes_eq-Decides n n).1 refl

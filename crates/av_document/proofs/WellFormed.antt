@@ -11,11 +11,11 @@ use Rattle.av_types.specs.declared.place.Pos.{Pos}
 use Rattle.av_types.specs.declared.place.ChunkPos.{ChunkPos}
 use Rattle.av_types.specs.declared.place.Height.{Height}
 use Rattle.av_types.specs.declared.tick.Entry.{Entry}
-use Rattle.av_nbt.specs.Nbt.{Nbt, byte, byte_array, list, compound, long_array, NamedTag, Document, members_of, items_of, LacksMember}
-use Rattle.av_nbt.specs.declared.tag.TagType.TheVariants as tag_type
-use Rattle.av_nbt.specs.TagTypes.{type_number}
-use Rattle.av_nbt.specs.Place.{tag_of, with_tag, without, blank, emptied}
-use Rattle.av_nbt.specs.Shape.{◌>>=◌, compound_of, compounds_of, lacks, or_else}
+use Rattle.av_tags.specs.Nbt.{Nbt, byte, byte_array, list, compound, long_array, NamedTag, Document, members_of, items_of, LacksMember}
+use Rattle.av_tags.specs.declared.tag.TagType.TheVariants as tag_type
+use Rattle.av_tags.specs.TagTypes.{type_number}
+use Rattle.av_tags.specs.Place.{tag_of, with_tag, without, blank, emptied}
+use Rattle.av_tags.specs.Shape.{◌>>=◌, compound_of, compounds_of, lacks, or_else}
 use Rattle.av_nbt.specs.Spelling.{SpellsDocument}
 use Rattle.av_nbt.specs.Writing.{IsWellFormed}
 use Rattle.av_state.specs.BlockState.{BlockState}

@@ -13,11 +13,11 @@ use Rattle.av_types.specs.declared.place.Pos.{Pos}
 use Rattle.av_types.specs.declared.place.ChunkPos.{ChunkPos}
 use Rattle.av_types.specs.declared.place.Height.{Height}
 use Rattle.av_types.specs.declared.tick.Entry.{Entry}
-use Rattle.av_nbt.specs.Nbt.{Nbt, byte, NamedTag, Document}
-use Rattle.av_nbt.specs.Place.{tag_of, with_tag, blank, emptied}
-use Rattle.av_nbt.specs.Shape.{◌>>=◌, text_of, int_of, compound_of, compounds_of, lacks, or_else}
+use Rattle.av_tags.specs.Nbt.{Nbt, byte, NamedTag, Document}
+use Rattle.av_tags.specs.Place.{tag_of, with_tag, blank, emptied}
+use Rattle.av_tags.specs.Shape.{◌>>=◌, text_of, int_of, compound_of, compounds_of, lacks, or_else}
 use Rattle.av_nbt.specs.Writing.{IsWellFormed}
-use Rattle.av_nbt.proofs.Trees.{members_in_of}
+use Rattle.av_tags.proofs.Trees.{members_in_of}
 use Rattle.av_state.specs.BlockState.{BlockState}
 use Rattle.av_section.specs.BlockStates.{when}
 use Rattle.av_document.specs.Ticks.{lies_in, is_bad_tick, int_at, with_water, foreign}

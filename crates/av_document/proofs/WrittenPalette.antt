@@ -6,10 +6,10 @@ use Rattle.std.proofs.lemmas.Bool.Decides.{nat_tests}
 use Rattle.std.proofs.lemmas.Option.{none-some, same_Some}
 use Rattle.std.proofs.lemmas.List.{length-map, length-append, get_or-map}
 use Rattle.std.proofs.lemmas.List.Elements.{All-nil, All-cons}
-use Rattle.av_nbt.specs.Nbt.{Nbt, text, long_array, NamedTag}
-use Rattle.av_nbt.specs.Place.{tag_of}
-use Rattle.av_nbt.specs.Shape.{◌>>=◌, each, lacks, or_else}
-use Rattle.av_nbt.proofs.Trees.{items_in_of, members_in_of}
+use Rattle.av_tags.specs.Nbt.{Nbt, text, long_array, NamedTag}
+use Rattle.av_tags.specs.Place.{tag_of}
+use Rattle.av_tags.specs.Shape.{◌>>=◌, each, lacks, or_else}
+use Rattle.av_tags.proofs.Trees.{items_in_of, members_in_of}
 use Rattle.av_state.specs.BlockState.{BlockState, Property, air, meant, in_order, is_in_order, is_storable, storable}
 use Rattle.av_state.specs.StateList.{same_state, number_in, with_state, with_states}
 use Rattle.av_state.proofs.Ordered.{in_order-again}

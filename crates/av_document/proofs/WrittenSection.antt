@@ -4,10 +4,10 @@ use Rattle.std.specs.Prelude.{codes}
 use Rattle.std.specs.List.{range_with_len, AllByRecursion}
 use Rattle.std.specs.Str.{bytes_eq}
 use Rattle.std.proofs.lemmas.List.FromFn.{length-map-range_with_len, get_or-map-range_with_len}
-use Rattle.av_nbt.specs.Nbt.{Nbt, byte_array, NamedTag}
-use Rattle.av_nbt.specs.Place.{tag_of, with_tag, without, blank, emptied}
-use Rattle.av_nbt.specs.Shape.{◌>>=◌, byte_of, compound_of, or_else}
-use Rattle.av_nbt.proofs.Trees.{members_in_of}
+use Rattle.av_tags.specs.Nbt.{Nbt, byte_array, NamedTag}
+use Rattle.av_tags.specs.Place.{tag_of, with_tag, without, blank, emptied}
+use Rattle.av_tags.specs.Shape.{◌>>=◌, byte_of, compound_of, or_else}
+use Rattle.av_tags.proofs.Trees.{members_in_of}
 use Rattle.av_state.specs.BlockState.{BlockState, air}
 use Rattle.av_section.specs.BlockStates.{states_faults, state_at, palette_tag, data_tag}
 use Rattle.av_document.specs.Chunk.{section_rest, section_number, block_states_of, data_tag_of, is_other, block_faults, block_cell}

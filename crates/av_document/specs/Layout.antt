@@ -6,9 +6,9 @@ use Rattle.av_types.specs.declared.place.Pos.{Pos}
 use Rattle.av_types.specs.declared.place.ChunkPos.{ChunkPos}
 use Rattle.av_types.specs.declared.place.Height.{Height}
 use Rattle.av_types.specs.declared.tick.Entry.{Entry}
-use Rattle.av_nbt.specs.declared.tag.TagType.TheVariants as tag_type
-use Rattle.av_nbt.specs.Nbt.{Nbt, int, text, byte_array, list, compound, NamedTag, Document, members_of, items_of}
-use Rattle.av_nbt.specs.Place.{with_tag}
+use Rattle.av_tags.specs.declared.tag.TagType.TheVariants as tag_type
+use Rattle.av_tags.specs.Nbt.{Nbt, int, text, byte_array, list, compound, NamedTag, Document, members_of, items_of}
+use Rattle.av_tags.specs.Place.{with_tag}
 use Rattle.av_state.specs.BlockState.{BlockState}
 use Rattle.av_section.specs.BlockStates.{palette_tag, data_tag}
 use Rattle.av_document.specs.Chunk.{SectionRest, RestOfChunk}

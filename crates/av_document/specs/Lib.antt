@@ -4,3 +4,4 @@ pub mod Layout
 pub mod Law
 pub mod Stored
 pub mod Working
+pub mod Entries

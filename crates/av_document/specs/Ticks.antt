@@ -8,9 +8,9 @@ use Rattle.av_types.specs.declared.place.Pos.{Pos}
 use Rattle.av_types.specs.declared.place.ChunkPos.{ChunkPos}
 use Rattle.av_types.specs.declared.place.Height.{Height}
 use Rattle.av_types.specs.declared.tick.Entry.{Entry}
-use Rattle.av_nbt.specs.Nbt.{NamedTag}
-use Rattle.av_nbt.specs.Place.{tag_of}
-use Rattle.av_nbt.specs.Shape.{◌>>=◌, text_of, int_of, lacks, or_else}
+use Rattle.av_tags.specs.Nbt.{NamedTag}
+use Rattle.av_tags.specs.Place.{tag_of}
+use Rattle.av_tags.specs.Shape.{◌>>=◌, text_of, int_of, lacks, or_else}
 use Rattle.av_ticks.specs.Entries.{is_pending}
 
 -- a block of the chunk

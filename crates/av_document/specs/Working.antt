@@ -4,9 +4,9 @@ use Rattle.std.specs.List.{list_any}
 use Rattle.std.specs.Ordering.{int_eq}
 use Rattle.av_types.specs.Places.{is_section_of}
 use Rattle.av_types.specs.declared.place.Height.{Height}
-use Rattle.av_nbt.specs.Nbt.{NamedTag}
-use Rattle.av_nbt.specs.Place.{tag_of}
-use Rattle.av_nbt.specs.Shape.{compound_of}
+use Rattle.av_tags.specs.Nbt.{NamedTag}
+use Rattle.av_tags.specs.Place.{tag_of}
+use Rattle.av_tags.specs.Shape.{compound_of}
 use Rattle.av_document.specs.Chunk.{section_number, is_other}
 
 -- after those with these numbers

@@ -2,6 +2,7 @@
 //! (<https://minecraft.wiki/w/Chunk_format>): definitions, and the law that ties them.
 #![tactic(auto)]
 
+ghost use Rattle.av_document.specs.Entries.{StoredEntriesAreStates};
 ghost use Rattle.av_document.specs.Law.{WrittenDenotes, WrittenIsWellFormed, WrittenComesBack, ReadThenWritten, DenotesOne, LooksInside};
 
 /// A law of the definitions: what is written of a chunk denotes the same cells and rest, and the
@@ -41,4 +42,10 @@ pub fn denotes_one()
 /// sections alone. There is nothing to do.
 pub fn layout_looks_inside()
     ensures { LooksInside }
+{}
+
+/// A law of the definitions: what the tags of a palette entry describe is a state, wherever bytes spell them. So no palette
+/// of a file is refused for the length of a text, or for a key that is there twice. There is nothing to do.
+pub fn stored_entries_are_states()
+    ensures { StoredEntriesAreStates }
 {}

@@ -7,8 +7,8 @@ use Rattle.av_types.specs.declared.place.Height.{Height}
 use Rattle.av_types.specs.declared.place.ChunkPos.{ChunkPos}
 use Rattle.av_types.specs.declared.fault.Fault.{Fault}
 use Rattle.av_types.specs.declared.fault.Fault.TheVariants.{OldLayout, BadChunk, WrongPlace, BadPalette, BadPacked, BadTick, BadWaterLevel, TooManyStates}
-use Rattle.av_nbt.specs.Nbt.{NamedTag}
-use Rattle.av_nbt.specs.Shape.{lacks, or_else, each}
+use Rattle.av_tags.specs.Nbt.{NamedTag}
+use Rattle.av_tags.specs.Shape.{lacks, or_else, each}
 use Rattle.av_document.specs.Ticks.{is_bad_tick}
 use Rattle.av_section.specs.Palette.{palette_of}
 use Rattle.av_state.specs.BlockState.{meant}

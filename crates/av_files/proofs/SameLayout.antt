@@ -12,8 +12,8 @@ use Rattle.av_types.specs.declared.place.Height.{Height}
 use Rattle.av_types.specs.declared.tick.Entry.{Entry}
 use Rattle.av_types.proofs.Coordinates.{region_back}
 use Rattle.av_files.proofs.Coordinates.{same_region-refl}
-use Rattle.av_nbt.specs.Nbt.{NamedTag, members_of, text, int}
-use Rattle.av_nbt.specs.Place.{with_tag}
+use Rattle.av_tags.specs.Nbt.{NamedTag, members_of, text, int}
+use Rattle.av_tags.specs.Place.{with_tag}
 use Rattle.av_nbt.specs.Writing.{written_document}
 use Rattle.av_region.specs.Layout.{region_bytes}
 use Rattle.av_state.specs.BlockState.{BlockState}

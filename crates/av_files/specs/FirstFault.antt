@@ -6,7 +6,7 @@ use Rattle.av_types.specs.declared.place.Height.{Height}
 use Rattle.av_types.specs.declared.place.ChunkPos.{ChunkPos}
 use Rattle.av_types.specs.declared.fault.Fault.{Fault}
 use Rattle.av_types.specs.declared.fault.Fault.TheVariants.{BadCount, BadTable, RegionRange, RepeatedRegion, ShortHeader, BadNbt}
-use Rattle.av_nbt.specs.Nbt.{Document}
+use Rattle.av_tags.specs.Nbt.{Document}
 use Rattle.av_nbt.specs.Spelling.{SpellsDocument}
 use Rattle.av_nbt.specs.Outcome.{SpellsNone}
 use Rattle.av_region.specs.Region.{IsShort, IsAbsent, Holds, IsChunkFault}

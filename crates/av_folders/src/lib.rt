@@ -2,6 +2,7 @@
 #![tactic(auto)]
 
 pub mod bare;
+pub mod failing;
 pub mod folder_sink;
 pub mod holding;
 pub mod locks;

@@ -2,8 +2,6 @@
 use Rattle.std.proofs.Common.{◌≡◌, ◌∙◌, ℕ, ◌<◌, ℤ, List, [], ◌∷◌, ◌++◌, Bool, true, false, ◌||◌, cond, Some, refl, ap, arith}
 use Rattle.std.specs.Prelude.{map, codes, option_map}
 use Rattle.std.specs.List.{AllByRecursion, list_any}
-use Rattle.std.proofs.lemmas.Bool.{and_from}
-use Rattle.std.proofs.lemmas.Bool.Decides.{Decides-int_eq}
 use Rattle.av_types.specs.Places.{chunk_at, is_section_of}
 use Rattle.av_types.specs.declared.place.Pos.{Pos}
 use Rattle.av_types.specs.declared.place.ChunkPos.{ChunkPos}
@@ -11,9 +9,10 @@ use Rattle.av_types.specs.declared.place.RegionPos.{RegionPos}
 use Rattle.av_types.specs.declared.place.Height.{Height}
 use Rattle.av_types.specs.declared.tick.Entry.{Entry}
 use Rattle.av_types.proofs.Coordinates.{region_back}
+use Rattle.av_files.proofs.Coordinates.{same_region-refl}
 use Rattle.av_files.proofs.SameLayout.{map_range, payload_if}
-use Rattle.av_nbt.specs.Nbt.{members_of}
-use Rattle.av_nbt.specs.Place.{with_tag}
+use Rattle.av_tags.specs.Nbt.{members_of}
+use Rattle.av_tags.specs.Place.{with_tag}
 use Rattle.av_nbt.specs.Writing.{written_document}
 use Rattle.av_region.specs.Layout.{region_bytes, first_too_large}
 use Rattle.av_state.specs.BlockState.{BlockState}
@@ -77,9 +76,6 @@ module _ (t : BlockTable) (w v : Land BlockState) (r s : Rest) (l m : Lights) (n
 
   -- ---- all regions
 
-  same_region_refl : (x : RegionPos) → same_region x x ≡ true
-  same_region_refl x = and_from _ _ ((Decides-int_eq x.x x.x).1 refl) ((Decides-int_eq x.z x.z).1 refl)
-
   or_true : (b : Bool) → (b || true) ≡ true
   or_true true = refl
   or_true false = refl
@@ -88,7 +84,7 @@ module _ (t : BlockTable) (w v : Land BlockState) (r s : Rest) (l m : Lights) (n
   members : (rs : List RegionPos) → ((x : RegionPos) → list_any (same_region x) rs ≡ true → list_any (same_region x) r.regions ≡ true) → AllByRecursion (λ x. list_any (same_region x) r.regions ≡ true) rs
   members [] h = tt
   members (x ∷ xs) h =
-      (h x (ap (λ b. b || list_any (same_region x) xs) (same_region_refl x)), members xs (λ y e. h y (ap (λ b. same_region y x || b) e ∙ or_true (same_region y x))))
+      (h x (ap (λ b. b || list_any (same_region x) xs) (same_region-refl x)), members xs (λ y e. h y (ap (λ b. same_region y x || b) e ∙ or_true (same_region y x))))
 
   files_from : (rs : List RegionPos) → AllByRecursion (λ x. list_any (same_region x) r.regions ≡ true) rs → map (file_layout sources v r l n) rs ≡ map (file_layout sources v s m n) rs
   files_from [] h = refl

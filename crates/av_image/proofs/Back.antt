@@ -11,9 +11,9 @@ use Rattle.av_chunk.specs.declared.chunk.Chunk.{Chunk}
 use Rattle.av_cells.specs.Positions.{same_chunk}
 use Rattle.av_region_files.specs.Regions.{same_region}
 use Rattle.av_files.proofs.Coordinates.{same_region_is, same_region-refl}
-use Rattle.av_image.specs.declared.places.Place.{Place}
-use Rattle.av_image.specs.declared.places.Place.TheVariants.{Absent, Kept, Full}
-use Rattle.av_image.specs.declared.splits.Placed.{Placed}
+use Rattle.av_image.specs.declared.reading.places.Place.{Place}
+use Rattle.av_image.specs.declared.reading.places.Place.TheVariants.{Absent, Kept, Full}
+use Rattle.av_image.specs.declared.reading.splits.Placed.{Placed}
 use Rattle.av_image.specs.Splits.{placed_of, placed_from, chunk_found}
 use Rattle.av_image.proofs.Worlds.{found_append, first_some}
 

@@ -3,7 +3,7 @@ use Rattle.std.proofs.Common.{◌≡◌, ◌∙◌, ℕ, List, get_or, set, repl
 use Rattle.std.specs.Prelude.{IfSome}
 use Rattle.av_state.specs.BlockState.{BlockState}
 use Rattle.av_chunk.specs.declared.chunk.Reading.{Reading}
-use Rattle.av_image.specs.declared.batch.Batch.{Batch}
+use Rattle.av_image.specs.declared.reading.batch.Batch.{Batch}
 use Rattle.av_image.specs.Ahead.{IsMadeBy, AreAhead}
 use Rattle.av_image.proofs.Placing.{set_keeps, replicated_at}
 

@@ -2,15 +2,15 @@
 use Rattle.std.proofs.Crossing.{crosses}
 use Rattle.std.proofs.MapsCrossing as maps
 use denote.Param.Send.{IsSend, IsSync, sendable}
-use Rattle.av_nbt.proofs.tag.Tag.TheLaws.TheKnot as tags
-use Rattle.av_nbt.specs.contracts.tag.Named as Named
-use Rattle.av_nbt.specs.contracts.tag.Tag as Tag
+use Rattle.av_tags.proofs.tag.Tag.TheLaws.TheKnot as tags
+use Rattle.av_tags.specs.contracts.tag.Named as Named
+use Rattle.av_tags.specs.contracts.tag.Tag as Tag
 use Rattle.av_state.specs.contracts.table.StateTable as StateTable
 use Rattle.av_ticks.specs.contracts.positions.Positions as Positions
 use Rattle.av_ticks.specs.contracts.list.TickList as TickList
 use Rattle.av_chunk.specs.contracts.rest.ChunkRest as ChunkRest
 use Rattle.av_world.specs.contracts.worlds.World as World
-use Rattle.av_image.specs.contracts.ahead.BatchReading as BatchReading
+use Rattle.av_image.specs.contracts.reading.ahead.BatchReading as BatchReading
 use Rattle.av_image.specs.contracts.rest.RegionRest as RegionRest
 
 -- a list of ticks may have an ordered map

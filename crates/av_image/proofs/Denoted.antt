@@ -32,12 +32,12 @@ use Rattle.av_files.specs.Run.{stated}
 use Rattle.av_files.specs.Denotes.{IsSlot, DenotesFile, Denotes}
 use Rattle.av_files.proofs.Coordinates.{same_region_is, same_region-refl}
 use Rattle.av_files.proofs.Slots.{made_at}
-use Rattle.av_image.specs.declared.places.Place.{Place}
-use Rattle.av_image.specs.declared.places.Place.TheVariants.{Absent, Kept, Full}
-use Rattle.av_image.specs.declared.regions.ReadRegion.{ReadRegion}
+use Rattle.av_image.specs.declared.reading.places.Place.{Place}
+use Rattle.av_image.specs.declared.reading.places.Place.TheVariants.{Absent, Kept, Full}
+use Rattle.av_image.specs.declared.reading.regions.ReadRegion.{ReadRegion}
 use Rattle.av_image.specs.declared.rest.Slot.{Slot}
 use Rattle.av_image.specs.declared.rest.RegionRest.{RegionRest}
-use Rattle.av_image.specs.declared.splits.Placed.{Placed}
+use Rattle.av_image.specs.declared.reading.splits.Placed.{Placed}
 use Rattle.av_image.specs.Placed.{WasPlaceRead, WasRegionRead, WereRegionsRead, are_stamps}
 use Rattle.av_world.specs.Lands.{land_of}
 use Rattle.av_image.specs.Views.{rest_view, region_found, stamp_in, slot_in, slot_at, kept_in, chunk_rest_in}

@@ -7,8 +7,8 @@ use Rattle.av_types.specs.Faults.{least}
 use Rattle.av_types.specs.declared.place.Pos.{Pos}
 use Rattle.av_types.specs.declared.place.ChunkPos.{ChunkPos}
 use Rattle.av_types.specs.declared.place.Height.{Height}
-use Rattle.av_nbt.specs.Nbt.{Document, NamedTag}
-use Rattle.av_nbt.specs.Shape.{◌>>=◌, or_else}
+use Rattle.av_tags.specs.Nbt.{Document, NamedTag}
+use Rattle.av_tags.specs.Shape.{◌>>=◌, or_else}
 use Rattle.av_state.specs.BlockState.{BlockState, air}
 use Rattle.av_state.specs.StateList.{with_states, most_states}
 use Rattle.av_state.proofs.Numbering.{number_in-any, number_in-append, slice_get-append}

@@ -23,8 +23,8 @@ use Rattle.av_types.specs.Division.{divided}
 use Rattle.av_types.specs.Places.{place_of, is_section_of}
 use Rattle.av_types.proofs.Coordinates.{region_back}
 use Rattle.av_types.proofs.SamePlaces.{same_chunk_is}
-use Rattle.av_nbt.specs.Nbt.{Document}
-use Rattle.av_nbt.specs.Shape.{or_else, ◌>>=◌}
+use Rattle.av_tags.specs.Nbt.{Document}
+use Rattle.av_tags.specs.Shape.{or_else, ◌>>=◌}
 use Rattle.av_section.specs.Section.{number_at, is_pending as is_pending_at}
 use Rattle.av_section.specs.declared.section.Section.{Section}
 use Rattle.av_section.specs.Reading.{OnlyGrows}
@@ -45,11 +45,11 @@ use Rattle.av_region_files.specs.Regions.{region_order, same_region}
 use Rattle.av_files.specs.FirstFault.{AllInLimits}
 use Rattle.av_files.specs.Laws.{StampsFit}
 use Rattle.av_region_files.specs.declared.files.RegionFile.{RegionFile}
-use Rattle.av_image.specs.declared.places.Place.{Place}
-use Rattle.av_image.specs.declared.places.Place.TheVariants.{Absent, Kept, Full}
-use Rattle.av_image.specs.declared.regions.ReadRegion.{ReadRegion}
+use Rattle.av_image.specs.declared.reading.places.Place.{Place}
+use Rattle.av_image.specs.declared.reading.places.Place.TheVariants.{Absent, Kept, Full}
+use Rattle.av_image.specs.declared.reading.regions.ReadRegion.{ReadRegion}
 use Rattle.av_image.specs.declared.rest.RegionRest.{RegionRest}
-use Rattle.av_image.specs.declared.splits.Placed.{Placed}
+use Rattle.av_image.specs.declared.reading.splits.Placed.{Placed}
 use Rattle.av_image.specs.Placed.{WasPlaceRead, WasRegionRead, WereRegionsRead}
 use Rattle.av_image.specs.Loading.{placed_order}
 use Rattle.av_land.specs.Land.{is_loaded}

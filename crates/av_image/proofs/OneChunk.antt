@@ -13,7 +13,7 @@ use Rattle.av_types.specs.declared.place.Pos.{Pos}
 use Rattle.av_types.specs.declared.place.ChunkPos.{ChunkPos}
 use Rattle.av_types.specs.declared.place.Height.{Height}
 use Rattle.av_types.specs.declared.tick.Entry.{Entry}
-use Rattle.av_nbt.specs.Shape.{◌>>=◌}
+use Rattle.av_tags.specs.Shape.{◌>>=◌}
 use Rattle.av_state.specs.BlockState.{BlockState, air}
 use Rattle.av_state.specs.Table.{states}
 use Rattle.av_rules.specs.Kinds.{table_in, wet_at, kind_count}

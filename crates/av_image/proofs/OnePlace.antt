@@ -8,11 +8,11 @@ use Rattle.av_region.specs.Region.{Holds}
 use Rattle.av_state.specs.BlockState.{BlockState}
 use Rattle.av_state.specs.StateList.{with_states}
 use Rattle.av_section.specs.Reading.{OnlyGrows}
-use Rattle.av_chunk.proofs.Slots.{OnlyGrows-trans}
+use Rattle.av_section.proofs.Numbers.{OnlyGrows-trans}
 use Rattle.av_files.specs.Files.{File}
 use Rattle.av_files.specs.FirstFault.{IsPlaceFault, IsPlaceGood, spelling, document, nothing, chunk}
-use Rattle.av_image.specs.declared.places.Place.{Place}
-use Rattle.av_image.specs.declared.places.Place.TheVariants.{Absent, Kept, Full}
+use Rattle.av_image.specs.declared.reading.places.Place.{Place}
+use Rattle.av_image.specs.declared.reading.places.Place.TheVariants.{Absent, Kept, Full}
 use Rattle.av_chunk.specs.Payload.{IsPayloadFault, no_document, bad_document}
 use Rattle.av_image.specs.Placed.{IsPlaceRead, WasPlaceRead, WerePlacesRead}
 

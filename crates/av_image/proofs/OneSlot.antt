@@ -10,8 +10,8 @@ use Rattle.av_types.specs.Places.{section_of, place_of, is_block_of, chunk_of_se
 use Rattle.av_types.specs.declared.place.Height.{Height}
 use Rattle.av_types.specs.declared.place.Pos.{Pos}
 use Rattle.av_types.specs.declared.place.ChunkPos.{ChunkPos}
-use Rattle.av_nbt.specs.Nbt.{Document, NamedTag}
-use Rattle.av_nbt.specs.Shape.{or_else, ◌>>=◌}
+use Rattle.av_tags.specs.Nbt.{Document, NamedTag}
+use Rattle.av_tags.specs.Shape.{or_else, ◌>>=◌}
 use Rattle.av_state.specs.BlockState.{BlockState, air}
 use Rattle.av_section.specs.Section.{number_at}
 use Rattle.av_section.specs.declared.section.Section.{Section}
@@ -31,8 +31,8 @@ use Rattle.av_world.specs.declared.worlds.World.{World}
 use Rattle.av_files.specs.Run.{stated}
 use Rattle.av_files.specs.Denotes.{Rest, IsSlot, absent, kept, full}
 use Rattle.av_files.proofs.Loading.{denotes_kept, state_stays}
-use Rattle.av_image.specs.declared.places.Place.{Place}
-use Rattle.av_image.specs.declared.places.Place.TheVariants.{Absent, Kept, Full}
+use Rattle.av_image.specs.declared.reading.places.Place.{Place}
+use Rattle.av_image.specs.declared.reading.places.Place.TheVariants.{Absent, Kept, Full}
 use Rattle.av_image.specs.Placed.{WasPlaceRead}
 use Rattle.av_world.specs.Lands.{land_of}
 use Rattle.av_image.specs.Views.{kept_in, chunk_rest_in}

@@ -7,7 +7,7 @@ use Rattle.av_types.specs.Places.{chunk_at}
 use Rattle.av_rules.specs.declared.kinds.Kinds.{Kinds}
 use Rattle.av_chunk.specs.declared.light.ChunkLight.{ChunkLight}
 use Rattle.av_world.specs.declared.worlds.World.{World}
-use Rattle.av_image.specs.declared.saving.Payload.{Payload}
+use Rattle.av_image.specs.declared.writing.payloads.Payload.{Payload}
 use Rattle.av_image.specs.declared.rest.RegionRest.{RegionRest}
 use Rattle.av_image.specs.SavingSteps.{payload_items, slot_payload, first_payloads}
 

@@ -10,8 +10,8 @@ use Rattle.av_chunk.specs.declared.rest.ChunkRest.{ChunkRest}
 use Rattle.av_world.specs.Views.{height_of, positions_of}
 use Rattle.av_image.specs.declared.rest.Slot.{Slot}
 use Rattle.av_image.specs.declared.rest.Slot.TheVariants.{Loaded}
-use Rattle.av_image.specs.declared.job.RegionJob.{RegionJob}
-use Rattle.av_image.specs.declared.dealt.IndexedPayload.{IndexedPayload}
+use Rattle.av_image.specs.declared.writing.job.RegionJob.{RegionJob}
+use Rattle.av_image.specs.declared.writing.dealt.IndexedPayload.{IndexedPayload}
 use Rattle.av_image.specs.Saving.{IsSlotOf}
 use Rattle.av_image.specs.SavingSteps.{slot_payload, loaded_bytes}
 use Rattle.av_image.specs.Making.{IsPayloadAt, IsMade, ArePlaced}

@@ -19,7 +19,7 @@ use Rattle.av_world.proofs.Search.{lt_tells, eq_tells}
 use Rattle.av_files.specs.Files.{regions_rise, in_order}
 use Rattle.av_region_files.specs.Regions.{region_order}
 use Rattle.av_region_files.specs.declared.files.RegionFile.{RegionFile}
-use Rattle.av_image.specs.declared.splits.Placed.{Placed}
+use Rattle.av_image.specs.declared.reading.splits.Placed.{Placed}
 use Rattle.av_image.specs.Splits.{chunk_found, HasAt, IsWorldOf}
 use Rattle.av_image.specs.Loading.{placed_order, region_before, comes_after, rises_from}
 use Rattle.av_image.specs.Views.{file_in}

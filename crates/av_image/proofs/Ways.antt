@@ -7,12 +7,12 @@ use Rattle.av_types.specs.declared.place.Height.{Height}
 use Rattle.av_types.specs.declared.fault.Fault.{Fault}
 use Rattle.av_state.specs.BlockState.{BlockState}
 use Rattle.av_section.specs.Reading.{OnlyGrows}
-use Rattle.av_chunk.proofs.Slots.{OnlyGrows-trans}
+use Rattle.av_section.proofs.Numbers.{OnlyGrows-trans}
 use Rattle.av_files.specs.Files.{File}
 use Rattle.av_files.specs.Layout.{indices}
 use Rattle.av_files.specs.FirstFault.{IsPlaceFault, IsPlaceGood, IsFirstOfFile, IsFirstOfFiles, IsFirstOfPlaces}
-use Rattle.av_image.specs.declared.places.Place.{Place}
-use Rattle.av_image.specs.declared.regions.ReadRegion.{ReadRegion}
+use Rattle.av_image.specs.declared.reading.places.Place.{Place}
+use Rattle.av_image.specs.declared.reading.regions.ReadRegion.{ReadRegion}
 use Rattle.av_image.specs.Placed.{IsPlaceRead, WasPlaceRead, ArePlacesRead, WasRegionRead, IsRegionRead, WereRegionsRead, AreRegionsRead}
 use Rattle.av_image.specs.Ways.{IsPlacesWay, PlacesSoFar, GoesOn, Stops, FilesSoFar}
 use Rattle.av_image.proofs.OnePlace.{good_place, places_grown}

@@ -17,7 +17,7 @@ use Rattle.av_world.specs.Inserted.{chunk_grid, with_chunk, with_list, Inserts}
 use Rattle.av_world.specs.Views.{grid, lists}
 use Rattle.av_world.specs.declared.worlds.World.{World}
 use Rattle.av_land.specs.Land.{has_chunk}
-use Rattle.av_image.specs.declared.splits.Placed.{Placed}
+use Rattle.av_image.specs.declared.reading.splits.Placed.{Placed}
 use Rattle.av_image.specs.Splits.{chunk_found, ArePlacedOnce, HasAt, IsWorldOf}
 
 pub not_same : (a b : ChunkPos) → same_chunk a b ≡ false → same_chunk b a ≡ false

@@ -9,9 +9,9 @@ use Rattle.av_types.specs.declared.place.Height.{Height}
 use Rattle.av_region.specs.Region.{Holds}
 use Rattle.av_state.specs.BlockState.{BlockState}
 use Rattle.av_chunk.specs.Payload.{IsPayloadReading}
-use Rattle.av_image.specs.declared.batch.Batch.{Batch}
+use Rattle.av_image.specs.declared.reading.batch.Batch.{Batch}
 use Rattle.av_chunk.specs.declared.chunk.Reading.{Reading}
-use Rattle.av_image.specs.declared.ahead.BatchReading.{BatchReading}
+use Rattle.av_image.specs.declared.reading.ahead.BatchReading.{BatchReading}
 
 -- what the payload at an index of a file is read as, as the chunk of a place, by a table that gains no state
 pub record IsMadeAt (h : Height) (table : List BlockState) (file : List ℕ) (c : ChunkPos) (i : ℕ) (r : Reading) : Type 0 where

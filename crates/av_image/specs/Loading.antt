@@ -7,7 +7,7 @@ use Rattle.av_types.specs.declared.fault.Fault.{Fault}
 use Rattle.av_types.specs.declared.fault.Fault.TheVariants.{RegionRange, RepeatedRegion}
 use Rattle.av_files.specs.Files.{File, in_order, regions_rise, share_a_region, chunk_order}
 use Rattle.av_files.specs.FirstFault.{AllInLimits}
-use Rattle.av_image.specs.declared.splits.Placed.{Placed}
+use Rattle.av_image.specs.declared.reading.splits.Placed.{Placed}
 
 abbrev pub placed_order : Placed → Placed → Ordering
 placed_order a b = chunk_order a.at b.at

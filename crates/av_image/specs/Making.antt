@@ -4,8 +4,8 @@ use Rattle.std.specs.List.{All}
 use Rattle.std.specs.declared.alloc.Global.{Global}
 use Rattle.std.specs.declared.alloc.AllocError.{AllocError}
 use Rattle.av_types.specs.Places.{chunk_at}
-use Rattle.av_image.specs.declared.job.RegionJob.{RegionJob}
-use Rattle.av_image.specs.declared.dealt.IndexedPayload.{IndexedPayload}
+use Rattle.av_image.specs.declared.writing.job.RegionJob.{RegionJob}
+use Rattle.av_image.specs.declared.writing.dealt.IndexedPayload.{IndexedPayload}
 use Rattle.av_image.specs.SavingSteps.{slot_payload, region_payloads}
 
 -- what is written at an index of the region, and at each

@@ -5,7 +5,7 @@ use Rattle.av_types.specs.Places.{IsInLimits, chunk_at}
 use Rattle.av_types.specs.declared.place.Height.{Height}
 use Rattle.av_types.specs.declared.place.ChunkPos.{ChunkPos}
 use Rattle.av_types.specs.declared.place.RegionPos.{RegionPos}
-use Rattle.av_nbt.specs.Nbt.{Document}
+use Rattle.av_tags.specs.Nbt.{Document}
 use Rattle.av_nbt.specs.Spelling.{SpellsDocument}
 use Rattle.av_region.specs.Region.{IsShort, IsAbsent, Holds, stamp_of}
 use Rattle.av_state.specs.BlockState.{BlockState}
@@ -16,9 +16,9 @@ use Rattle.av_chunk.specs.declared.rest.ChunkRest.{ChunkRest}
 use Rattle.av_files.specs.Files.{File, regions_rise}
 use Rattle.av_files.specs.Layout.{indices}
 use Rattle.av_files.specs.FirstFault.{ArePlacesGood, AreFilesGood, IsFileGood}
-use Rattle.av_image.specs.declared.places.Place.{Place}
-use Rattle.av_image.specs.declared.places.Place.TheVariants.{Absent, Kept, Full}
-use Rattle.av_image.specs.declared.regions.ReadRegion.{ReadRegion}
+use Rattle.av_image.specs.declared.reading.places.Place.{Place}
+use Rattle.av_image.specs.declared.reading.places.Place.TheVariants.{Absent, Kept, Full}
+use Rattle.av_image.specs.declared.reading.regions.ReadRegion.{ReadRegion}
 
 abbrev pub file_of : RegionPos → List ℕ → File
 file_of p bytes = record { pos = p; bytes = bytes }

@@ -14,8 +14,8 @@ use Rattle.av_world.specs.Views.{height_of, lists}
 use Rattle.av_world.specs.declared.worlds.World.{World}
 use Rattle.av_files.specs.Files.{File}
 use Rattle.av_files.specs.Layout.{first_or}
-use Rattle.av_image.specs.declared.saving.Payload.{Payload}
-use Rattle.av_image.specs.declared.saving.Payload.TheVariants as payload
+use Rattle.av_image.specs.declared.writing.payloads.Payload.{Payload}
+use Rattle.av_image.specs.declared.writing.payloads.Payload.TheVariants as payload
 use Rattle.av_image.specs.declared.rest.Slot.{Slot}
 use Rattle.av_image.specs.declared.rest.Slot.TheVariants.{Absent, Kept, Loaded}
 use Rattle.av_image.specs.declared.rest.RegionRest.{RegionRest}

@@ -12,13 +12,13 @@ use Rattle.av_world.specs.Inserted.{chunk_grid}
 use Rattle.av_world.specs.Views.{grid, lists}
 use Rattle.av_world.specs.declared.worlds.World.{World}
 use Rattle.av_land.specs.Land.{has_chunk}
-use Rattle.av_image.specs.declared.places.Place.{Place}
-use Rattle.av_image.specs.declared.places.Place.TheVariants.{Absent, Kept, Full}
-use Rattle.av_image.specs.declared.regions.ReadRegion.{ReadRegion}
+use Rattle.av_image.specs.declared.reading.places.Place.{Place}
+use Rattle.av_image.specs.declared.reading.places.Place.TheVariants.{Absent, Kept, Full}
+use Rattle.av_image.specs.declared.reading.regions.ReadRegion.{ReadRegion}
 use Rattle.av_image.specs.declared.rest.Slot.{Slot}
 use Rattle.av_image.specs.declared.rest.Slot.TheVariants as slots
 use Rattle.av_image.specs.declared.rest.RegionRest.{RegionRest}
-use Rattle.av_image.specs.declared.splits.Placed.{Placed}
+use Rattle.av_image.specs.declared.reading.splits.Placed.{Placed}
 
 -- ---- places split into slots and chunks
 

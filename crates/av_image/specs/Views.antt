@@ -5,18 +5,13 @@ use Rattle.av_types.specs.declared.place.ChunkPos.{ChunkPos}
 use Rattle.av_types.specs.declared.place.RegionPos.{RegionPos}
 use Rattle.av_document.specs.Chunk.{RestOfChunk}
 use Rattle.av_chunk.specs.Views.{rest_of}
-use Rattle.av_files.specs.Files.{File}
+pub use Rattle.av_files.specs.Files.{file_in}
 use Rattle.av_region_files.specs.Regions.{same_region}
 use Rattle.av_files.specs.Denotes as files
-use Rattle.av_region_files.specs.declared.files.RegionFile.{RegionFile}
 use Rattle.av_image.specs.declared.rest.Slot.{Slot}
 use Rattle.av_image.specs.declared.rest.Slot.TheVariants as slots
 use Rattle.av_image.specs.declared.rest.RegionRest.{RegionRest}
 use Rattle.av_image.specs.declared.rest.Rest.{Rest}
-
--- a file as its region and its bytes
-abbrev pub file_in : RegionFile → File
-file_in f = record { pos = f.pos; bytes = f.bytes.items }
 
 -- the first region with a place
 abbrev pub region_found : List RegionRest → RegionPos → Option RegionRest

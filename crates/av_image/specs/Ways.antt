@@ -8,8 +8,8 @@ use Rattle.av_section.specs.Reading.{OnlyGrows}
 use Rattle.av_files.specs.Files.{File}
 use Rattle.av_files.specs.Layout.{indices}
 use Rattle.av_files.specs.FirstFault.{ArePlacesGood, IsFirstOfPlaces, AreFilesGood, IsFirstOfFiles}
-use Rattle.av_image.specs.declared.places.Place.{Place}
-use Rattle.av_image.specs.declared.regions.ReadRegion.{ReadRegion}
+use Rattle.av_image.specs.declared.reading.places.Place.{Place}
+use Rattle.av_image.specs.declared.reading.regions.ReadRegion.{ReadRegion}
 use Rattle.av_image.specs.Placed.{WerePlacesRead, WereRegionsRead}
 
 -- what will be said of the places that are left can be said of all

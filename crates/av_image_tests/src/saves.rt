@@ -1,4 +1,4 @@
-//! Worlds that are read and saved, by one thread and by several, without light and after no tick.
+//! Worlds that are read and saved, without light and after no tick.
 ghost use Rattle.std.specs.Prelude.{◌≡◌, IfOk, length};
 ghost use Rattle.std.specs.List.{All};
 ghost use Rattle.av_chunk.specs.Light.{section_count};
@@ -9,7 +9,7 @@ ghost use Rattle.av_world.specs.Lands.{land_of, IsUncarved};
 ghost use Rattle.av_world.specs.Views.{height_of, positions_of};
 
 use av_chunk::ChunkLight;
-use av_image::{RegionFile, Rest, load, load_on, save, save_on};
+use av_image::{RegionFile, Rest, load, save};
 use av_rules::{Kinds, Rules};
 use av_state::StateTable;
 use av_types::Fault;
@@ -18,20 +18,7 @@ use std::alloc::Global;
 use std::thread::Threads;
 
 /// What files say, and the kinds of the states that they name, by a table without rows.
-fn read(alloc: Global, files: Vec<RegionFile>) -> Result<(World, Rest, Kinds), Fault>
-    ensures good { IfOk result (λ read. Good (kind_count read.2) (IsTimely 0) (land_of read.0)) }
-    ensures whole { IfOk result (λ read. IsUncarved read.0) }
-    ensures rest { IfOk result (λ read. IsRestOf (height_of read.0) (positions_of read.0) read.1) }
-{
-    let rules = Rules::read(alloc, b"version = 1")?;
-    let mut table = StateTable::new(alloc)?;
-    let (world, rest) = load(alloc, files, &rules, &mut table)?;
-    let kinds = Kinds::new(alloc, table, &rules)?;
-    Ok((world, rest, kinds))
-}
-
-/// The same, read by several threads.
-fn read_on(
+fn read(
     rt: &(impl Threads + Sync),
     alloc: Global,
     files: Vec<RegionFile>,
@@ -42,7 +29,7 @@ fn read_on(
 {
     let rules = Rules::read(alloc, b"version = 1")?;
     let mut table = StateTable::new(alloc)?;
-    let (world, rest) = load_on(rt, alloc, files, &rules, &mut table)?;
+    let (world, rest) = load(rt, alloc, files, &rules, &mut table)?;
     let kinds = Kinds::new(alloc, table, &rules)?;
     Ok((world, rest, kinds))
 }
@@ -60,37 +47,23 @@ fn dark(alloc: Global, world: &World) -> Result<Vec<ChunkLight>, Fault>
 }
 
 /// The files that are written of what files say.
-pub fn saved(alloc: Global, files: Vec<RegionFile>) -> Result<Vec<RegionFile>, Fault> {
-    let (world, rest, kinds) = read(alloc, files)?;
-    let lights = dark(alloc, &world)?;
-    save(alloc, &world, &rest, &kinds, lights.as_slice(), 0)
-}
-
-/// The same, where the world is given up before.
-pub fn saved_broken(alloc: Global, files: Vec<RegionFile>) -> Result<Vec<RegionFile>, Fault> {
-    let (mut world, rest, kinds) = read(alloc, files)?;
-    world.give_up();
-    save(alloc, &world, &rest, &kinds, &[], 0)
-}
-
-/// The files that several threads read and write of what files say.
-pub fn saved_on(
+pub fn saved(
     rt: &(impl Threads + Sync),
     alloc: Global,
     files: Vec<RegionFile>,
 ) -> Result<Vec<RegionFile>, Fault> {
-    let (world, rest, kinds) = read_on(rt, alloc, files)?;
+    let (world, rest, kinds) = read(rt, alloc, files)?;
     let lights = dark(alloc, &world)?;
-    save_on(rt, alloc, &world, &rest, &kinds, lights.as_slice(), 0)
+    save(rt, alloc, &world, &rest, &kinds, lights.as_slice(), 0)
 }
 
 /// The same, where the world is given up before.
-pub fn saved_broken_on(
+pub fn saved_broken(
     rt: &(impl Threads + Sync),
     alloc: Global,
     files: Vec<RegionFile>,
 ) -> Result<Vec<RegionFile>, Fault> {
-    let (mut world, rest, kinds) = read_on(rt, alloc, files)?;
+    let (mut world, rest, kinds) = read(rt, alloc, files)?;
     world.give_up();
-    save_on(rt, alloc, &world, &rest, &kinds, &[], 0)
+    save(rt, alloc, &world, &rest, &kinds, &[], 0)
 }

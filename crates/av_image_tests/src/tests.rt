@@ -1,7 +1,7 @@
 //! Small region files, read as a world and a rest.
 use crate::flat::{Block, Flat, Waiting, chunk, flat_region, push_chunk, push_pad, region};
-use crate::saves::{saved, saved_broken, saved_broken_on, saved_on};
-use av_image::{Rest, Slot, load, load_on};
+use crate::saves::{saved, saved_broken};
+use av_image::{Rest, Slot, load};
 use av_region_files::RegionFile;
 use av_rules::Rules;
 use av_state::StateTable;
@@ -13,21 +13,14 @@ use std::test::Fail;
 use std::thread::Threads;
 
 /// What files of these regions are read as, under a table without rows.
-fn read(alloc: Global, files: Vec<RegionFile>) -> Result<(World, Rest), Fault> {
-    let rules = Rules::read(alloc, b"version = 1")?;
-    let mut table = StateTable::new(alloc)?;
-    load(alloc, files, &rules, &mut table)
-}
-
-/// What several threads read them as.
-fn read_on(
+fn read(
     rt: &(impl Threads + Sync),
     alloc: Global,
     files: Vec<RegionFile>,
 ) -> Result<(World, Rest), Fault> {
     let rules = Rules::read(alloc, b"version = 1")?;
     let mut table = StateTable::new(alloc)?;
-    load_on(rt, alloc, files, &rules, &mut table)
+    load(rt, alloc, files, &rules, &mut table)
 }
 
 /// One file.
@@ -57,7 +50,7 @@ fn regions_without_chunks(rt: HostRuntime) -> Result<(), Fail> {
     for len in [0, 8192] {
         let pos = RegionPos { x: 3, z: -2 };
         let files = one(alloc, pos, vec![in alloc; 0; len]?)?;
-        let read = read(alloc, files)?;
+        let read = read(&rt, alloc, files)?;
         has_no_chunk_from(&rt, &read, 0);
         for region in &read.1.regions {
             assert_eq!(rt; region.pos, pos);
@@ -88,7 +81,7 @@ fn kept_region(alloc: Global) -> Result<Vec<u8>, AllocError> {
 fn payloads_and_stamps_that_are_kept(rt: HostRuntime) -> Result<(), Fail> {
     let alloc = rt.alloc();
     let files = one(alloc, RegionPos { x: 0, z: 0 }, kept_region(alloc)?)?;
-    let read = read(alloc, files)?;
+    let read = read(&rt, alloc, files)?;
     has_no_chunk_from(&rt, &read, 1);
     let region = read.1.regions.first().ok_or("no region")?;
     assert!(rt; region.stamps.first() == Some(&0x0102_0304));
@@ -122,11 +115,8 @@ fn files_that_are_refused(rt: HostRuntime) -> Result<(), Fail> {
         ([(0, 0, 1), (1, 0, 0), (0, 0, 0)], Fault::RepeatedRegion),
         ([(0, 0, 0), (1, 0, 8191), (2, 0, 8192)], Fault::ShortHeader),
     ] {
-        let fault = Some(fault);
         let files = zeros(alloc, regions.as_slice())?;
-        assert!(rt; read(alloc, files).err() == fault);
-        let files = zeros(alloc, regions.as_slice())?;
-        assert!(rt; read_on(&rt, alloc, files).err() == fault);
+        assert!(rt; read(&rt, alloc, files).err() == Some(fault));
     }
     Ok(())
 }
@@ -155,7 +145,7 @@ fn kept_chunks(
 fn payloads_that_threads_read(rt: HostRuntime) -> Result<(), Fail> {
     let alloc = rt.alloc();
     for count in [0, 1, 2, 70] {
-        let read = read_on(&rt, alloc, kept_chunks(alloc, count, &[])?)?;
+        let read = read(&rt, alloc, kept_chunks(alloc, count, &[])?)?;
         has_no_chunk_from(&rt, &read, count);
         let region = read.1.regions.first().ok_or("no region")?;
         for slot in region.slots.iter().take(count) {
@@ -187,7 +177,7 @@ fn the_first_fault_of_a_region(rt: HostRuntime) -> Result<(), Fail> {
             (elsewhere, payload),
         ];
         let files = kept_chunks(alloc, 66, others.as_slice())?;
-        assert!(rt; read_on(&rt, alloc, files).err() == Some(fault));
+        assert!(rt; read(&rt, alloc, files).err() == Some(fault));
     }
     Ok(())
 }
@@ -239,7 +229,7 @@ fn states_that_are_known_and_new(rt: HostRuntime) -> Result<(), Fail> {
     let files = kept_chunks(alloc, 68, payloads.as_slice())?;
     let rules = Rules::read(alloc, b"version = 1")?;
     let mut table = StateTable::new(alloc)?;
-    let (world, _) = load_on(&rt, alloc, files, &rules, &mut table)?;
+    let (world, _) = load(&rt, alloc, files, &rules, &mut table)?;
     assert_eq!(rt; table.len(), 12);
     assert_eq!(rt; world.positions().len(), 5);
     for (_, corner, _, number) in chunks {
@@ -292,20 +282,13 @@ fn expect_regions(
     Ok(())
 }
 
-/// What is saved of files is what they were, where nothing is missing in them: blocks, entries, payloads and stamps.
+/// What is saved of files is what they were, where nothing is missing in them: blocks, entries, payloads and stamps. One region
+/// has no chunk that is loaded, the other one, or more than there are threads.
 #[test]
 fn files_that_are_saved(rt: HostRuntime) -> Result<(), Fail> {
     let alloc = rt.alloc();
-    let written = saved(alloc, two_regions(alloc, 2)?)?;
-    expect_regions(&rt, written.as_slice(), alloc, 2)
-}
-
-/// Several threads read and write the same, of no chunk that is loaded, of one, and of more than there are threads.
-#[test]
-fn files_that_threads_save(rt: HostRuntime) -> Result<(), Fail> {
-    let alloc = rt.alloc();
     for chunks in [1, 32] {
-        let written = saved_on(&rt, alloc, two_regions(alloc, chunks)?)?;
+        let written = saved(&rt, alloc, two_regions(alloc, chunks)?)?;
         expect_regions(&rt, written.as_slice(), alloc, chunks)?;
     }
     Ok(())
@@ -318,17 +301,8 @@ fn a_broken_world_is_not_saved(rt: HostRuntime) -> Result<(), Fail> {
     let pos = RegionPos { x: 0, z: 0 };
     for bytes in [Vec::new(alloc), watered(alloc, 2)?] {
         let files = one(alloc, pos, bytes)?;
-        assert!(rt; saved_broken(alloc, files).err() == Some(Fault::Broken));
+        assert!(rt; saved_broken(&rt, alloc, files).err() == Some(Fault::Broken));
     }
-    Ok(())
-}
-
-/// The same of several threads.
-#[test]
-fn threads_save_no_broken_world(rt: HostRuntime) -> Result<(), Fail> {
-    let alloc = rt.alloc();
-    let files = one(alloc, RegionPos { x: 0, z: 0 }, watered(alloc, 2)?)?;
-    assert!(rt; saved_broken_on(&rt, alloc, files).err() == Some(Fault::Broken));
     Ok(())
 }
 
@@ -357,7 +331,7 @@ fn a_chunk_that_is_too_large(rt: HostRuntime) -> Result<(), Fail> {
     let alloc = rt.alloc();
     let at = ChunkPos { x: -31, z: 64 };
     let files = large_region(alloc, &[-31])?;
-    assert!(rt; saved(alloc, files).err() == Some(Fault::ChunkTooLarge(at)));
+    assert!(rt; saved(&rt, alloc, files).err() == Some(Fault::ChunkTooLarge(at)));
     Ok(())
 }
 
@@ -367,7 +341,7 @@ fn the_first_chunk_that_is_too_large(rt: HostRuntime) -> Result<(), Fail> {
     let alloc = rt.alloc();
     let at = ChunkPos { x: -31, z: 64 };
     let files = large_region(alloc, &[-31, -30, -29, -28, -27, -26])?;
-    assert!(rt; saved_on(&rt, alloc, files).err() == Some(Fault::ChunkTooLarge(at)));
+    assert!(rt; saved(&rt, alloc, files).err() == Some(Fault::ChunkTooLarge(at)));
     Ok(())
 }
 
@@ -381,7 +355,7 @@ fn payloads_that_are_cut(rt: HostRuntime) -> Result<(), Fail> {
         let payload = KEPT.get(..length).ok_or("too long")?;
         payloads.push(Vec::from_slice(alloc, payload)?)?;
         let bytes = region(alloc, payloads.as_slice())?;
-        let fault = read(alloc, one(alloc, pos, bytes)?).err();
+        let fault = read(&rt, alloc, one(alloc, pos, bytes)?).err();
         let want = if length < KEPT.len() {
             Some(Fault::BadNbt)
         } else {

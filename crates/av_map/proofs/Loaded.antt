@@ -8,8 +8,8 @@ use Rattle.av_types.specs.Division.{divided, remainder}
 use Rattle.av_types.specs.Places.{is_section_of, place_of}
 use Rattle.av_types.specs.declared.place.ChunkPos.{ChunkPos}
 use Rattle.av_types.specs.declared.place.Height.{Height}
-use Rattle.av_nbt.specs.Nbt.{Document, NamedTag}
-use Rattle.av_nbt.specs.Shape.{◌>>=◌, or_else}
+use Rattle.av_tags.specs.Nbt.{Document, NamedTag}
+use Rattle.av_tags.specs.Shape.{◌>>=◌, or_else}
 use Rattle.av_state.specs.BlockState.{BlockState, air}
 use Rattle.av_state.specs.StateList.{first_states}
 use Rattle.av_section.specs.Section.{number_at}

@@ -4,7 +4,7 @@ use Rattle.std.specs.Prelude.{◌≡◌, ◌≢◌, ◌<◌, ℕ, ◌+◌, ◌*�
 use Rattle.av_types.specs.declared.fault.Fault.{Fault}
 use Rattle.av_types.specs.declared.fault.Fault.TheVariants.{OutOfMemory, BadTable}
 use Rattle.av_types.specs.declared.place.Height.{Height}
-use Rattle.av_nbt.specs.Nbt.{NamedTag}
+use Rattle.av_tags.specs.Nbt.{NamedTag}
 use Rattle.av_section.specs.Section.{number_at}
 use Rattle.av_section.specs.declared.section.Section.{Section}
 use Rattle.av_map.specs.declared.look.Look.{Look}

@@ -1,15 +1,15 @@
 //! The block light of a chunk's document.
 ghost use Rattle.std.specs.Prelude.{◌≡◌, ◌+ℤ◌, pos, [], codes, option_map, IfOk};
 ghost use Rattle.std.specs.Option.{option_copied};
-ghost use Rattle.av_nbt.specs.Shape.{compound_of, or_else};
-ghost use Rattle.av_nbt.specs.View.{document, named_views, view, views};
+ghost use Rattle.av_tags.specs.Shape.{compound_of, or_else};
+ghost use Rattle.av_tags.specs.View.{document, named_views, view, views};
 ghost use Rattle.av_document.specs.Chunk.{is_number, numbered, root_tags, section_number};
 ghost use Rattle.av_chunk.specs.Rest.{opened};
 ghost use Rattle.av_map.specs.Arrays.{arrays_of, bytes_in};
 ghost use Rattle.av_map.specs.Light.{array_at, array_of, bytes_of, sections_in};
 ghost use Rattle.av_map.specs.Sections.{AreLights};
 
-use av_nbt::{Named, Root, Tag, find};
+use av_tags::{Named, Root, Tag, find};
 use av_types::Height;
 use std::alloc::{AllocError, Global};
 

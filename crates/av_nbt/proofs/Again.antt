@@ -8,9 +8,9 @@ use Rattle.std.proofs.Math.Facts.{to_z-of_z, Fits-lt-pow, Fits-of_z}
 use Rattle.std.proofs.lemmas.Bool.{le-ltb}
 use Rattle.std.proofs.lemmas.List.{length-append}
 use mir.Val.{bits}
-use Rattle.av_nbt.specs.declared.tag.TagType.{TagType}
-use Rattle.av_nbt.specs.declared.tag.TagType.TheVariants as tag_type
-use Rattle.av_nbt.specs.TagTypes.{type_number}
+use Rattle.av_tags.specs.declared.tag.TagType.{TagType}
+use Rattle.av_tags.specs.declared.tag.TagType.TheVariants as tag_type
+use Rattle.av_tags.specs.TagTypes.{type_number}
 use Rattle.av_nbt.specs.Spelling.{SpellsNumber, SpellsNumbers, SpellsBits, SpellsText, count_of}
 use Rattle.av_nbt.specs.Reading.{Field, front_at, number_at, signed_at, type_at, text_at, length_at, list_length_at, bytes_at, numbers_at}
 use Rattle.av_nbt.proofs.Bytes.{Codes, codes_16, codes_32}

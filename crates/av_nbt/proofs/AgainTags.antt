@@ -5,11 +5,11 @@ use Rattle.std.specs.Str.{bytes_eq}
 use Rattle.std.specs.Int.{w8, w16, w32, w64}
 use Rattle.std.proofs.lemmas.Slice.Eq.{bytes_eq-Decides}
 use Rattle.std.proofs.lemmas.List.{length-append}
-use Rattle.av_nbt.specs.declared.tag.TagType.{TagType}
-use Rattle.av_nbt.specs.declared.tag.TagType.TheVariants as tag_type
-use Rattle.av_nbt.specs.TagTypes.{type_number, is_end}
-use Rattle.av_nbt.specs.Nbt.{Nbt, byte, int16, int, int64, bits32, bits64, byte_array, text, list, compound, int_array, long_array, Items, no_items, item, Members, no_members, member, NamedTag, tag_type_of, items_of, members_of, item_count, LacksMember, AreOf, HaveDistinctNames, depth, items_depth, members_depth}
-use Rattle.av_nbt.specs.Shape.{items_in, members_in}
+use Rattle.av_tags.specs.declared.tag.TagType.{TagType}
+use Rattle.av_tags.specs.declared.tag.TagType.TheVariants as tag_type
+use Rattle.av_tags.specs.TagTypes.{type_number, is_end}
+use Rattle.av_tags.specs.Nbt.{Nbt, byte, int16, int, int64, bits32, bits64, byte_array, text, list, compound, int_array, long_array, Items, no_items, item, Members, no_members, member, NamedTag, tag_type_of, items_of, members_of, item_count, LacksMember, AreOf, HaveDistinctNames, depth, items_depth, members_depth}
+use Rattle.av_tags.specs.Shape.{items_in, members_in}
 use Rattle.av_nbt.specs.Spelling.{Spells, SpellsItems, SpellsMembers, count_of}
 use Rattle.av_nbt.specs.Reading.{Reader, type_at, text_at, list_length_at, leaf_at, repeat_at, list_at, named_at, until_end, has_name, are_distinct, members_at, compound_at, payload_at}
 use Rattle.av_nbt.proofs.Bytes.{codes_8, codes_16, codes_32, codes_64}

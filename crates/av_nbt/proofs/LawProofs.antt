@@ -3,16 +3,16 @@ use Rattle.std.proofs.Common.{◌≡◌, ℕ, ◌≤◌, List, [], ◌∷◌, �
 use Rattle.std.specs.Prelude.{IfOk, IfErr}
 use Rattle.av_types.specs.declared.fault.Fault.{Fault}
 use Rattle.av_types.specs.declared.fault.Fault.TheVariants.{OutOfMemory, BadNbt}
-use Rattle.av_nbt.specs.declared.tag.Root.{Root}
-use Rattle.av_nbt.specs.View.{document}
+use Rattle.av_tags.specs.declared.tag.Root.{Root}
+use Rattle.av_tags.specs.View.{document}
 use Rattle.av_nbt.proofs.Bytes.{AreBytes}
 use Rattle.av_nbt.proofs.TakenTags.{document_taken}
 use Rattle.std.proofs.lemmas.List.{append_cancel_right}
 use Rattle.std.specs.Int.{w16, to_be_bytes}
-use Rattle.av_nbt.specs.declared.tag.TagType.TheVariants as tag_type
-use Rattle.av_nbt.specs.TagTypes.{type_number}
-use Rattle.av_nbt.specs.Nbt.{Nbt, compound, NamedTag, Document, tag_type_of, members_of, depth, members_depth}
-use Rattle.av_nbt.specs.Shape.{members_in}
+use Rattle.av_tags.specs.declared.tag.TagType.TheVariants as tag_type
+use Rattle.av_tags.specs.TagTypes.{type_number}
+use Rattle.av_tags.specs.Nbt.{Nbt, compound, NamedTag, Document, tag_type_of, members_of, depth, members_depth}
+use Rattle.av_tags.specs.Shape.{members_in}
 use Rattle.av_nbt.specs.Spelling.{SpellsDocument}
 use Rattle.av_nbt.specs.Outcome.{SpellsNone, IsDecodeRefusal}
 use Rattle.av_nbt.specs.Laws.{OneTag, OneDocument}

@@ -1,4 +1,3 @@
-pub mod Trees
 mod Taken
 mod TakenTags
 mod Again
@@ -8,9 +7,5 @@ pub mod Written
 mod Bytes
 mod Loops
 mod Sorting
-pub mod Views
-pub mod Names
-pub mod Slots
-pub mod Each
 mod Fewest
 mod Sizes

@@ -3,10 +3,10 @@ use Rattle.std.proofs.Common.{◌≡◌, flat_map, length, get_or, drop, drop-co
 use Rattle.std.specs.Prelude.{IsErrAnd}
 use Rattle.av_types.specs.declared.fault.Fault.{Fault}
 use Rattle.av_types.specs.declared.fault.Fault.TheVariants.{OutOfMemory, BadNbt}
-use Rattle.av_nbt.specs.declared.tag.TagType.{TagType}
-use Rattle.av_nbt.specs.TagTypes.{is_end}
-use Rattle.av_nbt.specs.Nbt.{NamedTag}
-use Rattle.av_nbt.specs.Shape.{◌>>=◌}
+use Rattle.av_tags.specs.declared.tag.TagType.{TagType}
+use Rattle.av_tags.specs.TagTypes.{is_end}
+use Rattle.av_tags.specs.Nbt.{NamedTag}
+use Rattle.av_tags.specs.Shape.{◌>>=◌}
 use Rattle.av_nbt.specs.Appending.{Writes}
 use Rattle.av_nbt.specs.Reading.{Fails, Gives, Field, Reader, type_at, named_at, repeat_at, until_end, with_front}
 

@@ -15,7 +15,7 @@ use Rattle.std.proofs.lemmas.List.{get_or-map, length-map}
 use Rattle.std.proofs.lemmas.List.Sorted.{IsPermutation-sym, IsPermutation-map}
 use Rattle.std.proofs.lemmas.Map.Keys.{IsDistinct-from_sorted, IsDistinct-head, IsDistinct-tail, IsDistinct-cons, IsDistinct-IsPermutation, apart_from_distinct, sorted_from_all_adjacent}
 use Rattle.std.proofs.lemmas.Map.Text.{is_eq-slice_cmp}
-use Rattle.av_nbt.specs.Nbt.{NamedTag}
+use Rattle.av_tags.specs.Nbt.{NamedTag}
 use Rattle.av_nbt.specs.Order.{Rise}
 use Rattle.av_nbt.specs.Reading.{has_name, are_distinct}
 

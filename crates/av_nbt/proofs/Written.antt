@@ -3,13 +3,13 @@ use Rattle.std.proofs.Common.{◌≡◌, ℕ, ℤ, pos, negsuc, suc, ◌<◌, �
 use Rattle.std.specs.List.{flat_map}
 use Rattle.std.specs.Int.{Width, w32, w64, to_be_bytes}
 use Rattle.std.specs.Int.RustNames.{FitsSigned}
-use Rattle.av_nbt.specs.Nbt.{Nbt, byte, int16, int, int64, bits32, bits64, byte_array, text, list, compound, int_array, long_array, Items, no_items, item, Members, no_members, member, Document, items_of, item_count}
+use Rattle.av_tags.specs.Nbt.{Nbt, byte, int16, int, int64, bits32, bits64, byte_array, text, list, compound, int_array, long_array, Items, no_items, item, Members, no_members, member, Document, items_of, item_count}
 use Rattle.av_nbt.specs.Spelling.{Spells, SpellsItems, SpellsMembers, SpellsNumber, SpellsNumbers, SpellsText, count_of}
 use Rattle.av_nbt.specs.Writing.{written_document, signed_bytes, text_bytes, written, written_items, written_members, IsWellFormed, Fits, FitItems, FitMembers}
 use Rattle.av_nbt.specs.Laws.{WrittenSpells, WrittenReadsBack}
 use Rattle.av_nbt.proofs.LawProofs.{one_document}
-use Rattle.av_nbt.specs.View.{views}
-use Rattle.av_nbt.specs.declared.tag.Tag.{Tag}
+use Rattle.av_tags.specs.View.{views}
+use Rattle.av_tags.specs.declared.tag.Tag.{Tag}
 
 -- as many tags in the tree as in the list
 pub item_count_views : (ts : List Tag) → item_count (items_of (views ts)) ≡ length ts

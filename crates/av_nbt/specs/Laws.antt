@@ -1,6 +1,6 @@
 -- Laws of spelling.
 use Rattle.std.specs.Prelude.{◌≡◌, ℕ, List, ◌++◌}
-use Rattle.av_nbt.specs.Nbt.{Nbt, Document, tag_type_of}
+use Rattle.av_tags.specs.Nbt.{Nbt, Document, tag_type_of}
 use Rattle.av_nbt.specs.Spelling.{Spells, SpellsDocument}
 use Rattle.av_nbt.specs.Writing.{written_document, IsWellFormed}
 

@@ -1,11 +1,6 @@
-pub mod TagTypes
-pub mod Nbt
-pub mod View
 pub mod Spelling
 pub mod Writing
 pub mod Laws
-pub mod Place
-pub mod Shape
 pub mod Outcome
 pub mod Reading
 pub mod Appending

@@ -1,9 +1,9 @@
 -- Working definitions. No public clause cites them.
 -- For how many tags of a List memory is asked before the first is read.
 use Rattle.std.specs.Prelude.{ℕ, ◌/◌, min, nat_lt, if◌then◌else◌}
-use Rattle.av_nbt.specs.declared.tag.TagType.{TagType}
-use Rattle.av_nbt.specs.declared.tag.TagType.TheVariants as tag_type
-use Rattle.av_nbt.specs.TagTypes.{is_end}
+use Rattle.av_tags.specs.declared.tag.TagType.{TagType}
+use Rattle.av_tags.specs.declared.tag.TagType.TheVariants as tag_type
+use Rattle.av_tags.specs.TagTypes.{is_end}
 
 -- the fewest bytes of a tag of a type
 abbrev pub least_size : TagType → ℕ

@@ -1,10 +1,10 @@
 //! Whether a name stands twice among named tags.
 ghost use Rattle.std.specs.Prelude.{◌≡◌, ◌↔◌, IfOk, IsTrue, map};
-ghost use Rattle.av_nbt.specs.View.{named_views};
+ghost use Rattle.av_tags.specs.View.{named_views};
 ghost use Rattle.av_nbt.specs.Order.{Rise};
 ghost use Rattle.av_nbt.specs.Reading.{has_name, are_distinct};
 
-use crate::tag::Named;
+use av_tags::Named;
 use std::alloc::{AllocError, Global};
 
 /// Up to how many names each is compared with each other.

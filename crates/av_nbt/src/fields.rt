@@ -3,7 +3,7 @@ ghost use Rattle.std.specs.Prelude.{◌≡◌, ◌<◌, ◌^◌, IfOk};
 ghost use Rattle.std.specs.Int.{w8, w16, w32, w64};
 ghost use Rattle.av_nbt.specs.Reading.{Gives, front_at, number_at, signed_at, type_at, text_at, length_at, list_length_at, bytes_at, numbers_at, signed_in};
 
-use crate::tag::TagType;
+use av_tags::TagType;
 use av_types::Fault;
 use std::alloc::{AllocError, Global};
 

@@ -1,6 +1,6 @@
 //! Tags read from their bytes.
 ghost use Rattle.std.specs.Prelude.{◌≡◌, IfErr, IfOk, length};
-ghost use Rattle.av_nbt.specs.View.{document, view, views, named_view, named_views};
+ghost use Rattle.av_tags.specs.View.{document, view, views, named_view, named_views};
 ghost use Rattle.av_nbt.specs.Spelling.{SpellsDocument};
 ghost use Rattle.av_nbt.specs.Laws.{OneTag, OneDocument};
 ghost use Rattle.av_nbt.specs.Outcome.{IsDecodeRefusal};
@@ -9,7 +9,7 @@ ghost use Rattle.av_nbt.specs.Reading.{Gives, leaf_at, list_at, named_at, compou
 use crate::distinct::are_distinct;
 use crate::fields;
 use crate::room::with_room;
-use crate::tag::{Named, Root, Tag, TagType};
+use av_tags::{Named, Root, Tag, TagType};
 use av_types::Fault;
 use std::alloc::Global;
 

@@ -1,11 +1,11 @@
 //! Room for the tags of a List before the first is read: what the List says asks for nothing that the bytes left can't fill.
 ghost use Rattle.std.specs.Prelude.{◌≡◌, ◌≤◌, ◌*◌, ◌/◌, ◌^◌, ℕ, List, [], length, IfOk, IsOk};
 ghost use Rattle.std.specs.Vec.{vec_capacity};
-ghost use Rattle.av_nbt.specs.Nbt.{Nbt, tag_type_of};
+ghost use Rattle.av_tags.specs.Nbt.{Nbt, tag_type_of};
 ghost use Rattle.av_nbt.specs.Spelling.{Spells};
 ghost use Rattle.av_nbt.specs.Room.{least_size, room_for};
 
-use crate::tag::{Tag, TagType};
+use av_tags::{Tag, TagType};
 use std::alloc::{AllocError, Global};
 
 /// For how many tags at most.

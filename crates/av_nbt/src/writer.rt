@@ -3,15 +3,15 @@ ghost use Rattle.std.specs.Prelude.{◌≡◌, ◌<◌, ◌^◌, ◌∷◌, ◌+
 ghost use Rattle.std.specs.List.{flat_map};
 ghost use Rattle.std.specs.Int.{w32, w64, to_be_bytes};
 ghost use Rattle.av_types.specs.declared.fault.Fault.TheVariants.{OutOfMemory};
-ghost use Rattle.av_nbt.specs.Nbt.{list, items_of, members_of, tag_type_of};
-ghost use Rattle.av_nbt.specs.TagTypes.{type_number};
-ghost use Rattle.av_nbt.specs.View.{document, view, views, named_view, named_views};
+ghost use Rattle.av_tags.specs.Nbt.{list, items_of, members_of, tag_type_of};
+ghost use Rattle.av_tags.specs.TagTypes.{type_number};
+ghost use Rattle.av_tags.specs.View.{document, view, views, named_view, named_views};
 ghost use Rattle.av_nbt.specs.Laws.{WrittenSpells, WrittenReadsBack};
 ghost use Rattle.av_nbt.specs.Appending.{Writes};
 ghost use Rattle.av_nbt.specs.Writing.{signed_bytes, text_bytes, written, written_items, written_members, written_named, written_document, IsWellFormed, Fits, FitItems, FitMembers};
 
 use crate::size::root_size;
-use crate::tag::{Named, Root, Tag, TagType};
+use av_tags::{Named, Root, Tag, TagType};
 use av_types::Fault;
 use std::alloc::{AllocError, Global};
 

@@ -1,9 +1,7 @@
 //! Documents by hand.
 use crate::expecting::expect_equal;
-use av_nbt::{
-    Named, Tag, TagType, copy_tags, decode, encode, exchange, find, put, remove,
-    spelling_is_unique, written_is_spelling,
-};
+use av_nbt::{decode, encode, spelling_is_unique, written_is_spelling};
+use av_tags::{Named, Tag, TagType, copy_tags, exchange, find, put, remove};
 use av_types::Fault;
 use std::alloc::{AllocError, Global};
 use std::process::Abort;

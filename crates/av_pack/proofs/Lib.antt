@@ -9,3 +9,4 @@ pub mod Laws
 pub mod FirstUses
 pub mod InLongs
 pub mod Halves
+pub mod PlaceBits

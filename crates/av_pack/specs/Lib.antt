@@ -3,3 +3,4 @@ pub mod Nibbles
 pub mod Fields
 pub mod Order
 pub mod Seen
+pub mod Places

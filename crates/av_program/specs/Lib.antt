@@ -1,7 +1,3 @@
-pub mod CheckCommand
 pub mod RunCommand
-pub mod MapCommand
-pub mod StatesCommand
 pub mod Running
-pub mod Skipping
 pub mod DryRun

@@ -6,33 +6,21 @@ use Rattle.clap.specs.Words.{Text, kind_of}
 use Rattle.clap.specs.declared.error.Error.{Error}
 use Rattle.clap.specs.declared.error.kind.ErrorKind.{ErrorKind}
 use Rattle.clap.specs.declared.error.kind.ErrorKind.TheVariants as kind
-use Rattle.av_types.specs.declared.place.Pos.{Pos}
-use Rattle.av_types.specs.declared.place.Height.{Height}
-use Rattle.av_types.specs.declared.fault.Fault.{Fault}
-use Rattle.av_sink.specs.Account.{Account, IsDevice, in_folder, with_repair}
+use Rattle.av_sink.specs.Account.{Account, in_folder, with_repair}
 use Rattle.av_sink.specs.declared.sink.Repair.{Repair}
 use Rattle.av_words.specs.declared.command_line.commands.RunWords.{RunWords}
 use Rattle.av_words.specs.declared.command_line.commands.Words.{Words}
 use Rattle.av_words.specs.declared.command_line.commands.Words.TheVariants.{Block, Check, Map, Run, States}
-use Rattle.av_commands.specs.BlockCommand.{HasAnswered}
+use Rattle.av_queries.specs.BlockCommand.{HasRunBlock}
 use Rattle.av_words.specs.CommandLine.{IsReadFrom, IsWordsRefusal, asks_twice}
-use Rattle.av_program.specs.CheckCommand.{HasChecked}
-use Rattle.av_program.specs.MapCommand.{HasMapped}
-use Rattle.av_program.specs.declared.running.Request.{Request}
+use Rattle.av_queries.specs.CheckCommand.{HasChecked}
+use Rattle.av_queries.specs.MapCommand.{HasMapped}
+use Rattle.av_requests.specs.declared.requests.Request.{Request}
 use Rattle.av_program.specs.DryRun.{HasRunDry}
-use Rattle.av_program.specs.RunCommand.{HasRunRegions, IsRequestOf}
-use Rattle.av_program.specs.Skipping.{IsSkipped}
-use Rattle.av_program.specs.StatesCommand.{HasListed}
-use Rattle.av_commands.specs.Tables.{IsHeightBy, IsUnreadTable}
-
--- why the table and the file of `block` were not read
-abbrev pub IsUnread : List ℕ → Option (List ℕ) → Fault → Type 0
-IsUnread file table e = IsUnreadTable table e ⊎ IsDevice file e
-
--- what a run of `block` leaves on its output, and its status: the answer for the bytes that it read, or nothing and 1
-pub data HasRun (file : List ℕ) (at : Pos) (table : Option (List ℕ)) (before after : Option (List ℕ)) (status : ℕ) : Type 0 where
-  answered : (bytes : List ℕ) (h : Height) → IsHeightBy table h → HasAnswered file bytes at h before after status → HasRun file at table before after status
-  unread : after ≡ before → status ≡ 1 → HasRun file at table before after status
+use Rattle.av_program.specs.RunCommand.{HasRunRegions}
+use Rattle.av_requests.specs.Requests.{IsRequestOf}
+use Rattle.av_requests.specs.Skipping.{IsSkipped}
+use Rattle.av_queries.specs.StatesCommand.{HasListed}
 
 -- whether a run goes on, by what was found in its folder: not where one that was cut off is finished first, unless it is to be run again
 abbrev pub goes_on : Bool → Repair → Bool
@@ -62,7 +50,7 @@ pub data HasRunBy (run : RunWords) (old new : Account) (before after : Option (L
 -- the same of a command: `run` hands its files to the folder that its words name, `map` its picture to that of its path, and no other
 -- command hands any to a sink
 abbrev pub HasRunCommand : Words → Account → Account → Option (List ℕ) → Option (List ℕ) → ℕ → Type 0
-HasRunCommand (Block file at table explain) old new before after status = (new ≡ old) × HasRun file.now at (option_map (λ t. t.now) table) before after status
+HasRunCommand (Block file at table explain) old new before after status = (new ≡ old) × HasRunBlock file.now at (option_map (λ t. t.now) table) before after status
 HasRunCommand (Check input table progress explain) old new before after status = (new ≡ old) × HasChecked (option_map (λ t. t.now) table) before after status
 HasRunCommand (Run run) old new before after status = HasRunBy run old new before after status
 HasRunCommand (Map input picture table colours light explain) old new before after status =

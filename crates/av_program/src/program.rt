@@ -1,33 +1,25 @@
 //! The program's way from its words to its status.
-ghost use Rattle.std.specs.Prelude.{◌≡◌, ◌≢◌, ◌≤◌, ◌⊎◌, IfErr, IfOk, map, option_map};
+ghost use Rattle.std.specs.Prelude.{◌≡◌, ◌≤◌, ◌⊎◌, map};
 ghost use Rattle.clap.specs.Words.{kind_of};
 ghost use Rattle.std.specs.List.{All};
-ghost use Rattle.av_program.specs.Skipping.{IsSkipped};
+ghost use Rattle.av_requests.specs.Skipping.{IsSkipped};
 ghost use Rattle.av_program.specs.RunCommand.{HasRunRegions};
-ghost use Rattle.av_program.specs.Running.{HasRun, HasRunBy, HasRunCommand, HasRunInFolder, HasRunOpened, HasRunProgram, HasRunWords, IsRefusalStatus, IsUnread, goes_on};
+ghost use Rattle.av_program.specs.Running.{HasRunBy, HasRunCommand, HasRunInFolder, HasRunOpened, HasRunProgram, HasRunWords, IsRefusalStatus, goes_on};
 ghost use Rattle.av_sink.specs.Account.{IsFresh};
-ghost use Rattle.av_folders.specs.Folders.{IsFolderFault};
-ghost use Rattle.av_commands.specs.Tables.{IsHeightBy};
 
-use crate::causes::failure_of_folder;
-use crate::checking::run_check;
-use crate::drawing::{Order, run_map};
 use crate::dry_run::run_dry;
-use crate::listing::run_states;
-use crate::running::{Request, report, request_of, run_over};
-use crate::skipping::{judge_skips, report_skip};
-use av_commands::block::{block_text, note_other_file};
-use av_commands::device::read_file;
-use av_commands::failure::Failure;
+use crate::running::run_over;
 use av_commands::manner::Manner;
-use av_commands::names::split_path;
 use av_commands::output::{FAULT, REFUSED, report_fault, report_output};
 use av_commands::reasons::report_failure;
-use av_commands::tables::read_height;
+use av_folders::failing::failure_of_folder;
 use av_folders::progress::end_steps;
-use av_folders::{LockFiles, RepairTeller, hold_output, note_removed, tidy};
+use av_folders::{LockFiles, RepairTeller, hold_output, note_removed};
+use av_outcomes::report;
+use av_queries::{Order, run_block, run_check, run_map, run_states};
+use av_requests::{Request, judge_skips, report_skip, request_of};
 use av_sink::{OutputFolder, Repair};
-use av_types::{Fault, Height, Pos};
+use av_types::Fault;
 use av_words::{RunWords, Words, words};
 use clap::Error;
 use clap::error::ErrorKind;
@@ -63,86 +55,6 @@ fn explain_words<O: Write, E: Write>(out: &mut O, err: &mut E, error: &Error) ->
         write!(out, "{error}")
     };
     REFUSED
-}
-
-/// Repairs the folder of a file where a run was cut off there.
-fn tidy_around<R: LockFiles + Eprint + AllocGlobal + Clone + Drop, E: Write>(
-    rt: &R,
-    file: &str,
-    err: &mut E,
-) -> Result<(), Failure>
-    ensures { IfErr result (λ e. IsFolderFault file.now e.fault) }
-{
-    let (folder, _) = split_path(rt.alloc(), file)?;
-    let folder = if folder.is_empty() {
-        "."
-    } else {
-        folder.as_str()
-    };
-    tidy(rt, folder, file, err)
-}
-
-/// What `block` reads: the world's height, by the block table, and then the file.
-fn read_inputs<R: LockFiles + Input + Eprint + AllocGlobal + Clone + Drop, E: Write>(
-    rt: &R,
-    file: &str,
-    table: Option<&str>,
-    err: &mut E,
-) -> Result<(Height, Vec<u8>), Failure>
-    ensures height { IfOk result (λ read. IsHeightBy (option_map (λ t. t.now) table.entry) read.0) }
-    ensures unread { IfErr result (λ e. IsUnread file.now (option_map (λ t. t.now) table.entry) e.fault) }
-{
-    let height = read_height(rt, table)?;
-    tidy_around(rt, file, err)?;
-    Ok((height, read_file(rt, file)?))
-}
-
-/// Reads a region file, and answers what block it has at a position.
-fn answer_block<R: LockFiles + Input + Eprint + AllocGlobal + Clone + Drop, O: Write, E: Write>(
-    rt: &R,
-    file: &str,
-    pos: Pos,
-    table: Option<&str>,
-    manner: Manner,
-    out: &mut O,
-    err: &mut E,
-) -> u8
-    ensures status { result ≤ REFUSED }
-    ensures ran { HasRun file.now pos (option_map (λ t. t.now) table.entry) (O.contents out.old) (O.contents out.new) result }
-{
-    match read_inputs(rt, file, table, err) {
-        Ok((height, bytes)) => block_text(
-            rt.alloc(),
-            file,
-            bytes.as_slice(),
-            pos,
-            height,
-            manner.explains,
-            out,
-            err,
-        ),
-        Err(failure) => report_failure(rt.alloc(), err, &failure, manner.explains),
-    }
-}
-
-/// Runs `block`.
-fn run_block<R: LockFiles + Input + Eprint + AllocGlobal + Clone + Drop, O: Write, E: Write>(
-    rt: &R,
-    file: &str,
-    pos: Pos,
-    table: Option<&str>,
-    manner: Manner,
-    out: &mut O,
-    err: &mut E,
-) -> u8
-    ensures status { result ≤ REFUSED }
-    ensures ran { HasRun file.now pos (option_map (λ t. t.now) table.entry) (O.contents out.old) (O.contents out.new) result }
-{
-    let status = answer_block(rt, file, pos, table, manner, out, err);
-    if manner.explains && status == 0 {
-        note_other_file(rt.alloc(), file, pos, err);
-    }
-    status
 }
 
 /// Runs `run`, and hands its files to a folder that has taken none yet and has not failed.
@@ -389,10 +301,10 @@ fn as_texts(alloc: Global, words: &[String]) -> Result<Vec<&str>, AllocError> {
 }
 
 /// Reads the words that the program was called with and does what they say. Where standard error is a terminal, long work
-/// says there how far it is. The region files of `run` go to the folder that its words name, and the picture of `map` to that of
-/// its path, which the sink opens; it has opened none. Each other command leaves it as it is. The answer is the program's
-/// status: 0, also where the version is asked for; 1 after a fault, where `check` found something, and where `states` left chunks
-/// out; 2 after words that are refused or call for help.
+/// says there how far it is. The region files of `run` go to the folder that its words name, and
+/// the picture of `map` to that of its path, which the sink opens; it has opened none. Each other command leaves it as it is. The
+/// answer is the program's status: 0, also where the version is asked for; 1 after a fault, where `check` found something, and
+/// where `states` left chunks out; 2 after words that are refused or call for help.
 pub fn run<
     R: Env + LockFiles + Input + Eprint + AllocGlobal + Clone + Drop + Threads + Wait + Sync,
     S: OutputFolder,

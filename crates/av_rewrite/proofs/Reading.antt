@@ -3,7 +3,7 @@ use Rattle.std.proofs.Common.{◌≡◌, ◌++◌, ◌∷◌, ◌+◌, [], List,
 use Rattle.av_types.specs.declared.place.Height.{Height}
 use Rattle.av_state.specs.BlockState.{BlockState}
 use Rattle.av_section.specs.Reading.{OnlyGrows}
-use Rattle.av_chunk.proofs.Slots.{OnlyGrows-trans}
+use Rattle.av_section.proofs.Numbers.{OnlyGrows-trans}
 use Rattle.av_rewrite.specs.declared.rewriting.Slot.{Slot}
 use Rattle.av_rewrite.specs.declared.rewriting.Slot.TheVariants.{Absent, Kept, Full}
 use Rattle.av_rewrite.specs.Rewriting.{AreSlots, IsSlotRead}

@@ -1,7 +1,7 @@
 -- A region that is made of another one, chunk by chunk.
 use Rattle.std.specs.Prelude.{◌≡◌, ℕ, ◌<◌, List, Option, Some, None, length}
 use Rattle.std.specs.List.{slice_get}
-use Rattle.av_nbt.specs.Nbt.{Document}
+use Rattle.av_tags.specs.Nbt.{Document}
 use Rattle.av_nbt.specs.Spelling.{SpellsDocument}
 use Rattle.av_nbt.specs.Writing.{written_document}
 use Rattle.av_region.specs.Region.{Holds, IsAbsent, stamp_of}

@@ -28,12 +28,12 @@ use Rattle.av_image.specs.declared.rest.Rest.{Rest}
 use Rattle.av_image.specs.Views.{rest_in, file_in}
 use Rattle.av_image.specs.Saving.{IsRestOf}
 use Rattle.av_headline.proofs.Alike.{one_refusal, answer_or_refusal}
-use Rattle.av_run.specs.Answer.{IsRunAnswer}
+use Rattle.av_answers.specs.Answer.{IsRunAnswer}
 use Rattle.av_run.specs.Written.{AreFilesOf, IsNotWritten}
 use Rattle.av_run.specs.Input.{IsInput, CanRun, AreKindsBy}
 use Rattle.av_run.specs.Finished.{reached_from, IsFinished}
 use Rattle.av_run.specs.declared.input.Input.{Input}
-use Rattle.av_run.specs.declared.runs.Outcome.{Outcome}
+use Rattle.av_answers.specs.declared.answers.Outcome.{Outcome}
 use Rattle.av_run.proofs.Inputs.{kinds_are}
 
 -- ---- the ticks keep what writing asks

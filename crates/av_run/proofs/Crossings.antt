@@ -1,9 +1,9 @@
 -- What a region keeps at an index may be given back by another thread.
 use Rattle.std.proofs.Crossing.{crosses}
 use denote.Param.Send.{IsSend, sendable}
-use Rattle.av_nbt.proofs.tag.Tag.TheLaws.TheKnot as tags
-use Rattle.av_nbt.specs.contracts.tag.Named as Named
-use Rattle.av_nbt.specs.contracts.tag.Tag as Tag
+use Rattle.av_tags.proofs.tag.Tag.TheLaws.TheKnot as tags
+use Rattle.av_tags.specs.contracts.tag.Named as Named
+use Rattle.av_tags.specs.contracts.tag.Tag as Tag
 use Rattle.av_chunk.specs.contracts.rest.ChunkRest as ChunkRest
 use Rattle.av_image.specs.contracts.rest.Slot as Slot
 

@@ -10,7 +10,8 @@ use Rattle.av_files.specs.Files.{File}
 use Rattle.av_files.specs.FirstFault.{AreCountsGood}
 use Rattle.av_files.specs.Run.{stated}
 use Rattle.av_image.specs.Views.{rest_in}
-use Rattle.av_run.specs.Checked.{IsCountedInput, IsUncovered}
+use Rattle.av_answers.specs.Checked.{IsUncovered}
+use Rattle.av_run.specs.Counted.{IsCountedInput}
 use Rattle.av_run.specs.declared.checked.CountedInput.{CountedInput}
 
 -- what a list has at a place

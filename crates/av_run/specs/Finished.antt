@@ -15,7 +15,7 @@ use Rattle.av_image.specs.Views.{rest_in, file_in}
 use Rattle.av_run.specs.Written.{AreFilesOf}
 use Rattle.av_run.specs.Input.{AreKindsBy}
 use Rattle.av_run.specs.declared.input.Input.{Input}
-use Rattle.av_run.specs.declared.runs.Outcome.{Outcome}
+use Rattle.av_answers.specs.declared.answers.Outcome.{Outcome}
 
 -- the world after the ticks
 abbrev pub reached_from : ℕ → Input → Land BlockState

@@ -4,13 +4,15 @@ ghost use Rattle.av_types.specs.declared.fault.Fault.TheVariants.{OutOfMemory};
 ghost use Rattle.av_state.specs.Table.{states};
 ghost use Rattle.av_rules.specs.Tables.{table_of};
 ghost use Rattle.av_image.specs.Views.{file_in};
-ghost use Rattle.av_run.specs.Answer.{IsRunAnswer};
-ghost use Rattle.av_run.specs.Input.{IsInputFault};
-ghost use Rattle.av_run.specs.Checked.{IsCheckedAnswer, IsCountedInput, without_row};
+ghost use Rattle.av_answers.specs.Answer.{IsRunAnswer};
+ghost use Rattle.av_run.specs.Input.{IsInputAnswer, IsInputFault};
+ghost use Rattle.av_answers.specs.Checked.{IsCheckedAnswer, without_row};
+ghost use Rattle.av_run.specs.Counted.{IsCountedInput};
 
-use crate::counts::are_counts_good;
-use crate::input::{Input, load_new_on, read_rules, with_edits};
-use crate::runs::{Outcome, finish};
+use crate::counts::{are_counts_good, are_few};
+use crate::input::{Input, load_new, read_rules, with_edits};
+use crate::runs::finish;
+use av_answers::{Outcome, Ran};
 use av_crew::Gate;
 use av_region_files::RegionFile;
 use av_rules::Rules;
@@ -19,15 +21,6 @@ use av_types::Fault;
 use std::alloc::Global;
 use std::sync::Wait;
 use std::thread::Threads;
-
-/// What a run comes to that may ask for a row for each state.
-#[derive(Drop)]
-pub enum Ran {
-    /// It is done. So many states of the loaded chunks' palettes have no row in the table.
-    Done { outcome: Outcome, without_row: u32 },
-    /// So many states have no row, and nothing was run.
-    Uncovered(u32),
-}
 
 /// What a run begins with, and how many states of its files have no row.
 #[derive(Drop)]
@@ -60,10 +53,32 @@ fn read_counted(
     ensures err { IfErr result (λ e. e ≢ OutOfMemory → IsInputFault (map file_in files.items) table.now edits.now ticks e) }
 {
     let rules = read_rules(alloc, table)?;
-    let loaded = load_new_on(rt, alloc, files, &rules)?;
+    let loaded = load_new(rt, alloc, files, &rules)?;
     let without_row = count_without_row(&rules, &loaded.table);
     let input = with_edits(alloc, loaded, &rules, edits, ticks)?;
     Ok(CountedInput { input, without_row })
+}
+
+/// What a run begins with, from its files, its block table and its edits, in this order.
+///
+/// # Errors
+/// `BadCount` where there are more than 1,000,000 ticks or 1,024 files, and then no other. Else the first of the faults of
+/// the table, the files and the edits, as `run` has them; `OutOfMemory` may stand in place of any.
+pub fn read_input(
+    rt: &(impl Threads + Sync),
+    alloc: Global,
+    files: Vec<RegionFile>,
+    table: &[u8],
+    edits: &[u8],
+    ticks: u32,
+) -> Result<Input, Fault>
+    ensures { IsInputAnswer (map file_in files.items) table.now edits.now ticks result }
+{
+    if !are_few(files.as_slice(), ticks) {
+        return Err(Fault::BadCount);
+    }
+    let counted = read_counted(rt, alloc, files, table, edits, ticks)?;
+    Ok(counted.input)
 }
 
 /// Whether some states have no row where each is to have one.

@@ -11,11 +11,10 @@ ghost use Rattle.av_files.specs.Files.{File};
 ghost use Rattle.av_files.specs.FirstFault.{IsTable, IsBadTable, IsFilesFault};
 ghost use Rattle.av_files.specs.Layers.{AreEdits};
 ghost use Rattle.av_image.specs.Views.{file_in};
-ghost use Rattle.av_run.specs.Input.{IsLoadedFrom, IsInput, IsInputFault, IsInputAnswer};
+ghost use Rattle.av_run.specs.Input.{IsLoadedFrom, IsInput, IsInputFault};
 
-use crate::counts::are_few;
 use av_edits::Edit;
-use av_image::{Rest, load, load_on};
+use av_image::{Rest, load};
 use av_region_files::RegionFile;
 use av_rules::{Kinds, Rules};
 use av_state::StateTable;
@@ -51,18 +50,8 @@ pub(crate) fn read_rules(alloc: Global, text: &[u8]) -> Result<Rules, Fault>
     Rules::read(alloc, text)
 }
 
-/// What files say, by a new table of states.
-fn load_new(alloc: Global, files: Vec<RegionFile>, rules: &Rules) -> Result<Loaded, Fault>
-    ensures ok { IfOk result (IsLoadedFrom rules.now.height (map file_in files.items)) }
-    ensures err { IfErr result (λ e. e ≢ OutOfMemory → IsFilesFault rules.now.height (map file_in files.items) e) }
-{
-    let mut table = StateTable::new(alloc)?;
-    let (world, rest) = load(alloc, files, rules, &mut table)?;
-    Ok(Loaded { table, world, rest })
-}
-
-/// The same, read by several threads.
-pub(crate) fn load_new_on(
+/// What files say, read by several threads, by a new table of states.
+pub(crate) fn load_new(
     rt: &(impl Threads + Sync),
     alloc: Global,
     files: Vec<RegionFile>,
@@ -72,7 +61,7 @@ pub(crate) fn load_new_on(
     ensures err { IfErr result (λ e. e ≢ OutOfMemory → IsFilesFault rules.now.height (map file_in files.items) e) }
 {
     let mut table = StateTable::new(alloc)?;
-    let (world, rest) = load_on(rt, alloc, files, rules, &mut table)?;
+    let (world, rest) = load(rt, alloc, files, rules, &mut table)?;
     Ok(Loaded { table, world, rest })
 }
 
@@ -115,40 +104,4 @@ pub(crate) fn with_edits(
         kinds,
         edits,
     })
-}
-
-/// What a run of few ticks and files begins with.
-fn read_few(
-    alloc: Global,
-    files: Vec<RegionFile>,
-    table: &[u8],
-    edits: &[u8],
-    ticks: u32,
-) -> Result<Input, Fault>
-    ensures ok { IfOk result (IsInput (map file_in files.items) table.now edits.now ticks) }
-    ensures err { IfErr result (λ e. e ≢ OutOfMemory → IsInputFault (map file_in files.items) table.now edits.now ticks e) }
-{
-    let rules = read_rules(alloc, table)?;
-    let loaded = load_new(alloc, files, &rules)?;
-    with_edits(alloc, loaded, &rules, edits, ticks)
-}
-
-/// What a run begins with, from its files, its block table and its edits, in this order.
-///
-/// # Errors
-/// `BadCount` where there are more than 1,000,000 ticks or 1,024 files, and then no other. Else the first of the faults of
-/// the table, the files and the edits, as `run` has them; `OutOfMemory` may stand in place of any.
-pub fn read_input(
-    alloc: Global,
-    files: Vec<RegionFile>,
-    table: &[u8],
-    edits: &[u8],
-    ticks: u32,
-) -> Result<Input, Fault>
-    ensures { IsInputAnswer (map file_in files.items) table.now edits.now ticks result }
-{
-    if !are_few(files.as_slice(), ticks) {
-        return Err(Fault::BadCount);
-    }
-    read_few(alloc, files, table, edits, ticks)
 }

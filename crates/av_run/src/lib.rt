@@ -8,7 +8,7 @@ mod release;
 mod runs;
 mod writing;
 
+pub use av_answers::{Outcome, Ran};
 pub use av_region_files::RegionFile;
-pub use checked::{Ran, run, run_checked};
-pub use input::{Input, read_input};
-pub use runs::Outcome;
+pub use checked::{read_input, run, run_checked};
+pub use input::Input;

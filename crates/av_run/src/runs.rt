@@ -11,23 +11,12 @@ ghost use Rattle.av_run.specs.Finished.{reached_from, IsFinished};
 use crate::input::Input;
 use crate::release::release;
 use crate::writing::written;
+use av_answers::Outcome;
 use av_crew::{Gate, Step, run_ticks};
-use av_region_files::RegionFile;
 use av_types::Fault;
 use std::alloc::Global;
 use std::sync::Wait;
 use std::thread::Threads;
-
-/// What a run answers.
-#[derive(Drop)]
-pub struct Outcome {
-    /// The files that are written, by z and then by x of their regions.
-    pub files: Vec<RegionFile>,
-    /// How many entries were taken in all ticks.
-    pub turns: u128,
-    /// How many chunks are loaded.
-    pub chunks: u64,
-}
 
 /// The ticks of a run, the light after them, and the files. The gate is told of these steps.
 pub(crate) fn finish<R: Threads + Wait + Sync, G: Gate + Sync>(

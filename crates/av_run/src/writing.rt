@@ -12,7 +12,7 @@ ghost use Rattle.av_run.specs.Written.{AreFilesOf, IsNotWritten};
 ghost use Rattle.av_run.specs.Input.{AreKindsBy};
 
 use av_crew::{Gate, Step};
-use av_image::{Rest, save_on};
+use av_image::{Rest, save};
 use av_light::light_all;
 use av_region_files::RegionFile;
 use av_rules::Kinds;
@@ -46,5 +46,5 @@ pub fn written<G: Gate>(
     gate.reached(Step::Files {
         files: rest.regions.len() as u64,
     });
-    save_on(rt, alloc, world, rest, kinds, lights.as_slice(), ticks)
+    save(rt, alloc, world, rest, kinds, lights.as_slice(), ticks)
 }

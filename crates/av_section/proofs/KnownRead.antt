@@ -5,9 +5,9 @@ use Rattle.std.proofs.lemmas.List.{get_or-replicate}
 use Rattle.av_types.specs.declared.fault.Fault.{Fault}
 use Rattle.av_types.specs.declared.fault.Fault.TheVariants.{OutOfMemory, BadPalette, BadPacked, BadWaterLevel, TooManyStates}
 use Rattle.av_types.specs.Faults.{least}
-use Rattle.av_nbt.specs.Nbt.{Nbt}
-use Rattle.av_nbt.specs.Shape.{each, lacks}
-use Rattle.av_nbt.proofs.Each.{length-each}
+use Rattle.av_tags.specs.Nbt.{Nbt}
+use Rattle.av_tags.specs.Shape.{each, lacks}
+use Rattle.av_tags.proofs.Each.{length-each}
 use Rattle.av_pack.specs.Packing.{bits_for, longs_for, unpacked}
 use Rattle.av_state.specs.BlockState.{BlockState, meant}
 use Rattle.av_state.specs.StateList.{most_states}

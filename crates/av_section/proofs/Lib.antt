@@ -6,13 +6,10 @@ pub mod Numbers
 pub mod Once
 pub mod FirstPlaces
 pub mod PackedLemmas
-pub mod PlaceBits
 pub mod Ready
 pub mod Refusals
 pub mod Written
 pub mod WrittenStates
-pub mod InOrder
-pub mod StoredEntries
 pub mod WrittenOne
 pub mod FirstUse
 pub mod Rising

@@ -6,8 +6,8 @@ use Rattle.std.proofs.lemmas.List.{get_or_append_left, append_assoc, append-nil}
 use Rattle.std.proofs.Math.Seq.{get_or-append_seam}
 use Rattle.av_types.specs.declared.fault.Fault.{Fault}
 use Rattle.av_types.specs.declared.fault.Fault.TheVariants.{OutOfMemory, BadWaterLevel, TooManyStates}
-use Rattle.av_nbt.proofs.Each.{each_more, each_none, each_parts}
-use Rattle.av_nbt.specs.Shape.{each}
+use Rattle.av_tags.proofs.Each.{each_more, each_none, each_parts}
+use Rattle.av_tags.specs.Shape.{each}
 use Rattle.av_state.specs.BlockState.{BlockState, air, meant}
 use Rattle.av_state.specs.StateList.{with_state, with_states, same_state, Numbers, IsOneTooMany}
 use Rattle.av_state.proofs.Numbering.{with_state-keeps, number_in-none}
@@ -71,7 +71,7 @@ with_state-grows old s = elim (list_any (same_state s) old) as (λ b. OnlyGrows 
   | false ↦ record { more = s ∷ []; grown = refl }
 ]
 
-OnlyGrows-trans : (a b c : List BlockState) → OnlyGrows a b → OnlyGrows b c → OnlyGrows a c
+pub OnlyGrows-trans : (a b c : List BlockState) → OnlyGrows a b → OnlyGrows b c → OnlyGrows a c
 OnlyGrows-trans a b c g h = record { more = g.more ++ h.more; grown = h.grown ∙ ap (λ l. l ++ h.more) g.grown ∙ append_assoc a g.more h.more }
 
 pub with_states-grows : (old more : List BlockState) → OnlyGrows old (with_states old more)

@@ -13,7 +13,7 @@ use Rattle.av_section.specs.declared.section.Section.{Section}
 use Rattle.av_section.specs.Section.{number_at, section_states, HasNumbersBelow}
 use Rattle.av_section.specs.BlockStates.{palette_states, palette_tag, index_of, indices_tag, data_tag}
 use Rattle.av_section.specs.Palette.{states_tag}
-use Rattle.av_nbt.specs.Shape.{or_else}
+use Rattle.av_tags.specs.Shape.{or_else}
 use Rattle.av_pack.proofs.Laws.{length-unpacked, get_or-unpacked}
 use Rattle.av_section.specs.WrittenPalette.{IsWritten, numbers_of}
 use Rattle.av_section.proofs.Distinct.{Distinct-push}

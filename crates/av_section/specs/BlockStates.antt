@@ -1,8 +1,8 @@
 -- The block states of a section: a palette, and the index of each place into it, packed into longs (minecraft.wiki, "Chunk format").
 use Rattle.std.specs.Prelude.{ℕ, ℤ, ◌==◌, nat_lt, length, List, [], ◌∷◌, ◌++◌, Option, Some, None, Bool, true, false, ◌&&◌, if◌then◌else◌, map, replicate, slice_index, slice_index_or}
 use Rattle.std.specs.List.{list_all}
-use Rattle.av_nbt.specs.Nbt.{Nbt, long_array}
-use Rattle.av_nbt.specs.Shape.{◌>>=◌, longs_of, each, lacks, or_else}
+use Rattle.av_tags.specs.Nbt.{Nbt, long_array}
+use Rattle.av_tags.specs.Shape.{◌>>=◌, longs_of, each, lacks, or_else}
 use Rattle.av_state.specs.BlockState.{BlockState, air, meant}
 use Rattle.av_state.specs.StateList.{number_in, with_states}
 use Rattle.av_pack.specs.Packing.{bits_for, longs_for, unpacked, packed}

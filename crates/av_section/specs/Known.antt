@@ -3,8 +3,8 @@
 use Rattle.std.specs.Prelude.{◌≡◌, ℕ, ℤ, ◌<◌, List, Option, Some, None, IsSome, false, length, slice_index}
 use Rattle.av_types.specs.declared.fault.Fault.{Fault}
 use Rattle.av_types.specs.declared.fault.Fault.TheVariants.{OutOfMemory, BadPalette, BadPacked, BadWaterLevel, TooManyStates}
-use Rattle.av_nbt.specs.Shape.{each}
-use Rattle.av_nbt.specs.Nbt.{Nbt}
+use Rattle.av_tags.specs.Shape.{each}
+use Rattle.av_tags.specs.Nbt.{Nbt}
 use Rattle.av_state.specs.BlockState.{BlockState, meant}
 use Rattle.av_state.specs.StateList.{number_in}
 use Rattle.av_section.specs.BlockStates.{data_of, indices_in, indices_of}

@@ -1,6 +1,5 @@
 pub mod Palette
 pub mod BlockStates
-pub mod Places
 pub mod Packed
 pub mod Judged
 pub mod Numbered
@@ -9,5 +8,4 @@ pub mod Distinct
 pub mod Section
 pub mod Indexed
 pub mod Reading
-pub mod Law
 pub mod Known

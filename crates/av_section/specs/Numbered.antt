@@ -3,7 +3,7 @@
 use Rattle.std.specs.Prelude.{◌≡◌, ℕ, ◌<◌, List, length, Some, None, slice_get, slice_index, slice_index_or}
 use Rattle.av_types.specs.declared.fault.Fault.{Fault}
 use Rattle.av_types.specs.declared.fault.Fault.TheVariants.{OutOfMemory, BadWaterLevel, TooManyStates}
-use Rattle.av_nbt.specs.Shape.{each}
+use Rattle.av_tags.specs.Shape.{each}
 use Rattle.av_state.specs.BlockState.{BlockState, air, meant}
 use Rattle.av_state.specs.StateList.{with_states, most_states}
 

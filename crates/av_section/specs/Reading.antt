@@ -3,7 +3,7 @@ use Rattle.std.specs.Prelude.{◌≡◌, ℕ, ◌<◌, ◌≤◌, List, [], ◌+
 use Rattle.av_types.specs.declared.fault.Fault.{Fault}
 use Rattle.av_types.specs.declared.fault.Fault.TheVariants.{OutOfMemory, TooManyStates}
 use Rattle.av_types.specs.Faults.{fault_number, least}
-use Rattle.av_nbt.specs.Nbt.{Nbt}
+use Rattle.av_tags.specs.Nbt.{Nbt}
 use Rattle.av_state.specs.BlockState.{BlockState}
 use Rattle.av_state.specs.StateList.{with_states, most_states}
 use Rattle.av_section.specs.declared.section.Section.{Section}

@@ -3,7 +3,7 @@ use Rattle.std.specs.Prelude.{◌≡◌, ℕ, ◌<◌, nat_lt, ◌==◌, List, �
 use Rattle.std.specs.List.{range_with_len}
 use Rattle.av_state.specs.BlockState.{BlockState, air}
 use Rattle.av_section.specs.Packed.{IsPackedSection, number_in}
-use Rattle.av_section.specs.Places.{has_place}
+use Rattle.av_pack.specs.Places.{has_place}
 use Rattle.av_section.specs.declared.section.Section.{Section}
 
 -- the state number at a place, and 0 past the last place

@@ -2,8 +2,8 @@
 ghost use Rattle.std.specs.Prelude.{◌≡◌, ◌<◌, ◌≤◌, ◌^◌, ◌+◌, ◌⊎◌, ◌≢◌, ℕ, nat_eq, ◌-◌, IsTrue, Some, None, is_some, true, false, map, option_map, length, slice_index, slice_index_or, All, AllPairs, Contains, IfOk, IfErr, IfSome, IfNone, OnOk};
 ghost use Rattle.std.specs.List.Sorted.{IsStrictlyIncreasing};
 ghost use Rattle.std.specs.Option.{option_copied};
-ghost use Rattle.av_nbt.specs.Shape.{each};
-ghost use Rattle.av_nbt.specs.View.{view, views};
+ghost use Rattle.av_tags.specs.Shape.{each};
+ghost use Rattle.av_tags.specs.View.{view, views};
 ghost use Rattle.av_pack.specs.Packing.{bits_for, longs_for, packed_at, unpacked};
 ghost use Rattle.av_section.specs.BlockStates.{data_of, indices_in, indices_of, are_below};
 ghost use Rattle.av_section.specs.Distinct.{AreEachOnce, AreOwnPlaces, ArePlaces, IsRisingOf, with_number};
@@ -12,8 +12,8 @@ ghost use Rattle.av_section.specs.Palette.{state_in};
 ghost use Rattle.av_section.specs.Packed.{HasAllBelow, IsRepacked};
 
 use crate::palette::entry_states;
-use av_nbt::Tag;
 use av_pack::{bits_for, entries_below, longs_for, pack, unpack};
+use av_tags::Tag;
 use av_types::Fault;
 use std::alloc::{AllocError, Global};
 

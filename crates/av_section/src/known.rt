@@ -2,8 +2,8 @@
 //! of its tags, and no state is made.
 ghost use Rattle.std.specs.Prelude.{◌≡◌, Some, true, length, option_map, IfOk, IfSome};
 ghost use Rattle.std.specs.Option.{option_copied};
-ghost use Rattle.av_nbt.specs.Shape.{each};
-ghost use Rattle.av_nbt.specs.View.{view, views, named_view, named_views};
+ghost use Rattle.av_tags.specs.Shape.{each};
+ghost use Rattle.av_tags.specs.View.{view, views, named_view, named_views};
 ghost use Rattle.av_state.specs.BlockState.{in_order};
 ghost use Rattle.av_state.specs.Table.{states};
 ghost use Rattle.av_state.specs.Texts.{property_told, properties_told};
@@ -11,8 +11,8 @@ ghost use Rattle.av_section.specs.Known.{IsKnown, AreKnown};
 ghost use Rattle.av_section.specs.Palette.{property_in, properties_in, written_state, state_in};
 
 use crate::palette::{NAME, PROPERTIES, are_of_entry};
-use av_nbt::{Named, Tag, find};
 use av_state::{PropertyText, StateTable};
+use av_tags::{Named, Tag, find};
 use std::alloc::{AllocError, Global};
 
 /// The texts of a property's tag.

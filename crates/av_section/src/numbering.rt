@@ -5,8 +5,8 @@ ghost use Rattle.av_types.specs.declared.fault.Fault.TheVariants.{OutOfMemory};
 ghost use Rattle.av_state.specs.BlockState.{meant};
 ghost use Rattle.av_state.specs.States.{state_of};
 ghost use Rattle.av_state.specs.Table.{states};
-ghost use Rattle.av_nbt.specs.Shape.{each};
-ghost use Rattle.av_nbt.specs.View.{views};
+ghost use Rattle.av_tags.specs.Shape.{each};
+ghost use Rattle.av_tags.specs.View.{views};
 ghost use Rattle.av_section.specs.Known.{AreOfPalette, AreNotOfPalette};
 ghost use Rattle.av_section.specs.Numbered.{AreNumbered, AreNotNumbered};
 ghost use Rattle.av_section.specs.Palette.{state_in};
@@ -14,8 +14,8 @@ ghost use Rattle.av_section.specs.Reading.{OnlyGrows};
 
 use crate::known::known_numbers;
 use crate::palette::entry_states;
-use av_nbt::Tag;
 use av_state::{State, StateTable};
+use av_tags::Tag;
 use av_types::Fault;
 use std::alloc::Global;
 

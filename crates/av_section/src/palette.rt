@@ -2,16 +2,16 @@
 ghost use Rattle.std.specs.Prelude.{◌≡◌, ◌<◌, ◌≤◌, Some, length, option_map, map, IfOk, IfErr};
 ghost use Rattle.std.specs.Option.{option_copied};
 ghost use Rattle.std.specs.List.{list_all};
-ghost use Rattle.av_nbt.specs.Shape.{each};
-ghost use Rattle.av_nbt.specs.View.{view, views, named_view, named_views};
+ghost use Rattle.av_tags.specs.Shape.{each};
+ghost use Rattle.av_tags.specs.View.{view, views, named_view, named_views};
 ghost use Rattle.av_state.specs.BlockState.{in_order};
 ghost use Rattle.av_state.specs.Views.{property_of, properties_of};
 ghost use Rattle.av_state.specs.States.{state_of};
 ghost use Rattle.av_section.specs.Judged.{IsNoPalette};
 ghost use Rattle.av_section.specs.Palette.{property_in, properties_in, is_of_entry, written_state, state_in, palette_of};
 
-use av_nbt::{Named, Tag, find};
 use av_state::{Property, State};
+use av_tags::{Named, Tag, find};
 use av_types::Fault;
 use std::alloc::Global;
 

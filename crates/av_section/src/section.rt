@@ -13,11 +13,10 @@ use crate::known::known_numbers;
 use crate::numbering::number_entries;
 use crate::order::written_order;
 use crate::palette::palette_entries;
-use crate::places::PlaceSet;
 use crate::writing::{indices_tag, palette_tag};
-use av_nbt::Tag;
-use av_pack::{bits_for, cleaned, get_at, longs_for, pack, set_at, used_in_order};
+use av_pack::{PlaceSet, bits_for, cleaned, get_at, longs_for, pack, set_at, used_in_order};
 use av_state::StateTable;
+use av_tags::Tag;
 use av_types::{Fault, Place};
 use std::alloc::{AllocError, Global};
 
@@ -56,7 +55,7 @@ fn push_number(palette: &mut Vec<u16>, number: u16) -> Result<(), AllocError>
 impl Section {
     ghost use Rattle.std.specs.Prelude.{All, IsOk, IsSome, IfSome, Some, true, false, option_map, OnOk};
     ghost use Rattle.std.specs.Option.{option_copied};
-    ghost use Rattle.av_nbt.specs.View.{view};
+    ghost use Rattle.av_tags.specs.View.{view};
     ghost use Rattle.av_state.specs.Table.{states};
     ghost use Rattle.av_section.specs.BlockStates.{palette_tag, data_tag, indices_in, packed_indices};
     ghost use Rattle.av_section.specs.Distinct.{AreEachOnce};

@@ -1,7 +1,7 @@
 //! The palette of a section as its tags are written.
 ghost use Rattle.std.specs.Prelude.{◌≡◌, ◌<◌, ◌≤◌, ◌∷◌, map, option_map, length, IfOk, All, slice_index_or};
-ghost use Rattle.av_nbt.specs.Nbt.{text, compound, members_of};
-ghost use Rattle.av_nbt.specs.View.{view, views, named_view, named_views};
+ghost use Rattle.av_tags.specs.Nbt.{text, compound, members_of};
+ghost use Rattle.av_tags.specs.View.{view, views, named_view, named_views};
 ghost use Rattle.av_state.specs.BlockState.{air};
 ghost use Rattle.av_state.specs.Views.{property_of, properties_of};
 ghost use Rattle.av_state.specs.States.{state_of};
@@ -10,9 +10,9 @@ ghost use Rattle.av_section.specs.BlockStates.{indices_tag};
 ghost use Rattle.av_section.specs.Palette.{name_key, properties_key, property_tag, properties_tags, state_tag, states_tag};
 
 use crate::palette::{NAME, PROPERTIES};
-use av_nbt::{Named, Tag, TagType};
 use av_pack::{bits_for, pack};
 use av_state::{Property, State, StateTable};
+use av_tags::{Named, Tag, TagType};
 use std::alloc::{AllocError, Global};
 
 /// A property as a named text.

@@ -3,7 +3,7 @@ use Rattle.std.proofs.Common.{◌≡◌, ℕ, ◌==◌, ◌&&◌, ◌||◌, Bool
 use Rattle.std.proofs.lemmas.Bool.Decides.{nat_tests}
 use Rattle.std.specs.BTreeMap.{BTreeMap, get, is_at}
 use Rattle.std.specs.Map.{lookup}
-use Rattle.av_section.specs.declared.places.PlaceSet.{PlaceSet}
+use Rattle.av_pack.specs.declared.places.PlaceSet.{PlaceSet}
 use Rattle.av_types.specs.Places.{section_of, place_of, same_pos}
 use Rattle.av_types.specs.declared.place.Pos.{Pos}
 use Rattle.av_types.proofs.Coordinates.{same_block}

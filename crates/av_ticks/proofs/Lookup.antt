@@ -1,12 +1,9 @@
 -- Positions that are apart.
 use Rattle.std.proofs.Common.{◌≡◌, Bool, true, false, List, [], ◌∷◌, ◌++◌, refl, sym, ◌∙◌, true≢false}
-use Rattle.std.proofs.lemmas.Cmp.{int_eq_equiv}
 use Rattle.av_types.specs.declared.place.Pos.{Pos}
+use Rattle.av_types.proofs.SamePlaces.{same_pos-turned}
 use Rattle.av_types.specs.declared.tick.Entry.{Entry}
 use Rattle.av_ticks.specs.Entries.{same_pos, is_pending, are_apart}
-
-same_pos_symm : (p q : Pos) → same_pos p q ≡ same_pos q p
-same_pos_symm p q = rw (int_eq_equiv.symm p.x q.x, int_eq_equiv.symm p.y q.y, int_eq_equiv.symm p.z q.z)
 
 is_pending-push : (p : Pos) (es : List Entry) (e : Entry) → is_pending p es ≡ false → same_pos p e.pos ≡ false → is_pending p (es ++ e ∷ []) ≡ false
 is_pending-push p [] e h g = rw g
@@ -22,4 +19,4 @@ are_apart-push (x ∷ es) e apart new = by (same_pos e.pos x.pos) refl (is_pendi
   by : (b : Bool) → same_pos e.pos x.pos ≡ b → (c : Bool) → is_pending x.pos es ≡ c → (are_apart es ≡ true → is_pending e.pos es ≡ false → are_apart (es ++ e ∷ []) ≡ true) → are_apart ((x ∷ es) ++ e ∷ []) ≡ true
   by true i c j rest = absurd (true≢false (rw i at new))
   by false i true j rest = absurd (true≢false (sym (rw j at apart)))
-  by false i false j rest = rw (is_pending-push x.pos es e j (same_pos_symm x.pos e.pos ∙ i)) (rest (rw j at apart) (rw i at new))
+  by false i false j rest = rw (is_pending-push x.pos es e j (same_pos-turned x.pos e.pos ∙ i)) (rest (rw j at apart) (rw i at new))

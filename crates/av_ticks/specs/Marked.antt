@@ -3,8 +3,8 @@ use Rattle.std.specs.Prelude.{ℕ, Bool, false, Option, None, Some}
 use Rattle.std.specs.BTreeMap.{BTreeMap, get}
 use Rattle.std.specs.Ordering.{int_cmp, ordering_then}
 use Rattle.std.specs.declared.cmp.Ordering.{Ordering}
-use Rattle.av_section.specs.Places.{has_place}
-use Rattle.av_section.specs.declared.places.PlaceSet.{PlaceSet}
+use Rattle.av_pack.specs.Places.{has_place}
+use Rattle.av_pack.specs.declared.places.PlaceSet.{PlaceSet}
 use Rattle.av_types.specs.Places.{section_of}
 use Rattle.av_types.specs.declared.place.Pos.{Pos}
 use Rattle.av_ticks.specs.declared.positions.SectionKey.{SectionKey}

@@ -8,7 +8,7 @@ ghost use Rattle.av_ticks.specs.declared.positions.SectionKey.{SectionKey};
 ghost use Rattle.av_ticks.specs.Marked.{key_of, key_cmp, marked_in};
 ghost use Rattle.av_ticks.specs.Held.{holds};
 
-use av_section::places::PlaceSet;
+use av_pack::PlaceSet;
 use av_types::{Place, Pos};
 use std::alloc::{AllocError, Global};
 use std::collections::BTreeMap;

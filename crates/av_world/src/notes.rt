@@ -1,11 +1,11 @@
 //! What a parcel remembers of its look-ups.
 ghost use Rattle.std.specs.Prelude.{◌≡◌, ◌<◌, ℕ, List, All, false};
 ghost use Rattle.av_types.specs.declared.place.SectionPos.{SectionPos};
-ghost use Rattle.av_section.specs.Places.{has_place};
+ghost use Rattle.av_pack.specs.Places.{has_place};
 ghost use Rattle.av_world.specs.Parcels.{IsSectionInLimits, AreAbsent};
 
 use crate::finding::fourth;
-use av_section::places::PlaceSet;
+use av_pack::PlaceSet;
 use av_types::SectionPos;
 
 /// What a parcel remembers, so that it finds sections and entries at once. A parcel has it in a box, and is moved

@@ -1,7 +1,7 @@
 use Rattle.av_rules.specs.Kinds.{kind_count}
 use Rattle.av_cells.specs.Rule.{HasKinds}
-use Rattle.av_column.specs.Columns.{world_of}
+use Rattle.av_column.specs.Views.{blocks_of}
 use Rattle.av_bench.proofs.flowing.play_world.Given as goal
 
 abbrev pub invariant-loop-place : goal.invariant-loop-place
-invariant-loop-place l = HasKinds (kind_count l.kinds) (world_of l.column.bottom l.column.layers l.column.numbers.items l.column.waiting.items)
+invariant-loop-place l = HasKinds (kind_count l.kinds) (blocks_of l.column)

@@ -7,4 +7,4 @@ if_ok (Ok x) F P Q few h f = f x few h
 if_ok (Err e) F P Q few h f = tt
 
 pub returns : goal.returns
-returns c = if_ok c.read_input.result _ _ _ c.read_input.ensures.few c.read_input.ensures.ok (λ i few h. can_run _ _ _ c.args.ticks i few.few_ticks h)
+returns g c = if_ok c.read_input.result _ _ _ c.read_input.ensures.few c.read_input.ensures.ok (λ i few h. can_run _ _ _ c.args.ticks i few.few_ticks h)

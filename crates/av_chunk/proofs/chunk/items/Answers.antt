@@ -1,6 +1,6 @@
 use Rattle.std.proofs.Common.{◌≡◌, sym, false, Some}
-use Rattle.av_nbt.specs.Shape.{items_of_list, compounds_of, lacks}
-use Rattle.av_nbt.specs.View.{view, views}
+use Rattle.av_tags.specs.Shape.{items_of_list, compounds_of, lacks}
+use Rattle.av_tags.specs.View.{view, views}
 use Rattle.av_chunk.proofs.Rows.{list_compounds, list_opened}
 use Rattle.av_chunk.proofs.chunk.items.Goals as goal
 

@@ -2,7 +2,7 @@ use Rattle.std.proofs.Common.{◌≡◌, ◌≢◌, Some, sym, ◌∙◌, ap, mi
 use Rattle.std.specs.List.{flat_map}
 use Rattle.av_types.specs.Faults.{fault_number}
 use Rattle.av_types.specs.declared.fault.Fault.TheVariants.{OutOfMemory}
-use Rattle.av_nbt.specs.View.{views}
+use Rattle.av_tags.specs.View.{views}
 use Rattle.av_state.specs.Table.{states}
 use Rattle.av_document.specs.Chunk.{section_faults, section_states}
 use Rattle.av_chunk.specs.SectionsRead.{are_too_many}

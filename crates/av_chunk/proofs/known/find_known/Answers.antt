@@ -1,8 +1,8 @@
 -- One more section.
 use Rattle.std.proofs.Common.{◌≡◌, List, ◌∷◌, ◌++◌, false, sym, subst, ap, ◌∙◌, append_assoc, IfSome}
 use Rattle.std.specs.Vec.Iter.{into_iter_items}
-use Rattle.av_nbt.specs.declared.tag.Tag.{Tag}
-use Rattle.av_nbt.specs.View.{view, views}
+use Rattle.av_tags.specs.declared.tag.Tag.{Tag}
+use Rattle.av_tags.specs.View.{view, views}
 use Rattle.av_state.specs.Table.{states}
 use Rattle.av_document.specs.Chunk.{share_a_number}
 use Rattle.av_chunk.specs.Rest.{opened}

@@ -1,7 +1,7 @@
 -- The sections that came are found, and the table stays as it is.
 use Rattle.std.proofs.Common.{◌≡◌, false, ◌++◌, length}
 use Rattle.std.specs.Vec.Iter.{into_iter_items}
-use Rattle.av_nbt.specs.View.{views}
+use Rattle.av_tags.specs.View.{views}
 use Rattle.av_state.specs.Table.{states}
 use Rattle.av_chunk.specs.Working.{has_bad_number}
 use Rattle.av_chunk.specs.Rest.{opened}

@@ -1,9 +1,9 @@
 -- A section in the height, whose states are known.
 use Rattle.std.proofs.Common.{◌≡◌, ◌∙◌, sym, ap, subst, rules, to_z, of_z, to_z-of_z, w8, FitsSigned, IfSome, Some, true, codes}
 use Rattle.av_types.specs.Places.{is_section_of}
-use Rattle.av_nbt.specs.Place.{emptied}
-use Rattle.av_nbt.specs.Shape.{compound_of}
-use Rattle.av_nbt.specs.View.{view, named_views}
+use Rattle.av_tags.specs.Place.{emptied}
+use Rattle.av_tags.specs.Shape.{compound_of}
+use Rattle.av_tags.specs.View.{view, named_views}
 use Rattle.av_state.specs.Table.{states}
 use Rattle.av_document.specs.Chunk.{section_number, block_states_of}
 use Rattle.av_chunk.specs.SectionsRead.{AreStates}

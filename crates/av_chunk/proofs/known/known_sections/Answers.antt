@@ -1,6 +1,6 @@
 -- What was found, with air where there is none.
 use Rattle.std.proofs.Common.{refl, subst, IfSome}
-use Rattle.av_nbt.specs.View.{views}
+use Rattle.av_tags.specs.View.{views}
 use Rattle.av_state.specs.Table.{states}
 use Rattle.av_chunk.specs.Rest.{opened}
 use Rattle.av_chunk.specs.SectionsRead.{AreFound}

@@ -1,4 +1,4 @@
-use Rattle.av_nbt.specs.View.{document}
+use Rattle.av_tags.specs.View.{document}
 use Rattle.av_chunk.specs.Payload.{bad_document}
 use Rattle.av_chunk.proofs.Found.{if_err_then}
 use Rattle.av_chunk.proofs.payload.read_payload.Goals as goal

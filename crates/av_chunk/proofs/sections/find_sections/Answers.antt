@@ -1,14 +1,15 @@
 use Rattle.std.proofs.Common.{◌≡◌, List, ◌∷◌, ◌++◌, false, sym, ap, ◌∙◌, append_assoc}
 use Rattle.std.specs.Vec.Iter.{into_iter_items}
-use Rattle.av_nbt.specs.declared.tag.Tag.{Tag}
-use Rattle.av_nbt.specs.View.{view, views}
+use Rattle.av_tags.specs.declared.tag.Tag.{Tag}
+use Rattle.av_tags.specs.View.{view, views}
 use Rattle.av_state.specs.Table.{states}
 use Rattle.av_document.specs.Chunk.{share_a_number}
 use Rattle.av_chunk.specs.Rest.{opened}
 use Rattle.av_chunk.proofs.Numbers.{new_number}
 use Rattle.av_chunk.specs.Working.{tags_in}
 use Rattle.av_chunk.proofs.Rows.{rows-append, rows-push, good_after}
-use Rattle.av_chunk.proofs.Slots.{AreJudged-part, AreJudged-refused, section_counts, kept_counts, OnlyGrows-trans}
+use Rattle.av_section.proofs.Numbers.{OnlyGrows-trans}
+use Rattle.av_chunk.proofs.Slots.{AreJudged-part, AreJudged-refused, section_counts, kept_counts}
 use Rattle.av_chunk.proofs.sections.find_sections.Goals as goal
 
 pub loop-section-preserved-in-Continue-branch-2 : goal.loop-section-preserved-in-Continue-branch-2

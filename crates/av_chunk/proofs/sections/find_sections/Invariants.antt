@@ -1,6 +1,6 @@
 use Rattle.std.proofs.Common.{◌≡◌, false, ◌++◌, length}
 use Rattle.std.specs.Vec.Iter.{into_iter_items}
-use Rattle.av_nbt.specs.View.{views}
+use Rattle.av_tags.specs.View.{views}
 use Rattle.av_state.specs.Table.{states}
 use Rattle.av_section.specs.Reading.{OnlyGrows}
 use Rattle.av_chunk.specs.Working.{has_bad_number}

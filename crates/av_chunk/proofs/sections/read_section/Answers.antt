@@ -1,8 +1,8 @@
 use Rattle.std.proofs.Common.{◌≡◌, ◌∙◌, refl, sym, ap, rules, to_z, of_z, to_z-of_z, w8, FitsSigned, IsSome, Some, true, false, codes}
 use Rattle.av_types.specs.Places.{is_section_of}
-use Rattle.av_nbt.specs.Place.{emptied}
-use Rattle.av_nbt.specs.Shape.{compound_of}
-use Rattle.av_nbt.specs.View.{view, named_views}
+use Rattle.av_tags.specs.Place.{emptied}
+use Rattle.av_tags.specs.Shape.{compound_of}
+use Rattle.av_tags.specs.View.{view, named_views}
 use Rattle.av_state.specs.Table.{states}
 use Rattle.av_document.specs.Chunk.{section_number, block_states_of}
 use Rattle.av_chunk.specs.Working.{checked_number, tags_in}

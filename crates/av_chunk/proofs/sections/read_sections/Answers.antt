@@ -1,5 +1,5 @@
 use Rattle.std.proofs.Common.{refl}
-use Rattle.av_nbt.specs.View.{views}
+use Rattle.av_tags.specs.View.{views}
 use Rattle.av_state.specs.Table.{states}
 use Rattle.av_chunk.specs.Rest.{opened}
 use Rattle.av_chunk.proofs.Slots.{AreSectionsRead-filled}

@@ -1,7 +1,7 @@
 use Rattle.std.proofs.Common.{◌≡◌, sym, Some, option_map, codes, rules}
 use Rattle.std.specs.Option.{option_copied}
-use Rattle.av_nbt.specs.Place.{tag_of}
-use Rattle.av_nbt.specs.View.{view, named_views}
+use Rattle.av_tags.specs.Place.{tag_of}
+use Rattle.av_tags.specs.View.{view, named_views}
 use Rattle.av_state.specs.Table.{states}
 use Rattle.av_section.specs.Reading.{IsStatesRefusal}
 use Rattle.av_chunk.specs.SectionsRead.{AreStatesRefused}

@@ -2,7 +2,7 @@ use Rattle.std.proofs.Common.{◌≡◌, ◌<◌, arith, rules, refl, [], ◌∷
 use Rattle.std.specs.Ordering.{int_eq}
 use Rattle.std.specs.List.{list_any}
 use Rattle.std.proofs.lemmas.List.{get_or-replicate}
-use Rattle.av_nbt.specs.View.{view, views}
+use Rattle.av_tags.specs.View.{view, views}
 use Rattle.av_chunk.specs.Working.{Noted}
 use Rattle.av_chunk.proofs.Numbers.{Noted-set, good_step, flag_bound}
 use Rattle.av_chunk.proofs.shape.has_bad_section.Goals as goal

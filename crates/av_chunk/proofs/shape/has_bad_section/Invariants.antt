@@ -1,5 +1,5 @@
 use Rattle.std.proofs.Common.{◌≡◌, drop, List, [], ℤ}
-use Rattle.av_nbt.specs.View.{views}
+use Rattle.av_tags.specs.View.{views}
 use Rattle.av_chunk.specs.Working.{are_bad_items, Noted}
 use Rattle.av_chunk.proofs.shape.has_bad_section.Given as goal
 

@@ -1,5 +1,5 @@
 use Rattle.std.proofs.Common.{◌≡◌, drop}
-use Rattle.av_nbt.specs.View.{views}
+use Rattle.av_tags.specs.View.{views}
 use Rattle.av_chunk.specs.Working.{has_other}
 use Rattle.av_chunk.proofs.shape.has_other.Given as goal
 

@@ -1,6 +1,6 @@
 use Rattle.std.proofs.Common.{codes, ◌∙◌, sym}
-use Rattle.av_nbt.specs.Place.{tag_of}
-use Rattle.av_nbt.specs.View.{views, named_views}
+use Rattle.av_tags.specs.Place.{tag_of}
+use Rattle.av_tags.specs.View.{views, named_views}
 use Rattle.av_chunk.proofs.Numbers.{is_bad_list-at}
 use Rattle.av_chunk.proofs.shape.is_bad_list.Goals as goal
 

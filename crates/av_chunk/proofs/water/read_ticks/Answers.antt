@@ -1,8 +1,8 @@
 use Rattle.std.proofs.Common.{◌≡◌, sym, ◌∙◌, ap, false, Some, None, List, [], ◌∷◌, ◌++◌}
 use Rattle.std.specs.Vec.Iter.{into_iter_items}
-use Rattle.av_nbt.specs.Nbt.{Nbt}
-use Rattle.av_nbt.specs.Shape.{compound_of}
-use Rattle.av_nbt.specs.View.{view, views, named_views}
+use Rattle.av_tags.specs.Nbt.{Nbt}
+use Rattle.av_tags.specs.Shape.{compound_of}
+use Rattle.av_tags.specs.View.{view, views, named_views}
 use Rattle.av_ticks.specs.Ticks.{entries}
 use Rattle.av_document.specs.Ticks.{is_bad_tick, water_entry}
 use Rattle.av_chunk.proofs.Rows.{foreign_step, kept_step, water_step, good_step, others_after}

@@ -1,8 +1,8 @@
 -- The section's states are put in their place, and then its light.
 use Rattle.std.proofs.Common.{◌≡◌, ◌∙◌, ap, subst, codes, IfOk}
-use Rattle.av_nbt.specs.Nbt.{byte_array}
-use Rattle.av_nbt.specs.Place.{with_tag}
-use Rattle.av_nbt.specs.View.{named_views}
+use Rattle.av_tags.specs.Nbt.{byte_array}
+use Rattle.av_tags.specs.Place.{with_tag}
+use Rattle.av_tags.specs.View.{named_views}
 use Rattle.av_chunk.proofs.write_section.section_tags.Goals as goal
 
 pub returns : goal.returns

@@ -1,7 +1,7 @@
 use Rattle.std.proofs.Common.{rules, to_z, of_z, to_z-of_z, w8, FitsSigned, ◌≡◌, ◌++◌, sym, ap, ◌∙◌, map, option_map, Option, List}
-use Rattle.av_nbt.specs.Nbt.{Nbt, NamedTag}
+use Rattle.av_tags.specs.Nbt.{Nbt, NamedTag}
 use Rattle.av_document.specs.Layout.{compound_with, kept_section, all_of}
-use Rattle.av_nbt.specs.View.{views, named_views}
+use Rattle.av_tags.specs.View.{views, named_views}
 use Rattle.av_chunk.specs.WritingSteps.{number_at, written_section, first_sections}
 use Rattle.av_chunk.proofs.Written.{first_numbers-none, more_sections}
 use Rattle.av_chunk.proofs.write_sections.all_sections.Goals as goal

@@ -1,5 +1,5 @@
 use Rattle.std.proofs.Common.{◌≡◌}
-use Rattle.av_nbt.specs.View.{views}
+use Rattle.av_tags.specs.View.{views}
 use Rattle.av_chunk.specs.WritingSteps.{first_sections}
 use Rattle.av_chunk.proofs.write_sections.all_sections.Given as goal
 

@@ -1,7 +1,7 @@
 use Rattle.std.proofs.Common.{rules, to_z, of_z, to_z-of_z, w8, w32, FitsSigned, ◌≡◌, Some, IfOk, List, sym, ap, ◌∙◌, subst}
 use Rattle.std.specs.Prelude.{slice_index_or, None}
-use Rattle.av_nbt.specs.Nbt.{NamedTag}
-use Rattle.av_nbt.specs.View.{named_views}
+use Rattle.av_tags.specs.Nbt.{NamedTag}
+use Rattle.av_tags.specs.View.{named_views}
 use Rattle.av_state.specs.Table.{states}
 use Rattle.av_section.specs.Section.{section_states}
 use Rattle.av_chunk.specs.Rest.{offset_of, tags_of, section_or_missing}

@@ -1,5 +1,5 @@
 use Rattle.std.proofs.Common.{◌≡◌, map, take}
-use Rattle.av_nbt.specs.View.{views}
+use Rattle.av_tags.specs.View.{views}
 use Rattle.av_document.specs.Layout.{compound_with}
 use Rattle.av_chunk.specs.Rest.{opened}
 use Rattle.av_chunk.proofs.write_ticks.foreign_ticks.Given as goal

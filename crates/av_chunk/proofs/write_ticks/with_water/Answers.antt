@@ -1,7 +1,7 @@
 use Rattle.std.proofs.Common.{◌<◌, pos, length, arith}
 use Rattle.std.proofs.lemmas.List.Elements.{All-more}
 use Rattle.av_types.specs.declared.tick.Entry.{Entry}
-use Rattle.av_nbt.specs.View.{views}
+use Rattle.av_tags.specs.View.{views}
 use Rattle.av_document.specs.Law.{HasInts}
 use Rattle.av_chunk.specs.WritingSteps.{written_entry}
 use Rattle.av_chunk.proofs.Written.{one_more-written}

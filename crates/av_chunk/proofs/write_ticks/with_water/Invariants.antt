@@ -1,6 +1,6 @@
 use Rattle.std.proofs.Common.{◌≡◌, ◌++◌, map, take}
 use Rattle.std.specs.List.{All}
-use Rattle.av_nbt.specs.View.{views}
+use Rattle.av_tags.specs.View.{views}
 use Rattle.av_document.specs.Law.{HasInts}
 use Rattle.av_chunk.specs.WritingSteps.{written_entry}
 use Rattle.av_chunk.proofs.write_ticks.with_water.Given as goal

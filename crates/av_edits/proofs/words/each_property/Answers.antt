@@ -5,7 +5,7 @@ use Rattle.std.specs.Option.{option_map}
 use Rattle.av_state.specs.Views.{property_of, properties_of}
 use Rattle.av_edits.specs.Lines.{property_in}
 use Rattle.av_edits.proofs.words.each_property.Goals as goal
-use Rattle.av_nbt.proofs.Each.{each_more, each_none}
+use Rattle.av_tags.proofs.Each.{each_more, each_none}
 
 pub returns-in-None : goal.returns-in-None
 returns-in-None c =

@@ -12,7 +12,7 @@ use Rattle.av_image.specs.Views.{rest_in, file_in}
 use Rattle.av_image_tests.proofs.saves.read.Goals as goal
 
 pub returns-clause-good : goal.returns-clause-good
-returns-clause-good c =
+returns-clause-good g c =
     let loaded = c.in_ok-world.ensures.ok in
     let w = c.in_ok-world.world in
     let k = c.in_ok-kinds.kinds in
@@ -22,6 +22,6 @@ returns-clause-good c =
     (read_is_good c.in_ok-rules.rules.height (map file_in c.args.files.items) known (land_of w) (rest_in c.in_ok-world.rest) loaded.denotes loaded.numbers loaded.zeros)
 
 pub returns-clause-rest : goal.returns-clause-rest
-returns-clause-rest c =
+returns-clause-rest g c =
     let loaded = c.in_ok-world.ensures.ok in
     subst (λ (h : Height). IsRestOf h (positions_of c.in_ok-world.world) c.in_ok-world.rest) (sym loaded.denotes.height) c.in_ok-world.ensures.rest

@@ -1,7 +1,7 @@
 use Rattle.std.proofs.lemmas.Int.{to_z_pos}
 use Rattle.std.proofs.Common.{rules, arith, to_z, of_z, to_z-of_z, w32, FitsSigned, ◌≡◌, ◌∙◌, ◌∷◌, [], ◌+◌, ◌<◌, pos, ◌+ℤ◌, Option, None, List, ℕ, length, get_or, ap, sym, subst}
 use Rattle.std.proofs.lemmas.List.{map-append}
-use Rattle.av_nbt.specs.View.{document, named_views}
+use Rattle.av_tags.specs.View.{document, named_views}
 use Rattle.av_document.specs.Chunk.{root_tags}
 use Rattle.av_map.specs.Arrays.{arrays_of, bytes_in}
 use Rattle.av_map.specs.Light.{light_array, sections_in}

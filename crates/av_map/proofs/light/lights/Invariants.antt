@@ -1,5 +1,5 @@
 use Rattle.std.proofs.Common.{◌≡◌, ◌<◌, ℕ, pos, ◌+ℤ◌, length, get_or, None}
-use Rattle.av_nbt.specs.View.{document}
+use Rattle.av_tags.specs.View.{document}
 use Rattle.av_document.specs.Chunk.{root_tags}
 use Rattle.av_map.specs.Arrays.{arrays_of}
 use Rattle.av_map.specs.Light.{light_array}

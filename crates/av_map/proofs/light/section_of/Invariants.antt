@@ -1,5 +1,5 @@
 use Rattle.std.proofs.Common.{◌≡◌, drop}
-use Rattle.av_nbt.specs.View.{views}
+use Rattle.av_tags.specs.View.{views}
 use Rattle.av_document.specs.Chunk.{numbered}
 use Rattle.av_chunk.specs.Rest.{opened}
 use Rattle.av_map.proofs.light.section_of.Given as goal

@@ -1,6 +1,6 @@
 use Rattle.std.proofs.Common.{map, subst, List, ℕ, Bor}
 use Rattle.std.specs.Prelude.{IsTrue, ◌↔◌}
-use Rattle.av_nbt.specs.View.{named_views}
+use Rattle.av_tags.specs.View.{named_views}
 use Rattle.av_nbt.specs.Order.{Rise}
 use Rattle.av_nbt.proofs.Sorting.{sorted_answer}
 use Rattle.av_nbt.proofs.distinct.are_distinct_by_order.Goals as goal

@@ -1,5 +1,5 @@
 use Rattle.std.proofs.Common.{◌≡◌, length}
-use Rattle.av_nbt.specs.View.{named_views}
+use Rattle.av_tags.specs.View.{named_views}
 use Rattle.av_nbt.specs.Reading.{are_distinct}
 use Rattle.av_nbt.proofs.distinct.are_distinct_by_pairs.Given as goal
 

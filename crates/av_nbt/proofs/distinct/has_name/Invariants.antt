@@ -1,5 +1,5 @@
 use Rattle.std.proofs.Common.{◌≡◌, drop}
-use Rattle.av_nbt.specs.View.{named_views}
+use Rattle.av_tags.specs.View.{named_views}
 use Rattle.av_nbt.specs.Reading.{has_name}
 use Rattle.av_nbt.proofs.distinct.has_name.Given as goal
 

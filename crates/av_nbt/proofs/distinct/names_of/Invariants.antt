@@ -1,5 +1,5 @@
 use Rattle.std.proofs.Common.{◌≡◌, take, map}
-use Rattle.av_nbt.specs.View.{named_views}
+use Rattle.av_tags.specs.View.{named_views}
 use Rattle.av_nbt.proofs.distinct.names_of.Given as goal
 
 abbrev pub invariant-loop-named : goal.invariant-loop-named

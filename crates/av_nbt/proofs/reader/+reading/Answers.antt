@@ -1,6 +1,6 @@
 use Rattle.std.proofs.Common.{length, [], ◌∷◌, ap, ◌∙◌, sym, arith}
 use Rattle.std.proofs.lemmas.List.{map-append}
-use Rattle.av_nbt.specs.View.{view, views, named_view, named_views}
+use Rattle.av_tags.specs.View.{view, views, named_view, named_views}
 use Rattle.av_nbt.specs.Reading.{type_at, named_at, payload_at, repeat_at, until_end}
 use Rattle.av_nbt.proofs.Loops.{fails_whole, gives_err, repeat_more, repeat_stops, named_more, named_end, named_no_type, named_no_tag}
 use Rattle.av_nbt.proofs.reader.+reading.Goals as goal

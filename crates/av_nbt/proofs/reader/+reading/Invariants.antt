@@ -1,6 +1,6 @@
 -- How far reading has come, and that each call goes down by a level or by a step of the format.
 use Rattle.std.proofs.Common.{◌≡◌, length, ◌+◌, ◌-◌, ◌*◌}
-use Rattle.av_nbt.specs.View.{views, named_views}
+use Rattle.av_tags.specs.View.{views, named_views}
 use Rattle.av_nbt.specs.Reading.{until_end, payload_at, repeat_at, with_front}
 use Rattle.av_nbt.proofs.reader.+reading.Given as goal
 

@@ -1,9 +1,9 @@
 use Rattle.std.proofs.Common.{◌≡◌, ℕ, List, length, Some, true, refl, sym, ◌∙◌}
 use Rattle.std.specs.Prelude.{◌==◌}
-use Rattle.av_nbt.specs.declared.tag.TagType.{TagType}
-use Rattle.av_nbt.specs.TagTypes.{is_compound}
-use Rattle.av_nbt.specs.Nbt.{NamedTag, members_of}
-use Rattle.av_nbt.specs.View.{named_views}
+use Rattle.av_tags.specs.declared.tag.TagType.{TagType}
+use Rattle.av_tags.specs.TagTypes.{is_compound}
+use Rattle.av_tags.specs.Nbt.{NamedTag, members_of}
+use Rattle.av_tags.specs.View.{named_views}
 use Rattle.av_nbt.specs.Reading.{type_at, text_at, members_at, payload_at, document_at}
 use Rattle.av_nbt.proofs.reader.root.Goals as goal
 

@@ -1,8 +1,8 @@
 use Rattle.std.proofs.Common.{◌≡◌, ◌∙◌, ap, arith}
-use Rattle.av_nbt.specs.Nbt.{int_array, long_array}
-use Rattle.av_nbt.specs.View.{view}
+use Rattle.av_tags.specs.Nbt.{int_array, long_array}
+use Rattle.av_tags.specs.View.{view}
 use Rattle.av_nbt.proofs.Sizes.{ints_size, longs_size}
-use Rattle.av_nbt.proofs.Views.{view_int_array, view_long_array}
+use Rattle.av_tags.proofs.Views.{view_int_array, view_long_array}
 use Rattle.av_nbt.proofs.size.+sizing.Goals as goal
 
 pub tag_size-returns-in-IntArray : goal.tag_size-returns-in-IntArray

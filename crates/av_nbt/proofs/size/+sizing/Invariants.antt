@@ -1,7 +1,7 @@
 -- The bytes of the tags that were counted and of those that are left.
 use Rattle.std.proofs.Common.{◌≡◌, ◌<◌, ◌+◌, ◌^◌, drop, length}
-use Rattle.av_nbt.specs.Nbt.{items_of, members_of}
-use Rattle.av_nbt.specs.View.{views, named_views}
+use Rattle.av_tags.specs.Nbt.{items_of, members_of}
+use Rattle.av_tags.specs.View.{views, named_views}
 use Rattle.av_nbt.specs.Writing.{written_items, written_members}
 use Rattle.av_nbt.specs.Size.{capped}
 use Rattle.av_nbt.proofs.size.+sizing.Given as goal

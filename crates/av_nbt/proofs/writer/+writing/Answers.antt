@@ -1,8 +1,8 @@
 use Rattle.std.proofs.Common.{◌∷◌, ◌++◌, [], length, ap, ◌∙◌, append_assoc}
 use Rattle.std.specs.Int.{w32, to_be_bytes}
-use Rattle.av_nbt.specs.TagTypes.{type_number}
-use Rattle.av_nbt.specs.Nbt.{items_of}
-use Rattle.av_nbt.specs.View.{views}
+use Rattle.av_tags.specs.TagTypes.{type_number}
+use Rattle.av_tags.specs.Nbt.{items_of}
+use Rattle.av_tags.specs.View.{views}
 use Rattle.av_nbt.specs.Writing.{written_items}
 use Rattle.av_nbt.proofs.Loops.{writes_after}
 use Rattle.av_nbt.proofs.Written.{item_count_views}

@@ -1,7 +1,7 @@
 -- What was written and what is left to write, and that the tags left fit.
 use Rattle.std.proofs.Common.{◌≡◌, ◌++◌, drop}
-use Rattle.av_nbt.specs.Nbt.{items_of, members_of}
-use Rattle.av_nbt.specs.View.{views, named_views}
+use Rattle.av_tags.specs.Nbt.{items_of, members_of}
+use Rattle.av_tags.specs.View.{views, named_views}
 use Rattle.av_nbt.specs.Writing.{written_items, written_members, FitItems, FitMembers}
 use Rattle.av_nbt.proofs.writer.+writing.Given as goal
 

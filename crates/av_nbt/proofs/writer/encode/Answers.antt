@@ -1,5 +1,5 @@
 use Rattle.std.proofs.Common.{◌++◌, ap, ◌∙◌}
-use Rattle.av_nbt.specs.View.{document}
+use Rattle.av_tags.specs.View.{document}
 use Rattle.av_nbt.specs.Writing.{written_document}
 use Rattle.av_nbt.proofs.Written.{tags_fit}
 use Rattle.av_nbt.proofs.writer.encode.Goals as goal

@@ -1,8 +1,8 @@
 use Rattle.std.proofs.Common.{◌∷◌, ◌++◌, [], ap, ◌∙◌, append_assoc, subst}
-use Rattle.av_nbt.specs.declared.tag.TagType.TheVariants.{Compound}
-use Rattle.av_nbt.specs.TagTypes.{type_number}
-use Rattle.av_nbt.specs.Nbt.{members_of}
-use Rattle.av_nbt.specs.View.{named_views}
+use Rattle.av_tags.specs.declared.tag.TagType.TheVariants.{Compound}
+use Rattle.av_tags.specs.TagTypes.{type_number}
+use Rattle.av_tags.specs.Nbt.{members_of}
+use Rattle.av_tags.specs.View.{named_views}
 use Rattle.av_nbt.specs.Appending.{Writes}
 use Rattle.av_nbt.specs.Writing.{text_bytes, written_members}
 use Rattle.av_nbt.proofs.Loops.{writes_after}

@@ -1,5 +1,5 @@
 use Rattle.std.proofs.Common.{refl, sym, subst, ℕ, List, All, Bor}
-use Rattle.av_program.specs.Skipping.{IsSkipped}
+use Rattle.av_requests.specs.Skipping.{IsSkipped}
 use Rattle.av_program.specs.Running.{run_by, run_dry_by}
 use Rattle.av_program.proofs.program.run_asked.Goals as goal
 

@@ -1,10 +1,11 @@
 use Rattle.std.proofs.Common.{ℕ, List, Option, Result}
 use Rattle.av_sink.specs.Account.{Account}
 use Rattle.av_commands.specs.declared.failure.Failure.{Failure}
-use Rattle.av_run.specs.declared.checked.Ran.{Ran}
-use Rattle.av_run.specs.declared.checked.Ran.TheVariants.{Done, Uncovered}
-use Rattle.av_program.specs.declared.running.Request.{Request}
-use Rattle.av_program.specs.RunCommand.{HasReported, HasRunOver, HasRunRegions, read, unread, stopped_at, ran_all, not_run, not_written}
+use Rattle.av_answers.specs.declared.answers.Ran.{Ran}
+use Rattle.av_answers.specs.declared.answers.Ran.TheVariants.{Done, Uncovered}
+use Rattle.av_requests.specs.declared.requests.Request.{Request}
+use Rattle.av_outcomes.specs.Telling.{HasReported}
+use Rattle.av_program.specs.RunCommand.{HasRunOver, HasRunRegions, read, unread, stopped_at, ran_all, not_run, not_written}
 use Rattle.av_program.proofs.program.run_regions.Goals as goal
 
 regions : (q : Request) (old new : Account) (r : Result Ran Failure) (before after : Option (List ℕ)) (status : ℕ) → HasRunOver q old new r

@@ -1,9 +1,9 @@
 use Rattle.std.proofs.Common.{◌≡◌, ℕ, Bool, List, subst, map, Result}
 use Rattle.av_types.specs.declared.fault.Fault.{Fault}
 use Rattle.av_files.specs.Files.{File}
-use Rattle.av_image.specs.Views.{file_in}
-use Rattle.av_run.specs.Checked.{IsCheckedAnswer}
-use Rattle.av_run.specs.declared.checked.Ran.{Ran}
+use Rattle.av_files.specs.Files.{file_in}
+use Rattle.av_answers.specs.Checked.{IsCheckedAnswer}
+use Rattle.av_answers.specs.declared.answers.Ran.{Ran}
 use Rattle.av_program.proofs.running.run_inputs.Goals as goal
 
 -- of the texts that were read

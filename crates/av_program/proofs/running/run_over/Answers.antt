@@ -3,10 +3,11 @@ use Rattle.std.proofs.lemmas.Result.{err_from_is_err_and}
 use Rattle.av_types.specs.declared.fault.Fault.{Fault}
 use Rattle.av_sink.specs.Account.{Account}
 use Rattle.av_commands.specs.declared.failure.Failure.{Failure}
-use Rattle.av_run.specs.declared.checked.Ran.{Ran}
-use Rattle.av_program.specs.declared.running.Inputs.{Inputs}
-use Rattle.av_program.specs.declared.running.Request.{Request}
-use Rattle.av_program.specs.RunCommand.{HasRunInto, HasRunOver, IsNotHandedOver, ran, refused, stopped, read, unread, stopped_at}
+use Rattle.av_answers.specs.declared.answers.Ran.{Ran}
+use Rattle.av_requests.specs.declared.requests.Inputs.{Inputs}
+use Rattle.av_requests.specs.declared.requests.Request.{Request}
+use Rattle.av_outcomes.specs.Handing.{IsNotHandedOver}
+use Rattle.av_program.specs.RunCommand.{HasRunInto, HasRunOver, ran, refused, stopped, read, unread, stopped_at}
 use Rattle.av_program.proofs.running.run_over.Goals as goal
 
 -- the answer of a run, whose fault is passed on as a failure

@@ -1,6 +1,6 @@
 use Rattle.std.proofs.Common.{[], sym}
 use Rattle.std.proofs.lemmas.List.{append-nil}
-use Rattle.av_nbt.specs.View.{document}
+use Rattle.av_tags.specs.View.{document}
 use Rattle.av_state.specs.Table.{states}
 use Rattle.av_chunk.specs.Reading.{IsLoaded}
 use Rattle.av_rewrite.specs.Rewriting.{place_at}

@@ -3,7 +3,7 @@ use Rattle.av_state.specs.States.{state_of}
 use Rattle.av_state.specs.Table.{states}
 use Rattle.av_rules.specs.Rows.{has_row}
 use Rattle.av_rules.specs.Tables.{table_of}
-use Rattle.av_run.specs.Checked.{without_row}
+use Rattle.av_answers.specs.Checked.{without_row}
 use Rattle.av_run.proofs.Uncovered.{counted_more, flag-is, one-le}
 use Rattle.av_run.proofs.checked.count_without_row.Goals as goal
 

@@ -1,7 +1,7 @@
 use Rattle.std.proofs.Common.{◌≡◌, ◌≤◌, take}
 use Rattle.av_state.specs.Table.{states}
 use Rattle.av_rules.specs.Tables.{table_of}
-use Rattle.av_run.specs.Checked.{without_row}
+use Rattle.av_answers.specs.Checked.{without_row}
 use Rattle.av_run.proofs.checked.count_without_row.Given as goal
 
 abbrev pub invariant-loop-number : goal.invariant-loop-number

@@ -1,8 +1,8 @@
 use Rattle.std.proofs.Common.{Err, map, false, true≢false, sym}
 use Rattle.std.proofs.lemmas.Result.{err_from_is_err_and}
 use Rattle.av_image.specs.Views.{file_in}
-use Rattle.av_run.specs.Answer.{IsRunAnswer}
-use Rattle.av_run.specs.Checked.{IsDone, IsUncovered}
+use Rattle.av_answers.specs.Answer.{IsRunAnswer}
+use Rattle.av_answers.specs.Checked.{IsDone, IsUncovered}
 use Rattle.av_run.proofs.checked.run.Goals as goal
 
 pub returns-in_err-outcome : goal.returns-in_err-outcome

@@ -4,7 +4,7 @@ use Rattle.av_types.specs.declared.fault.Fault.TheVariants.{BadCount}
 use Rattle.av_files.specs.FirstFault.{AreCountsGood, counts}
 use Rattle.av_files.specs.Headline.{input}
 use Rattle.av_image.specs.Views.{file_in}
-use Rattle.av_run.specs.Answer.{IsRunAnswer}
+use Rattle.av_answers.specs.Answer.{IsRunAnswer}
 use Rattle.av_run.proofs.Inputs.{can_run}
 use Rattle.av_run.proofs.Answered.{is_refusal, is_answer}
 use Rattle.av_run.proofs.Uncovered.{uncovered_answer, not_refused}

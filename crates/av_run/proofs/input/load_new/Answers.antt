@@ -7,7 +7,7 @@ use Rattle.av_image.specs.Views.{file_in}
 use Rattle.av_run.proofs.input.load_new.Goals as goal
 
 pub returns-in_err-world-clause-err : goal.returns-in_err-world-clause-err
-returns-in_err-world-clause-err c =
+returns-in_err-world-clause-err g c =
     let e = c.in_err-world.field-0.0 in
     let files = map file_in c.args.files.items in
     let h : e ≢ OutOfMemory → IsFilesFault c.args.rules.now.height files e =

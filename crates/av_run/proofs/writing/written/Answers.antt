@@ -12,8 +12,8 @@ if_ok_both : {T E : Type 0} (r : Result T E) {P Q : T → Type 0} {A : Type 0} �
 if_ok_both (Ok x) p a f = f x p a
 if_ok_both (Err e) p a f = tt
 
-pub save_on-requires-clause-can : goal.save_on-requires-clause-can
-save_on-requires-clause-can g c =
+pub save-requires-clause-can : goal.save-requires-clause-can
+save-requires-clause-can g c =
     let w = c.args.world.now in
     let k = c.args.kinds.now in
     let zip = subst (λ (ls : List ChunkLight). AllZip (IsChunkLight k (blocks w) (height_of w)) (positions_of w) ls) (sym c.as_slice.ensures.value) c.in_ok-lights.ensures.each in
@@ -25,7 +25,7 @@ returns-clause-ok g c =
     let k = c.args.kinds.now in
     let ls = c.as_slice.result.now in
     let zip = subst (λ (ls : List ChunkLight). AllZip (IsChunkLight k (blocks w) (height_of w)) (positions_of w) ls) (sym c.as_slice.ensures.value) c.in_ok-lights.ensures.each in
-    if_ok_both c.save_on.result c.save_on.ensures.ok c.save_on.ensures.fits
+    if_ok_both c.save.result c.save.ensures.ok c.save.ensures.fits
     (λ files is fits t made. is_written t k w made c.requires.whole c.requires.good.numbers ls zip c.args.rest.now c.args.ticks (map file_in files.items) is fits)
 
 pub returns-clause-err : goal.returns-clause-err
@@ -34,5 +34,5 @@ returns-clause-err g c =
     let k = c.args.kinds.now in
     let ls = c.as_slice.result.now in
     let zip = subst (λ (ls : List ChunkLight). AllZip (IsChunkLight k (blocks w) (height_of w)) (positions_of w) ls) (sym c.as_slice.ensures.value) c.in_ok-lights.ensures.each in
-    if_err_then c.save_on.result c.save_on.ensures.err
+    if_err_then c.save.result c.save.ensures.err
     (λ e bad other t made. is_not_written t k w made c.requires.whole c.requires.good.numbers ls zip c.args.rest.now c.args.ticks e c.requires.sound (bad other))

@@ -2,8 +2,8 @@
 use Rattle.std.proofs.Common.{◌≡◌, sym, subst, length, map, arith, None, option_map}
 use Rattle.std.specs.Option.{option_copied}
 use Rattle.std.proofs.lemmas.List.{length-map}
-use Rattle.av_nbt.specs.View.{view}
-use Rattle.av_nbt.proofs.Each.{each_many}
+use Rattle.av_tags.specs.View.{view}
+use Rattle.av_tags.proofs.Each.{each_many}
 use Rattle.av_state.specs.States.{state_of}
 use Rattle.av_section.specs.BlockStates.{indices_of}
 use Rattle.av_section.specs.Palette.{state_in}

@@ -1,6 +1,6 @@
 -- One more entry.
 use Rattle.std.proofs.Common.{◌∙◌, ap, ◌+◌, subst, IfSome, length-append, ◌∷◌, []}
-use Rattle.av_nbt.specs.View.{view}
+use Rattle.av_tags.specs.View.{view}
 use Rattle.av_state.specs.Table.{states}
 use Rattle.av_section.specs.Palette.{state_in}
 use Rattle.av_section.specs.Known.{IsKnown}

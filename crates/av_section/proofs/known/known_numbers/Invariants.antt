@@ -1,7 +1,7 @@
 -- The numbers of the entries that came.
 use Rattle.std.proofs.Common.{◌≡◌, length, take}
-use Rattle.av_nbt.specs.Shape.{each}
-use Rattle.av_nbt.specs.View.{views}
+use Rattle.av_tags.specs.Shape.{each}
+use Rattle.av_tags.specs.View.{views}
 use Rattle.av_state.specs.Table.{states}
 use Rattle.av_section.specs.Palette.{state_in}
 use Rattle.av_section.specs.Known.{AreKnown}

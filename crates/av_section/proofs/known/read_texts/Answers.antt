@@ -1,8 +1,8 @@
 -- One more property.
 use Rattle.std.proofs.Common.{◌∙◌, sym, ap}
 use Rattle.std.proofs.lemmas.List.{map-append}
-use Rattle.av_nbt.specs.View.{named_view}
-use Rattle.av_nbt.proofs.Each.{each_more}
+use Rattle.av_tags.specs.View.{named_view}
+use Rattle.av_tags.proofs.Each.{each_more}
 use Rattle.av_state.specs.Texts.{property_told, properties_told}
 use Rattle.av_section.specs.Palette.{property_in}
 use Rattle.av_section.proofs.known.read_texts.Goals as goal

@@ -1,6 +1,6 @@
 -- What the tags describe is known.
 use Rattle.std.proofs.Common.{◌∙◌, sym, ap}
-use Rattle.av_nbt.specs.View.{view, named_views}
+use Rattle.av_tags.specs.View.{view, named_views}
 use Rattle.av_state.specs.Table.{states}
 use Rattle.av_state.specs.Texts.{properties_told}
 use Rattle.av_section.specs.Palette.{properties_in}

@@ -3,7 +3,7 @@ use Rattle.std.proofs.Common.{◌∙◌, sym, ap, is_some}
 use Rattle.av_state.specs.BlockState.{meant}
 use Rattle.av_state.specs.States.{state_of}
 use Rattle.av_section.proofs.numbering.have_forms.Goals as goal
-use Rattle.av_nbt.proofs.Each.{list_all_fails}
+use Rattle.av_tags.proofs.Each.{list_all_fails}
 
 pub returns-then-not-has_form : goal.returns-then-not-has_form
 returns-then-not-has_form c =

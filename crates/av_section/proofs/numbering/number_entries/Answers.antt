@@ -1,7 +1,7 @@
 -- There are as many numbers as entries.
 use Rattle.std.proofs.Common.{ap, length, arith}
-use Rattle.av_nbt.specs.View.{view}
-use Rattle.av_nbt.proofs.Each.{each_many}
+use Rattle.av_tags.specs.View.{view}
+use Rattle.av_tags.proofs.Each.{each_many}
 use Rattle.av_state.specs.States.{state_of}
 use Rattle.av_section.specs.Palette.{state_in}
 use Rattle.av_section.proofs.numbering.number_entries.Goals as goal

@@ -7,7 +7,7 @@ use Rattle.av_state.specs.States.{state_of}
 use Rattle.av_state.specs.Table.{states}
 use Rattle.av_section.proofs.Numbers.{numbered_more, too_many, no_form, no_forms, grows_by, not_numbered}
 use Rattle.av_section.proofs.numbering.number_states.Goals as goal
-use Rattle.av_nbt.proofs.Each.{length-each}
+use Rattle.av_tags.proofs.Each.{length-each}
 
 pub returns-then-not-have_forms-clause-err : goal.returns-then-not-have_forms-clause-err
 returns-then-not-have_forms-clause-err c = no_forms (map state_of c.args.entries.now) c.have_forms.result c.have_forms.ensures c.if-not-have_forms.true

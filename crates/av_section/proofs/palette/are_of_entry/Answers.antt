@@ -1,9 +1,9 @@
 -- A tag that is none of an entry.
 use Rattle.std.proofs.Common.{◌∙◌, sym, ap}
-use Rattle.av_nbt.specs.View.{named_view}
+use Rattle.av_tags.specs.View.{named_view}
 use Rattle.av_section.specs.Palette.{is_of_entry}
 use Rattle.av_section.proofs.palette.are_of_entry.Goals as goal
-use Rattle.av_nbt.proofs.Each.{list_all_fails}
+use Rattle.av_tags.proofs.Each.{list_all_fails}
 
 pub returns-then-not-is_of_entry : goal.returns-then-not-is_of_entry
 returns-then-not-is_of_entry c =

@@ -1,7 +1,7 @@
 -- Each tag that came is one of an entry.
 use Rattle.std.proofs.Common.{◌≡◌, true, take}
 use Rattle.std.specs.List.{list_all}
-use Rattle.av_nbt.specs.View.{named_views}
+use Rattle.av_tags.specs.View.{named_views}
 use Rattle.av_section.specs.Palette.{is_of_entry}
 use Rattle.av_section.proofs.palette.are_of_entry.Given as goal
 

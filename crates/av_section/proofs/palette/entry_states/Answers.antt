@@ -2,12 +2,12 @@
 use Rattle.std.proofs.Common.{◌∙◌, sym, ap, map}
 use Rattle.std.proofs.lemmas.List.{map-append}
 use Rattle.std.proofs.lemmas.Result.{err_from_is_err_and}
-use Rattle.av_nbt.specs.View.{view}
+use Rattle.av_tags.specs.View.{view}
 use Rattle.av_state.specs.States.{state_of}
 use Rattle.av_section.specs.Palette.{state_in}
 use Rattle.av_section.proofs.Refusals.{IsNoPalette-whole}
 use Rattle.av_section.proofs.palette.entry_states.Goals as goal
-use Rattle.av_nbt.proofs.Each.{each_more, each_none}
+use Rattle.av_tags.proofs.Each.{each_more, each_none}
 
 pub returns-in_err-state-clause-err : goal.returns-in_err-state-clause-err
 returns-in_err-state-clause-err c =

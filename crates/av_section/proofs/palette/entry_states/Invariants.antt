@@ -1,7 +1,7 @@
 -- The states of the entries that came.
 use Rattle.std.proofs.Common.{◌≡◌, Some, take, map}
-use Rattle.av_nbt.specs.Shape.{each}
-use Rattle.av_nbt.specs.View.{views}
+use Rattle.av_tags.specs.Shape.{each}
+use Rattle.av_tags.specs.View.{views}
 use Rattle.av_state.specs.States.{state_of}
 use Rattle.av_section.specs.Palette.{state_in}
 use Rattle.av_section.proofs.palette.entry_states.Given as goal

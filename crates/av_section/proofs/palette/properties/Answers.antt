@@ -2,12 +2,12 @@
 use Rattle.std.proofs.Common.{◌∙◌, sym, ap}
 use Rattle.std.proofs.lemmas.List.{map-append}
 use Rattle.std.proofs.lemmas.Result.{err_from_is_err_and}
-use Rattle.av_nbt.specs.View.{named_view}
+use Rattle.av_tags.specs.View.{named_view}
 use Rattle.av_state.specs.Views.{property_of, properties_of}
 use Rattle.av_section.specs.Palette.{property_in}
 use Rattle.av_section.proofs.Refusals.{IsNoPalette-whole}
 use Rattle.av_section.proofs.palette.properties.Goals as goal
-use Rattle.av_nbt.proofs.Each.{each_more, each_none}
+use Rattle.av_tags.proofs.Each.{each_more, each_none}
 
 pub returns-in_err-property-clause-err : goal.returns-in_err-property-clause-err
 returns-in_err-property-clause-err c =

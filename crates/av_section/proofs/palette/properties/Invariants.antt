@@ -1,7 +1,7 @@
 -- The properties of the tags that came.
 use Rattle.std.proofs.Common.{◌≡◌, Some, take}
-use Rattle.av_nbt.specs.Shape.{each}
-use Rattle.av_nbt.specs.View.{named_views}
+use Rattle.av_tags.specs.Shape.{each}
+use Rattle.av_tags.specs.View.{named_views}
 use Rattle.av_state.specs.Views.{properties_of}
 use Rattle.av_section.specs.Palette.{property_in}
 use Rattle.av_section.proofs.palette.properties.Given as goal

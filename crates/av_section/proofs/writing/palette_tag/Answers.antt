@@ -1,8 +1,8 @@
 -- The entries, as a List of Compounds.
 use Rattle.std.proofs.Common.{◌∙◌, sym, ap}
 use Rattle.std.specs.Prelude.{slice_index_or}
-use Rattle.av_nbt.specs.declared.tag.TagType.TheVariants as tag_type
-use Rattle.av_nbt.specs.Nbt.{list, items_of}
+use Rattle.av_tags.specs.declared.tag.TagType.TheVariants as tag_type
+use Rattle.av_tags.specs.Nbt.{list, items_of}
 use Rattle.av_state.specs.BlockState.{air}
 use Rattle.av_state.specs.Table.{states}
 use Rattle.av_section.specs.Palette.{state_tag}

@@ -1,7 +1,7 @@
 -- The tags of the numbers that came.
 use Rattle.std.proofs.Common.{◌≡◌, map, take}
 use Rattle.std.specs.Prelude.{slice_index_or}
-use Rattle.av_nbt.specs.View.{views}
+use Rattle.av_tags.specs.View.{views}
 use Rattle.av_state.specs.BlockState.{air}
 use Rattle.av_state.specs.Table.{states}
 use Rattle.av_section.specs.Palette.{state_tag}

@@ -1,6 +1,6 @@
 use Rattle.std.proofs.Common.{[], ◌≡◌, Ok, Err, true, false, refl, sym, ◌∙◌, ap, rules, codes, option_map}
-use Rattle.av_nbt.specs.Place.{tag_of, blank, emptied}
-use Rattle.av_nbt.specs.View.{view, views, named_views, document}
+use Rattle.av_tags.specs.Place.{tag_of, blank, emptied}
+use Rattle.av_tags.specs.View.{view, views, named_views, document}
 use Rattle.av_state.specs.Table.{states}
 use Rattle.av_document.specs.Chunk.{sections, ticks, root_tags}
 use Rattle.av_document.proofs.Tags.{tag_of-place_other}

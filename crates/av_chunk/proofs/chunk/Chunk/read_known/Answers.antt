@@ -3,9 +3,9 @@ use Rattle.std.proofs.Common.{[], List, ◌≡◌, Option, Some, Result, Ok, tru
 use Rattle.av_types.specs.declared.place.ChunkPos.{ChunkPos}
 use Rattle.av_types.specs.declared.place.Height.{Height}
 use Rattle.av_types.specs.declared.fault.Fault.{Fault}
-use Rattle.av_nbt.specs.Nbt.{NamedTag}
-use Rattle.av_nbt.specs.Place.{tag_of, blank, emptied}
-use Rattle.av_nbt.specs.View.{view, views, named_views, document}
+use Rattle.av_tags.specs.Nbt.{NamedTag}
+use Rattle.av_tags.specs.Place.{tag_of, blank, emptied}
+use Rattle.av_tags.specs.View.{view, views, named_views, document}
 use Rattle.av_state.specs.Table.{states}
 use Rattle.av_document.specs.Chunk.{sections, ticks}
 use Rattle.av_document.proofs.Tags.{tag_of-place_other}

@@ -1,6 +1,6 @@
 use Rattle.std.proofs.Common.{◌≡◌, sym, ◌∙◌, ap, subst}
-use Rattle.av_nbt.specs.Nbt.{Document, members_of}
-use Rattle.av_nbt.specs.View.{view, views, named_views}
+use Rattle.av_tags.specs.Nbt.{Document, members_of}
+use Rattle.av_tags.specs.View.{view, views, named_views}
 use Rattle.av_nbt.specs.Writing.{IsWellFormed}
 use Rattle.av_chunk.specs.Writing.{DenotesSooner, written}
 use Rattle.av_chunk.proofs.Rewriting.{written-well_formed, written-denotes}

@@ -1,4 +1,4 @@
-use Rattle.av_nbt.specs.View.{document}
+use Rattle.av_tags.specs.View.{document}
 use Rattle.av_state.specs.StateList.{first_states}
 use Rattle.av_state.specs.Table.{states}
 use Rattle.av_chunk.specs.Reading.{IsLoaded}

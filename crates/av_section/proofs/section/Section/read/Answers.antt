@@ -4,8 +4,8 @@ use Rattle.std.proofs.lemmas.List.{length-map}
 use Rattle.std.proofs.lemmas.Result.{err_from_is_err_and}
 use Rattle.std.specs.Option.{option_copied}
 use Rattle.std.specs.Prelude.{option_map}
-use Rattle.av_nbt.specs.View.{view, views}
-use Rattle.av_nbt.proofs.Each.{length-each}
+use Rattle.av_tags.specs.View.{view, views}
+use Rattle.av_tags.proofs.Each.{length-each}
 use Rattle.av_state.specs.Table.{states}
 use Rattle.av_section.specs.Palette.{state_in}
 use Rattle.av_section.specs.Known.{AreOfPalette, AreNotOfPalette}

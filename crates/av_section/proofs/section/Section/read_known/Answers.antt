@@ -2,8 +2,8 @@
 use Rattle.std.proofs.Common.{sym, subst, IfSome}
 use Rattle.std.specs.Option.{option_copied}
 use Rattle.std.specs.Prelude.{option_map}
-use Rattle.av_nbt.specs.View.{view, views}
-use Rattle.av_nbt.specs.Shape.{each}
+use Rattle.av_tags.specs.View.{view, views}
+use Rattle.av_tags.specs.Shape.{each}
 use Rattle.av_state.specs.Table.{states}
 use Rattle.av_section.specs.Palette.{state_in}
 use Rattle.av_section.specs.Known.{AreKnown}

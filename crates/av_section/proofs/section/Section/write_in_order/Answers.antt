@@ -2,7 +2,7 @@
 use Rattle.std.proofs.Common.{◌<◌, ◌∙◌, sym, ap, length, map, arith, if◌then◌else◌, Some, None}
 use Rattle.std.specs.Prelude.{slice_index_or}
 use Rattle.std.proofs.lemmas.Bool.{lt-ltb}
-use Rattle.av_nbt.specs.Nbt.{long_array}
+use Rattle.av_tags.specs.Nbt.{long_array}
 use Rattle.av_pack.specs.Packing.{bits_for, packed, unpacked}
 use Rattle.av_state.specs.BlockState.{air}
 use Rattle.av_state.specs.Table.{states}

@@ -1,0 +1,22 @@
+use Rattle.std.proofs.Common.{sym, subst}
+use Rattle.std.specs.List.{All}
+use Rattle.std.proofs.Crossing.{crosses}
+use denote.Param.Send.{sendable}
+use Rattle.av_image.proofs.Crossings.{world_sync, region_sync}
+use Rattle.av_image.specs.Making.{IsTaken}
+use Rattle.av_image.proofs.Placing.{all_given}
+use Rattle.av_image.proofs.writing.dealt.payloads_by.Goals as goal
+
+pub map-requires-send-F : goal.map-requires-send-F
+map-requires-send-F g c κs within = search (sendable, crosses, world_sync, region_sync) depth 60 fits 20000
+
+pub map-requires-sync-F : goal.map-requires-sync-F
+map-requires-sync-F g c κs within = search (sendable, crosses, world_sync, region_sync) depth 60 fits 20000
+
+pub collect-requires-send-Self : goal.collect-requires-send-Self
+collect-requires-send-Self g c κs within = search (sendable, crosses, world_sync, region_sync) depth 60 fits 20000
+
+pub gathered-requires : goal.gathered-requires
+gathered-requires g c =
+    let h = c.in_ok-taken.ensures {u = tt} in
+    subst (All (IsTaken c.args.job.now)) (sym h.2) (all_given _ (IsTaken c.args.job.now) (λ x y a. rw c.map.ensures.f at a) h.1.0 h.0 h.1.2)

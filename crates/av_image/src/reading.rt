@@ -1,0 +1,7 @@
+//! Region files, read as a world and a rest.
+mod ahead;
+mod batch;
+pub(crate) mod loading;
+pub(crate) mod places;
+pub(crate) mod regions;
+mod splits;

@@ -1,7 +1,0 @@
-use Rattle.std.proofs.Common.{◌≡◌, drop}
-use Rattle.av_nbt.specs.View.{named_views}
-use Rattle.av_nbt.specs.Place.{tag_of}
-use Rattle.av_nbt.proofs.members.find.Given as goal
-
-abbrev pub invariant-loop-named : goal.invariant-loop-named
-invariant-loop-named l = tag_of l.name (named_views (drop l.named-index l.tags)) ≡ tag_of l.name (named_views l.tags)

@@ -1,5 +1,0 @@
-use Rattle.std.proofs.Common.{rules}
-use Rattle.av_nbt.proofs.members.put.Goals as goal
-
-pub returns-clause-placed : goal.returns-clause-placed
-returns-clause-placed c = search rules

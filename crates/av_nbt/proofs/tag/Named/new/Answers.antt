@@ -1,7 +1,0 @@
-use Rattle.av_nbt.specs.Nbt.{Nbt, NamedTag}
-use Rattle.av_nbt.specs.View.{view_step, named_step}
-use Rattle.av_nbt.specs.declared.tag.Tag.TheFolds.{fold_out-Named}
-use Rattle.av_nbt.proofs.tag.Named.new.Goals as goal
-
-pub returns : goal.returns
-returns c = fold_out-Named Nbt NamedTag view_step named_step _

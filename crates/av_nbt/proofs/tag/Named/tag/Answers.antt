@@ -1,6 +1,0 @@
-use Rattle.std.proofs.Common.{sym}
-use Rattle.av_nbt.proofs.Views.{tag_in_view}
-use Rattle.av_nbt.proofs.tag.Named.tag.Goals as goal
-
-pub returns : goal.returns
-returns c = sym (tag_in_view c.args.self.now)

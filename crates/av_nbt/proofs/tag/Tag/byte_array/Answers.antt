@@ -1,5 +1,0 @@
-use Rattle.av_nbt.proofs.Views.{view_byte_array}
-use Rattle.av_nbt.proofs.tag.Tag.byte_array.Goals as goal
-
-pub returns : goal.returns
-returns c = view_byte_array c.args.bytes

@@ -1,5 +1,0 @@
-use Rattle.av_nbt.proofs.Views.{view_compound}
-use Rattle.av_nbt.proofs.tag.Tag.compound.Goals as goal
-
-pub returns : goal.returns
-returns c = view_compound c.args.tags

@@ -1,5 +1,0 @@
-use Rattle.av_nbt.proofs.Views.{view_list}
-use Rattle.av_nbt.proofs.tag.Tag.list.Goals as goal
-
-pub returns : goal.returns
-returns c = view_list c.args.tag_type c.args.items

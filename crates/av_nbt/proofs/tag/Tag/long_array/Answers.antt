@@ -1,5 +1,0 @@
-use Rattle.av_nbt.proofs.Views.{view_long_array}
-use Rattle.av_nbt.proofs.tag.Tag.long_array.Goals as goal
-
-pub returns : goal.returns
-returns c = view_long_array c.args.numbers

@@ -1,8 +1,0 @@
-use Rattle.std.proofs.Common.{ap, sym, ◌∙◌}
-use Rattle.av_nbt.specs.Nbt.{tag_type_of}
-use Rattle.av_nbt.specs.View.{view}
-use Rattle.av_nbt.proofs.Views.{view_int_array}
-use Rattle.av_nbt.proofs.tag.Tag.tag_type.Goals as goal
-
-pub returns-in-IntArray : goal.returns-in-IntArray
-returns-in-IntArray c = sym (ap tag_type_of (ap view c.in-IntArray.is ∙ view_int_array c.in-IntArray.field-0))

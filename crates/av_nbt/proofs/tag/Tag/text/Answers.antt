@@ -1,5 +1,0 @@
-use Rattle.av_nbt.proofs.Views.{view_text}
-use Rattle.av_nbt.proofs.tag.Tag.text.Goals as goal
-
-pub returns : goal.returns
-returns c = view_text c.args.characters

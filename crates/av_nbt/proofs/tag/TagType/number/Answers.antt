@@ -1,5 +1,0 @@
-use Rattle.std.proofs.Common.{rules}
-use Rattle.av_nbt.proofs.tag.TagType.number.Goals as goal
-
-pub returns : goal.returns
-returns c = search rules

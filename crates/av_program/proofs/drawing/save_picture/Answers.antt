@@ -1,4 +1,0 @@
-use Rattle.av_program.proofs.drawing.save_picture.Goals as goal
-
-pub returns-clause-ok : goal.returns-clause-ok
-returns-clause-ok g c = rw c.in_ok-bytes.ensures at (rw c.as_slice.ensures.value at c.save.ensures.ok)

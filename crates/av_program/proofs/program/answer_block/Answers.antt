@@ -1,5 +1,0 @@
-use Rattle.av_program.specs.Running.{answered}
-use Rattle.av_program.proofs.program.answer_block.Goals as goal
-
-pub returns-in-Ok-clause-ran : goal.returns-in-Ok-clause-ran
-returns-in-Ok-clause-ran g c = answered c.as_slice.result.now c.in-Ok.height c.in-Ok.ensures.height c.block_text.ensures

@@ -1,0 +1,4 @@
+pub mod BlockCommand
+pub mod CheckCommand
+pub mod MapCommand
+pub mod StatesCommand

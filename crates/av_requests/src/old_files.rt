@@ -1,0 +1,74 @@
+//! The files of a folder beside those that would take their places.
+ghost use Rattle.std.specs.Prelude.{IfOk, List, Option, ℕ};
+ghost use Rattle.av_changes.specs.Changes.{AreChangesOf};
+
+use av_changes::{Change, add_change};
+use av_commands::failure::Failure;
+use av_region_files::{RegionFile, region_name};
+use av_types::RegionPos;
+use std::alloc::{AllocError, Global};
+use std::fs;
+use std::io::{self, ErrorKind};
+use std::path::Path;
+use std::rt::Files;
+
+/// The path of a region's file in a folder.
+fn path_of(alloc: Global, folder: &str, region: RegionPos) -> Result<String, AllocError> {
+    let name = region_name(alloc, region)?;
+    Ok(Path::new(folder).join(alloc, name.as_str())?.into_string())
+}
+
+/// The bytes of a file, where it is there. What is neither a file nor a folder is not opened, since that might never return.
+fn read_present<R: Files + AllocGlobal>(rt: &R, path: &str) -> io::Result<Option<Vec<u8>>> {
+    let found = match fs::metadata(rt, path) {
+        Ok(found) => found,
+        Err(error) if error.kind() == ErrorKind::NotFound => return Ok(None),
+        Err(error) => return Err(error),
+    };
+    if found.is_file() || found.is_dir() {
+        return Ok(Some(fs::read(rt, path)?));
+    }
+    Err(io::Error::new(ErrorKind::InvalidInput, "neither a file nor a folder"))
+}
+
+/// The bytes of a region's file of a folder, where it is there.
+fn read_old<R: Files + AllocGlobal>(
+    rt: &R,
+    folder: &str,
+    region: RegionPos,
+) -> Result<Option<Vec<u8>>, Failure> {
+    let path = path_of(rt.alloc(), folder, region)?;
+    match read_present(rt, path.as_str()) {
+        Ok(bytes) => Ok(bytes),
+        Err(error) => {
+            let name = region_name(rt.alloc(), region)?;
+            Err(Failure::of_device(rt.alloc(), error, name.as_str(), path.as_str()))
+        }
+    }
+}
+
+/// What files would change in a folder, in their order.
+pub fn changes_in<R: Files + AllocGlobal>(
+    rt: &R,
+    folder: &str,
+    files: &[RegionFile],
+) -> Result<Vec<Change>, Failure>
+    ensures { IfOk result (λ changes. (olds : List (Option (List ℕ))) × AreChangesOf files.now olds changes.items) }
+{
+    let mut changes = Vec::new(rt.alloc());
+    for file in files {
+        let old = read_old(rt, folder, file.pos)?;
+        add_change(rt.alloc(), &mut changes, file, old.as_deref())?;
+    }
+    Ok(changes)
+}
+
+/// Looks whether a folder is there.
+pub fn look_for<R: Files + AllocGlobal>(rt: &R, folder: &str) -> Result<(), Failure> {
+    let error = match fs::metadata(rt, folder) {
+        Ok(found) if found.is_dir() => return Ok(()),
+        Ok(_) => ErrorKind::NotADirectory.into(),
+        Err(error) => error,
+    };
+    Err(Failure::of_device(rt.alloc(), error, folder, folder))
+}

@@ -1,0 +1,8 @@
+use Rattle.std.proofs.Common.{ap, sym, ◌∙◌}
+use Rattle.av_tags.specs.Shape.{longs_of}
+use Rattle.av_tags.specs.View.{view}
+use Rattle.av_tags.proofs.Views.{view_long_array}
+use Rattle.av_tags.proofs.tag.Tag.into_longs.Goals as goal
+
+pub returns-in-LongArray : goal.returns-in-LongArray
+returns-in-LongArray c = sym (ap longs_of (ap view c.in-LongArray.is ∙ view_long_array c.in-LongArray.longs))

@@ -1,0 +1,5 @@
+pub mod TagTypes
+pub mod Nbt
+pub mod View
+pub mod Place
+pub mod Shape
