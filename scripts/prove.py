@@ -6,7 +6,7 @@
 Each job is an `rt lib`, in a copy of the tree of its own, since two of them in one tree wait for each other where they stand on the
 same crates. What a job has built goes to the tree itself, and from there to the copies that need it, so that no crate is proved twice.
 A crate is begun when those that it stands on are proved, first the one that most is left to prove above. That one is proved by as many
-processes as rt chooses, and those beside it by one each. COMMAND is run in the crate's own folder when all are proved; without one, `rt check`.
+processes as rt chooses, and those beside it by one each, or by more where processors would have nothing to do. COMMAND is run in the crate's own folder when all are proved; without one, `rt check`.
 
 Lines on standard error say which crates are being proved, how many are done and about how long it will still take. Status: that of
 the command; 1 where a check failed before, which then tells what it printed; 2 where other words are needed.
@@ -16,6 +16,7 @@ import concurrent.futures
 import functools
 import os
 import pathlib
+import re
 import shutil
 import signal
 import subprocess
@@ -27,6 +28,8 @@ import time
 TOP = pathlib.Path(__file__).resolve().parent.parent
 # A check works on two processors for part of its time, so there is one job for each processor, and each wants some 2 GB.
 MEMORY_OF_A_JOB = 3 << 30
+# With so many functions below, a function takes twice the time of one that has none below.
+FUNCTIONS_BELOW = 300
 
 
 def crates():
@@ -51,12 +54,15 @@ def closure(name, below):
     return found
 
 
-def sizes(names):
-    """The bytes of each crate's sources, definitions and proofs: about what its check takes."""
-    return {
-        name: sum(file.stat().st_size for kind in ("rt", "antt") for file in (TOP / "crates" / name).rglob("*." + kind))
-        for name in names
-    }
+def functions(name):
+    """How many functions a crate has."""
+    return sum(len(re.findall(r"\bfn ", file.read_text())) for file in (TOP / "crates" / name / "src").rglob("*.rt"))
+
+
+def sizes(names, below):
+    """About what the check of each crate takes: its functions, and each the longer the more functions stand below."""
+    counts = {name: functions(name) for name in names}
+    return {name: counts[name] * (FUNCTIONS_BELOW + sum(counts[other] for other in closure(name, below) - {name})) for name in names}
 
 
 def heights(names, below, size):
@@ -118,12 +124,12 @@ class Trees:
                 hand_on(built(TOP, other), built(tree, other), link)
         hand_on(built(TOP, name), built(tree, name), shutil.copy2)
 
-    def check(self, name, is_awaited):
-        """Proves a crate in a copy that is free. One that is not awaited is proved by one process."""
+    def check(self, name, processes):
+        """Proves a crate in a copy that is free, by so many processes, or as many as rt chooses."""
         with self.lock:
             tree = self.free.pop()
         self.prepare(tree, name)
-        command = ["rt", "lib"] if is_awaited else ["rt", "lib", "--jobs", "1"]
+        command = ["rt", "lib"] + (["--jobs", str(processes)] if processes else [])
         started = subprocess.Popen(
             command, cwd=tree / "crates" / name, stdin=subprocess.DEVNULL, stdout=subprocess.PIPE, stderr=subprocess.STDOUT,
             start_new_session=True)
@@ -163,7 +169,7 @@ def say(done, size, running, begun):
 
 def prove(names, below, jobs, last):
     """Proves crates, each after those that it stands on, and then answers the last step."""
-    size = sizes(names)
+    size = sizes(names, below)
     height = heights(names, below, size)
     done, running, begun = set(), {}, time.monotonic()
     with tempfile.TemporaryDirectory(prefix="anvilwater-") as folder, concurrent.futures.ThreadPoolExecutor(jobs) as pool:
@@ -173,8 +179,10 @@ def prove(names, below, jobs, last):
                 ready = [name for name in names - done - set(running.values()) if done.issuperset(below[name])]
                 ready.sort(key=height.get, reverse=True)
                 most = max(height[name] for name in names - done)
-                for name in ready[:jobs - len(running)]:
-                    running[pool.submit(trees.check, name, height[name] == most)] = name
+                begin = ready[:jobs - len(running)]
+                share = jobs // max(1, len(running) + len(begin))
+                for name in begin:
+                    running[pool.submit(trees.check, name, None if height[name] == most else share)] = name
                 say(done, size, running.values(), begun)
                 for ended in concurrent.futures.wait(running, return_when=concurrent.futures.FIRST_COMPLETED).done:
                     del running[ended]
