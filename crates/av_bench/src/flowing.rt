@@ -87,7 +87,7 @@ fn amounts<C: Cells>(cells: &C, kinds: &Kinds) -> u64
 /// A world of air with a source in it, or None where a state has no kind.
 fn watered(alloc: Global, kinds: &Kinds) -> Result<Option<Column>, Fault>
     requires { 1 < kind_count kinds.now }
-    ensures { IfOk result (λ o. IfSome o (λ c. HasKinds (kind_count kinds.now) (world_of c.bottom c.layers c.numbers.items c.waiting.items))) }
+    ensures { IfOk result (λ o. IfSome o (λ c. HasKinds (kind_count kinds.now) (blocks_of c))) }
 {
     let mut column = Column::filled(alloc, 0, LAYERS, AIR)?;
     if !column.has_kinds(kinds) {
