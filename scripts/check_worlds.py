@@ -167,6 +167,9 @@ def light(run):
     yield "light round a stone", [15, 14, 0, 11], [stone.light_at(x, 70, 8) for x in (8, 7, 9, 10)]
     slab = run(flat({(8, 70, 8): "minecraft:glowstone", (9, 70, 8): SLAB}), table="version = 2" + ROWS + SLABS)
     yield "light of a soaked block by its row", [15, 14, 7, 11], [slab.light_at(x, 70, 8) for x in (8, 7, 9, 10)]
+    shut = "version = 2" + ROWS + SLABS.replace("opacity = 8", "opacity = 15")
+    slab = run(flat({(8, 70, 8): "minecraft:glowstone", (9, 70, 8): SLAB}), table=shut)
+    yield "and of one that stops all light", [15, 14, 0, 11], [slab.light_at(x, 70, 8) for x in (8, 7, 9, 10)]
 
 
 def heights(run):

@@ -80,7 +80,7 @@ pub fn kinds(alloc: Global) -> Result<Kinds, Fault> {
     Kinds::new(alloc, table, &Rules::read(alloc, EMITTERS)?)
 }
 
-/// A slab that stops 8, in a table of a version that soaks.
+/// A slab that stops 8 and gives 5, in a table of a version that soaks.
 const SLABS: &[u8] = b"version = 2
 [[block]]
 name = \"minecraft:glowstone\"
@@ -93,7 +93,7 @@ name = \"minecraft:oak_slab\"
 open = false
 floor = true
 opacity = 8
-emission = 0
+emission = 5
 ";
 
 /// A slab that is soaked, among the kinds of `kinds_with_slab`.

@@ -122,11 +122,16 @@ fn light_goes_round_a_stone(rt: HostRuntime) -> Result<(), Fail> {
     Ok(())
 }
 
-/// A soaked slab stops light by its row, 8, and not as water, which stops 1: round it there are four steps.
+/// A soaked slab stops light by its row, 8, and not as water, which stops 1: round it there are four steps. It gives light by
+/// its row too, where that is 5, and water none.
 #[test]
 fn light_of_a_soaked_slab_goes_by_its_row(rt: HostRuntime) -> Result<(), Fail> {
     let alloc = rt.alloc();
-    let blocks = [(at(8, 70, 8), GLOWSTONE), (at(9, 70, 8), SOAKED_SLAB)];
+    let blocks = [
+        (at(8, 70, 8), GLOWSTONE),
+        (at(9, 70, 8), SOAKED_SLAB),
+        (at(8, 100, 8), SOAKED_SLAB),
+    ];
     let world = with_floor(alloc, &[(0, 0)], &blocks)?;
     let board = flood(alloc, &world, &kinds_with_slab(alloc)?, ORIGIN)?;
     let wants = [
@@ -134,6 +139,8 @@ fn light_of_a_soaked_slab_goes_by_its_row(rt: HostRuntime) -> Result<(), Fail> {
         (at(7, 70, 8), 14),
         (at(9, 70, 8), 7),
         (at(10, 70, 8), 11),
+        (at(8, 100, 8), 5),
+        (at(9, 100, 8), 4),
     ];
     expect_lights(&rt, &board, &wants);
     Ok(())
