@@ -3,8 +3,6 @@
 
 pub mod crews;
 #[cfg(test)]
-mod drawn_tests;
-#[cfg(test)]
 mod gate_tests;
 #[cfg(test)]
 mod gates;

@@ -1,5 +1,5 @@
 //! Several chunks, their light, and other heights than the game's.
-use crate::gates::Counting;
+use crate::gates::Holding;
 use crate::given::{
     Given, at, expect, expect_by, file_after, flat, flows, one_region, only_file, run_gated,
     springs, table_with, wet,
@@ -71,8 +71,8 @@ fn by_workers<G: Gate + Sync>(
     Ok((outcome.chunks, outcome.turns, only_file(outcome)?))
 }
 
-/// These edits lead to so many turns and to the same file by one, two and eight workers: on the world itself, and as so many jobs
-/// for a gate that watches.
+/// These edits lead to so many turns and to the same file by one, two, three and eight workers: on the world itself, and as so many
+/// jobs for a gate that watches.
 fn expect_same(
     rt: &(impl Abort + Threads + Wait + Sync),
     alloc: Global,
@@ -82,13 +82,13 @@ fn expect_same(
 ) -> Result<(), Fail> {
     let alone = by_workers(rt, alloc, edits, 1, &NoGate)?;
     assert_eq!(rt; (alone.0, alone.1), (2, turns));
-    for workers in [1, 2, 8] {
+    for workers in [1, 2, 3, 8] {
         let same = by_workers(rt, alloc, edits, workers, &NoGate)? == alone;
         assert!(rt; same, "{workers} workers");
-        let gate = Counting::of(true);
+        let gate = Holding::of(true, 0);
         let same = by_workers(rt, alloc, edits, workers, &gate)? == alone;
         assert!(rt; same, "{workers} workers and a gate");
-        assert_eq!(rt; gate.count(), jobs, "{workers} workers");
+        assert_eq!(rt; gate.counts(), (jobs, 0), "{workers} workers");
     }
     Ok(())
 }

@@ -1,8 +1,7 @@
-//! A run hands its gate and its number of workers on to its ticks, and tells the gate of its steps.
-use crate::given::{Given, flat, one_region, only_file, run_gated, table_with};
-use av_crew::{Done, Gate, Job, NoGate, Step};
+//! Gates of runs: one that holds a job, and one that is told of the steps.
+use crate::given::{Given, flat, one_region, run_gated, table_with};
+use av_crew::{Done, Gate, Job, Step};
 use av_image_tests::flat::flat_region;
-use av_run::Outcome;
 use std::alloc::Global;
 use std::sync::Wait;
 use std::sync::atomic::Ordering::SeqCst;
@@ -16,75 +15,44 @@ const TURNS: u32 = 50_000_000;
 /// Sources in two chunks, which are parts of their own.
 const EDITS: &str = "1 8 64 8 minecraft:water[level=0]\n1 24 64 8 minecraft:water[level=0]";
 
-/// Lets no job go on before two have come.
+/// Counts the jobs that it is told of, whether it has to be told or not, and holds job 0 until so many others are done.
 #[derive(Drop)]
-struct Meeting {
-    come: AtomicU64,
-    gave_up: AtomicU64,
+pub struct Holding {
+    watching: bool,
+    others: u64,
+    told: AtomicU64,
     done: AtomicU64,
+    gave_up: AtomicU64,
 }
 
-impl Meeting {
-    fn new() -> Meeting {
-        Meeting {
-            come: AtomicU64::new(0),
-            gave_up: AtomicU64::new(0),
+impl Holding {
+    pub fn of(watching: bool, others: u64) -> Holding {
+        Holding {
+            watching,
+            others,
+            told: AtomicU64::new(0),
             done: AtomicU64::new(0),
+            gave_up: AtomicU64::new(0),
         }
     }
 
-    /// How many jobs came, how often it gave up, and how many jobs were done.
-    fn counts(&self) -> (u64, u64, u64) {
-        (
-            self.come.load(SeqCst),
-            self.gave_up.load(SeqCst),
-            self.done.load(SeqCst),
-        )
+    /// How many jobs it was told of, and how often it gave up.
+    pub fn counts(&self) -> (u64, u64) {
+        (self.told.load(SeqCst), self.gave_up.load(SeqCst))
     }
-}
 
-impl Gate for Meeting {
-    ghost saw_job = { λ _ _. Unit {0} };
-
-    ghost saw_done = { λ _ _. Unit {0} };
-
-    fn before(&self, _job: &Job) {
-        self.come.fetch_add(1, SeqCst);
+    /// Waits until the others are done.
+    fn wait(&self) {
         for _ in 0..TURNS {
-            if 2 <= self.come.load(SeqCst) {
+            if self.others <= self.done.load(SeqCst) {
                 return;
             }
         }
         self.gave_up.fetch_add(1, SeqCst);
     }
-
-    fn after(&self, _done: &Done) {
-        self.done.fetch_add(1, SeqCst);
-    }
 }
 
-/// Counts the jobs that it is told of, whether it has to be told or not.
-#[derive(Drop)]
-pub struct Counting {
-    watching: bool,
-    told: AtomicU64,
-}
-
-impl Counting {
-    pub fn of(watching: bool) -> Counting {
-        Counting {
-            watching,
-            told: AtomicU64::new(0),
-        }
-    }
-
-    /// How many jobs it was told of.
-    pub fn count(&self) -> u64 {
-        self.told.load(SeqCst)
-    }
-}
-
-impl Gate for Counting {
+impl Gate for Holding {
     ghost saw_job = { λ _ _. Unit {0} };
 
     ghost saw_done = { λ _ _. Unit {0} };
@@ -93,11 +61,18 @@ impl Gate for Counting {
         self.watching
     }
 
-    fn before(&self, _job: &Job) {
+    fn before(&self, job: &Job) {
         self.told.fetch_add(1, SeqCst);
+        if job.number == 0 {
+            self.wait();
+        }
     }
 
-    fn after(&self, _done: &Done) {}
+    fn after(&self, done: &Done) {
+        if done.number != 0 {
+            self.done.fetch_add(1, SeqCst);
+        }
+    }
 }
 
 /// Wants to be told of these steps, in this order, and counts the others.
@@ -144,13 +119,13 @@ impl<'a> Gate for Expecting<'a> {
     }
 }
 
-/// Six ticks of two flat chunks.
-fn ran<G: Gate + Sync>(
+/// Six ticks of two flat chunks with so many workers tell the gate of their steps.
+fn run_six<G: Gate + Sync>(
     rt: &(impl Threads + Wait + Sync),
     alloc: Global,
     workers: u32,
     gate: &G,
-) -> Result<Outcome, Fail> {
+) -> Result<(), Fail> {
     let table = table_with(alloc, "version = 1")?;
     let given = Given {
         table: table.as_slice(),
@@ -159,21 +134,7 @@ fn ran<G: Gate + Sync>(
         workers,
     };
     let files = one_region(alloc, flat_region(alloc, flat(&[], &[]), 2)?)?;
-    Ok(run_gated(rt, alloc, files, given, gate)?)
-}
-
-/// Each of the two jobs of tick 6 is held until the other has come, which takes two workers. The file is that of one
-/// worker without a gate.
-#[test]
-fn jobs_of_a_run_meet(rt: HostRuntime) -> Result<(), Fail> {
-    let alloc = rt.alloc();
-    let gate = Meeting::new();
-    let outcome = ran(&rt, alloc, 2, &gate)?;
-    assert_eq!(rt; gate.counts(), (2, 0, 2));
-    assert_eq!(rt; outcome.chunks, 2);
-    assert_eq!(rt; outcome.turns, 2);
-    let alone = ran(&rt, alloc, 1, &NoGate)?;
-    assert!(rt; only_file(outcome)? == only_file(alone)?);
+    run_gated(rt, alloc, files, given, gate)?;
     Ok(())
 }
 
@@ -189,7 +150,7 @@ fn a_run_tells_of_its_steps(rt: HostRuntime) -> Result<(), Fail> {
     ];
     for workers in [1, 2] {
         let gate = Expecting::of(&steps);
-        ran(&rt, rt.alloc(), workers, &gate)?;
+        run_six(&rt, rt.alloc(), workers, &gate)?;
         assert_eq!(rt; gate.counts(), (5, 0));
     }
     Ok(())

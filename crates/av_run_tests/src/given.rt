@@ -1,4 +1,5 @@
 //! Runs of flat worlds, and what they must answer.
+use crate::gates::Holding;
 use av_chunk::block_at;
 use av_crew::{Gate, NoGate};
 use av_image_tests::flat::Block::Water;
@@ -156,27 +157,19 @@ pub fn springs(x: i32, z: i32) -> Waiting {
 /// The ticks of a run, the chunks and the entries that were taken.
 pub type Counts = (u32, u64, u128);
 
-/// A run of so many flat chunks with 2 workers.
-fn run_flat(
+/// The chunks, the turns and the file of a run of a region whose ticks are worked off in parts, since its gate watches.
+fn run_in_parts(
     rt: &(impl Threads + Wait + Sync),
     alloc: Global,
-    head: &str,
-    before: Flat<'_>,
-    edits: &str,
-    counts: Counts,
-) -> Result<Outcome, Fail> {
-    let (ticks, chunks, _) = counts;
-    let table = table_with(alloc, head)?;
-    let given = Given {
-        table: table.as_slice(),
-        edits,
-        ticks,
-        workers: 2,
-    };
-    Ok(run_region(rt, alloc, flat_region(alloc, before, chunks)?, given)?)
+    bytes: Vec<u8>,
+    given: Given<'_>,
+) -> Result<(u64, u128, Vec<u8>), Fail> {
+    let gate = Holding::of(true, 0);
+    let outcome = run_gated(rt, alloc, one_region(alloc, bytes)?, given, &gate)?;
+    Ok((outcome.chunks, outcome.turns, only_file(outcome)?))
 }
 
-/// A run of flat chunks with these edits, under a table, is written as those.
+/// A run of flat chunks with these edits, under a table, is written as those, by each number of workers.
 pub fn expect_by(
     rt: &(impl Abort + Threads + Wait + Sync),
     alloc: Global,
@@ -186,18 +179,21 @@ pub fn expect_by(
     counts: Counts,
     after: Flat<'_>,
 ) -> Result<(), Fail> {
-    let (_, chunks, turns) = counts;
-    let outcome = run_flat(rt, alloc, head, before, edits, counts)?;
-    assert_eq!(rt;
-        (outcome.chunks, outcome.turns),
-        (chunks, turns),
-        "after {edits}"
-    );
-    let file = only_file(outcome)?;
-    assert!(rt;
-        file == flat_region(alloc, after, chunks)?,
-        "the file after {edits}"
-    );
+    let (ticks, chunks, turns) = counts;
+    let table = table_with(alloc, head)?;
+    let bytes = flat_region(alloc, before, chunks)?;
+    let file = flat_region(alloc, after, chunks)?;
+    for workers in [1, 2, 3, 5, 8] {
+        let given = Given {
+            table: table.as_slice(),
+            edits,
+            ticks,
+            workers,
+        };
+        let found = run_in_parts(rt, alloc, bytes.clone()?, given)?;
+        assert_eq!(rt; (found.0, found.1), (chunks, turns), "after {edits}");
+        assert!(rt; found.2 == file, "{workers} workers after {edits}");
+    }
     Ok(())
 }
 

@@ -6,6 +6,8 @@ mod chunks;
 #[cfg(test)]
 mod covered;
 #[cfg(test)]
+mod drawn;
+#[cfg(test)]
 mod gates;
 #[cfg(test)]
 mod given;

@@ -1,6 +1,6 @@
-//! Runs whose ticks are worked off in parts: more than 32 entries, and no part has two thirds of them. The files after these
-//! runs are worked out by hand.
-use crate::gates::Counting;
+//! Runs whose ticks are worked off in parts, by each number of workers and also while a part is held. The files after these runs
+//! are worked out by hand, byte for byte.
+use crate::gates::Holding;
 use crate::given::{Given, at, flat, one_region, only_file, run_gated, table_with};
 use av_image_tests::flat::Block::Water;
 use av_image_tests::flat::{Block, Waiting, flat_region};
@@ -79,6 +79,23 @@ impl Worked {
     }
 }
 
+/// A source in each of two sections of one chunk. The upper one is set first, and so its entries come first.
+fn one_of_each_part(alloc: Global) -> Result<Worked, AllocError> {
+    let mut worked = Worked::new(alloc, 1, 2, 2);
+    worked.fall(at(8, 72, 8))?;
+    worked.fall(at(8, 40, 8))?;
+    Ok(worked)
+}
+
+/// A source in the middle of each of four chunks.
+fn one_of_each_chunk(alloc: Global) -> Result<Worked, AllocError> {
+    let mut worked = Worked::new(alloc, 4, 4, 4);
+    for x in [8, 24, 40, 56] {
+        worked.spread(at(x, 64, 8))?;
+    }
+    Ok(worked)
+}
+
 /// Eighteen sources in each of two sections of one chunk. They are set by turns, so the entries of the one part stand between
 /// those of the other. None has water beside it.
 fn two_parts_of_a_chunk(alloc: Global) -> Result<Worked, AllocError> {
@@ -111,7 +128,7 @@ fn expect_file(
     alloc: Global,
     worked: &Worked,
     workers: u32,
-    gate: &Counting,
+    gate: &Holding,
     file: &[u8],
 ) -> Result<(), Fail> {
     let table = table_with(alloc, "version = 1")?;
@@ -123,14 +140,46 @@ fn expect_file(
     };
     let dry = flat_region(alloc, flat(&[], &[]), worked.chunks)?;
     let outcome = run_gated(rt, alloc, one_region(alloc, dry)?, given, gate)?;
-    assert_eq!(rt; outcome.turns, worked.turns, "{workers} workers");
+    let counts = (outcome.chunks, outcome.turns);
+    assert_eq!(rt; counts, (worked.chunks, worked.turns), "{workers} workers");
     let after = only_file(outcome)?;
     assert!(rt; after.as_slice() == file, "{workers} workers");
     Ok(())
 }
 
-/// One, two and eight workers leave the file that was worked out. Several have a job for each part, and so has one with a
-/// gate that watches.
+/// How many jobs there are: where a gate watches one for each part, and else only where there are several workers and more than
+/// 32 entries, since no part has two thirds of them.
+fn jobs_of(worked: &Worked, workers: u32, watching: bool) -> u64 {
+    if watching || workers > 1 && worked.turns > 32 {
+        worked.parts
+    } else {
+        0
+    }
+}
+
+/// So many workers leave the file that was worked out. Where there are several, one of them is held at the first job until the
+/// others are done.
+fn expect_with(
+    rt: &(impl Abort + Threads + Wait + Sync),
+    alloc: Global,
+    worked: &Worked,
+    workers: u32,
+    watching: bool,
+    file: &[u8],
+) -> Result<(), Fail> {
+    let jobs = jobs_of(worked, workers, watching);
+    let others = if workers > 1 {
+        jobs.saturating_sub(1)
+    } else {
+        0
+    };
+    let gate = Holding::of(watching, others);
+    expect_file(rt, alloc, worked, workers, &gate, file)?;
+    assert_eq!(rt; gate.counts(), (jobs, 0), "{workers} workers");
+    Ok(())
+}
+
+/// One, two, three and eight workers leave the file that was worked out, for a gate that watches and for one that doesn't.
 fn expect_worked(
     rt: &(impl Abort + Threads + Wait + Sync),
     alloc: Global,
@@ -138,29 +187,22 @@ fn expect_worked(
 ) -> Result<(), Fail> {
     let after = flat(worked.blocks.as_slice(), worked.woken.as_slice());
     let file = flat_region(alloc, after, worked.chunks)?;
-    for workers in [1, 2, 8] {
+    for workers in [1, 2, 3, 8] {
         for watching in [false, true] {
-            let gate = Counting::of(watching);
-            expect_file(rt, alloc, worked, workers, &gate, file.as_slice())?;
-            let parts = if watching || workers > 1 {
-                worked.parts
-            } else {
-                0
-            };
-            assert_eq!(rt; gate.count(), parts, "{workers} workers");
+            expect_with(rt, alloc, worked, workers, watching, file.as_slice())?;
         }
     }
     Ok(())
 }
 
 #[test]
-fn many_entries_of_one_chunk(rt: HostRuntime) -> Result<(), Fail> {
-    let worked = two_parts_of_a_chunk(rt.alloc())?;
-    expect_worked(&rt, rt.alloc(), &worked)
+fn few_entries(rt: HostRuntime) -> Result<(), Fail> {
+    expect_worked(&rt, rt.alloc(), &one_of_each_part(rt.alloc())?)?;
+    expect_worked(&rt, rt.alloc(), &one_of_each_chunk(rt.alloc())?)
 }
 
 #[test]
-fn many_entries_of_two_chunks(rt: HostRuntime) -> Result<(), Fail> {
-    let worked = parts_of_two_chunks(rt.alloc())?;
-    expect_worked(&rt, rt.alloc(), &worked)
+fn many_entries(rt: HostRuntime) -> Result<(), Fail> {
+    expect_worked(&rt, rt.alloc(), &two_parts_of_a_chunk(rt.alloc())?)?;
+    expect_worked(&rt, rt.alloc(), &parts_of_two_chunks(rt.alloc())?)
 }
