@@ -141,7 +141,7 @@ fn expect_world(
     Ok(())
 }
 
-/// Eight worlds, of which each tick from the sixth on has many entries in many parts.
+/// Sixteen worlds, of which each tick from the sixth on has many entries in many parts.
 #[test]
 fn drawn_worlds(rt: HostRuntime) -> Result<(), Fail> {
     let alloc = rt.alloc();
@@ -150,7 +150,7 @@ fn drawn_worlds(rt: HostRuntime) -> Result<(), Fail> {
         table: table_with(alloc, "version = 3\nmin_section = 3\nsections = 2")?,
     };
     let mut draw = Draw { state: 15 };
-    for _ in 0..8 {
+    for _ in 0..16 {
         let edits = drawn_edits(alloc, &mut draw)?;
         expect_world(&rt, alloc, &dry, edits.as_str())?;
     }
