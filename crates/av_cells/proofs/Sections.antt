@@ -7,7 +7,7 @@ use Rattle.av_types.specs.declared.place.Pos.{Pos}
 use Rattle.av_types.specs.declared.place.SectionPos.{SectionPos}
 use Rattle.av_cells.specs.Grid.{Filling, is_here, IsInSixteen, LiesIn}
 
-in_sixteen : (x : ℤ) → IsInSixteen (divided x 16) x
+pub in_sixteen : (x : ℤ) → IsInSixteen (divided x 16) x
 in_sixteen (pos n) = record { from = omega (arith, ints); to = omega (arith, ints) }
 in_sixteen (negsuc n) = record { from = omega (arith, ints); to = omega (arith, ints) }
 

@@ -1,6 +1,7 @@
 -- Steps of a loop that wakes blocks.
-use Rattle.std.proofs.Common.{◌≡◌, ℕ, ◌+◌, ◌-◌, ◌<◌, ◌≤◌, suc, IsTrue, true, false, Bool, cond, pos, List, [], ◌∷◌, ◌++◌, length, drop, get_or, refl, sym, ap, ◌∙◌, subst, arith, append_assoc}
+use Rattle.std.proofs.Common.{◌≡◌, ℕ, ◌+◌, ◌-◌, ◌<◌, ◌≤◌, suc, IsTrue, true, pos, List, [], ◌∷◌, ◌++◌, length, drop, get_or, refl, sym, ap, ◌∙◌, subst, arith, append_assoc}
 use Rattle.std.proofs.lemmas.List.{drop_more, append-nil}
+use Rattle.std.proofs.lemmas.Bool.{cond_both}
 use Rattle.av_types.specs.declared.place.Pos.{Pos}
 use Rattle.av_types.specs.declared.tick.Entry.{Entry}
 use Rattle.av_cells.specs.declared.kind.Kind.{Kind}
@@ -51,12 +52,8 @@ pub woken_all-next : (k : ℕ → Kind) (now : ℕ) (ps : List Pos) (i : ℕ) (d
 woken_all-next k now ps i d b c e within is h =
     ap (λ x. woken_all k now (drop (i + 1) ps) x) is ∙ sym (ap (λ qs. woken_all k now qs b) (drop_more ps i d within)) ∙ h
 
-number_if : (b : Bool) (n m count : ℕ) → n < count → m < count → cond b n m < count
-number_if true n m count a b = a
-number_if false n m count a b = b
-
 pub HasKinds-set : (count : ℕ) (v w : World) (p : Pos) (n : ℕ) → w ≡ with_number v p n → n < count → HasKinds count v → HasKinds count w
-HasKinds-set count v w p n is less h = subst (HasKinds count) (sym is) (λ q l. number_if (same_pos q p) n (v.number q) count less (h q l))
+HasKinds-set count v w p n is less h = subst (HasKinds count) (sym is) (λ q l. cond_both (same_pos q p) n (v.number q) (λ m. m < count) (λ _. less) (λ _. h q l))
 
 -- a loop over the seven blocks has room for them
 pub HaveRoom-around : (v w : World) (room room' : Pos → ℕ) (p : Pos) → w.loaded ≡ v.loaded → ((q : Pos) → room q ≤ room' q) → ForAround (HasRoom v room 7) p → HaveRoom w room' 7 (around p)

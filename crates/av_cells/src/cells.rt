@@ -83,7 +83,7 @@ pub trait Cells {
     /// `OutOfMemory`. Also then all blocks, entries and earlier preparations are as before.
     fn prepare(&mut self, pos: Pos) -> Result<(), Fault>
         requires { IsTrue ((world self.old).loaded pos) }
-        ensures fault { IfErr result (λ e. e ≡ OutOfMemory) }
+        ensures memory { IfErr result (λ e. e ≡ OutOfMemory) }
         ensures same { world self.new ≡ world self.old }
         ensures lists { lists self.new ≡ lists self.old }
         ensures site { site self.new ≡ site self.old }
@@ -104,7 +104,7 @@ pub trait Cells {
     /// `OutOfMemory`. Also then all blocks, entries and earlier preparations are as before.
     fn prepare_set(&mut self, pos: Pos, number: u16) -> Result<(), Fault>
         requires { IsTrue ((world self.old).loaded pos) }
-        ensures fault { IfErr result (λ e. e ≡ OutOfMemory) }
+        ensures memory { IfErr result (λ e. e ≡ OutOfMemory) }
         ensures same { world self.new ≡ world self.old }
         ensures lists { lists self.new ≡ lists self.old }
         ensures site { site self.new ≡ site self.old }

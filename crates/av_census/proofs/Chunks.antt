@@ -1,12 +1,10 @@
 -- The blocks of a chunk in memory are those of its document.
-use Rattle.std.proofs.Common.{◌≡◌, ℕ, zero, suc, ◌+◌, ◌*◌, ◌<◌, ◌≤◌, ℤ, pos, ◌+ℤ◌, List, [], ◌∷◌, map, length, length-append, Bool, true, false, true≢false, cond, Option, Some, None, refl, sym, ap, ◌∙◌, subst, arith}
+use Rattle.std.proofs.Common.{◌≡◌, ℕ, zero, suc, ◌+◌, ◌*◌, ◌<◌, ◌≤◌, ℤ, pos, ◌+ℤ◌, List, [], ◌∷◌, length, length-append, Bool, true, false, true≢false, cond, Option, Some, None, refl, sym, ap, ◌∙◌, subst, arith}
 use Rattle.std.specs.Prelude.{slice_index_or, IsSome}
-use Rattle.std.specs.List.{range_with_len}
-use Rattle.std.proofs.lemmas.Int.{ints}
 use Rattle.std.proofs.lemmas.List.FromFn.{length-map-range_with_len}
 use Rattle.std.proofs.lemmas.List.Sums.{count_by-le-length}
 use Rattle.std.proofs.Common.{Vec, Global, is_some}
-use Rattle.av_types.specs.Places.{IsSectionOf, is_section_of}
+use Rattle.av_document.proofs.Inside.{map_range_agree}
 use Rattle.av_types.specs.declared.fault.Fault.{Fault}
 use Rattle.av_types.specs.declared.place.ChunkPos.{ChunkPos}
 use Rattle.av_types.specs.declared.place.Height.{Height}
@@ -21,8 +19,8 @@ use Rattle.av_section.specs.Section.{HasNumbersBelow}
 use Rattle.av_section.specs.declared.section.Section.{Section}
 use Rattle.av_document.specs.Chunk.{root_tags, is_full, first_fault, cell_of}
 use Rattle.av_document.specs.Layout.{block_at}
-use Rattle.av_document.proofs.Positions.{lies_in-block_at}
-use Rattle.av_chunk.proofs.Heights.{section_test, offset_at}
+use Rattle.av_document.proofs.Positions.{lies_in-block_at, section_inside}
+use Rattle.av_chunk.proofs.Heights.{offset_at}
 use Rattle.av_chunk.proofs.Written.{states-of_section, numbers-of_section}
 use Rattle.av_chunk.specs.Payload.{IsPayloadFault, no_document, bad_document}
 use Rattle.av_chunk.specs.Reading.{IsLoaded, IsKept}
@@ -64,12 +62,6 @@ times-le s blocks n h =
 
 -- ---- the sections of a height
 
-section_inside : (h : Height) (k : ℕ) → k < h.sections → is_section_of h (h.min_section +ℤ pos k) ≡ true
-section_inside h k low =
-    let y = h.min_section +ℤ pos k in
-    let within : IsSectionOf h y = record { low = omega (arith, ints); high = omega (arith, ints, low) } in
-    sym (section_test h y true ((λ _. within), (λ _. refl)))
-
 slot_within : (slots : List (Option Section)) (k : ℕ) (s : Section) → slice_index_or slots k None ≡ Some s → k < length slots
 slot_within [] k s e = absurd (true≢false (ap (λ (o : Option Section). is_some o) (sym e)))
 slot_within (x ∷ slots) zero s e = omega arith
@@ -82,12 +74,6 @@ some_there (Some s) h = (s, refl)
 below_by : (count : ℕ) (o : Option Section) → ((s : Section) → o ≡ Some s → HasNumbersBelow s count) → SlotBelow count o
 below_by count None f = tt
 below_by count (Some s) f = f s refl
-
-same_places : {A : Type 0} (f g : ℕ → A) (a n : ℕ) → ((i : ℕ) → i < a + n → f i ≡ g i) → map f (range_with_len a n) ≡ map g (range_with_len a n)
-same_places f g a zero e = refl
-same_places f g a (suc n) e =
-    let rest : (i : ℕ) → i < a + 1 + n → f i ≡ g i = λ i h. e i (omega (arith, h)) in
-    ap (λ x. x ∷ map f (range_with_len (a + 1) n)) (e a (omega arith)) ∙ ap (λ xs. g a ∷ xs) (same_places f g (a + 1) n rest)
 
 module _ (c : ChunkPos) (h : Height) (d : Document) (new : List BlockState) (m : Chunk) (rest : ChunkRest) (l : IsLoaded c h d first_states new m rest) where
   abbrev y_of : ℕ → ℤ
@@ -107,7 +93,7 @@ module _ (c : ChunkPos) (h : Height) (d : Document) (new : List BlockState) (m :
       let inside = section_inside h k low in
       let there = some_there (section_in h m (y_of k)) (l.whole.each_there (y_of k) inside) in
       ap (slot_states new) (sym (stored k) ∙ there.1) ∙ states-of_section new c h m (y_of k) there.0 there.1
-      ∙ same_places (λ i. cells_of new h m (block_at c (y_of k) i)) (λ i. cell_of (root_tags d) (block_at c (y_of k) i)) 0 4096 (λ i p. l.denotes.cells_are (block_at c (y_of k) i) (lies_in-block_at c h (y_of k) i inside (omega (arith, p))))
+      ∙ map_range_agree (λ i. cells_of new h m (block_at c (y_of k) i)) (λ i. cell_of (root_tags d) (block_at c (y_of k) i)) 0 4096 (λ i p. l.denotes.cells_are (block_at c (y_of k) i) (lies_in-block_at c h (y_of k) i inside (omega (arith, p))))
 
   pub blocks_stored : slots_states new m.sections.items (length m.sections.items) ≡ chunk_blocks c h (root_tags d)
   blocks_stored =

@@ -15,7 +15,7 @@ use Rattle.av_state.specs.States.{state_of}
 use Rattle.av_state.specs.Table.{states}
 use Rattle.av_state.specs.declared.table.StateTable.{StateTable}
 use Rattle.av_state.specs.declared.state.State.{State}
-use Rattle.av_ticks.specs.Order.{inserted, ordered}
+use Rattle.av_types.specs.Order.{inserted, ordered}
 use Rattle.std.specs.declared.cmp.Ordering.{Ordering}
 use Rattle.std.specs.Ordering.{is_lt}
 use Rattle.av_region_files.specs.declared.files.RegionFile.{RegionFile}

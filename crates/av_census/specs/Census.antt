@@ -19,7 +19,7 @@ use Rattle.av_state.specs.declared.state.Property.{Property}
 use Rattle.av_state.specs.declared.state.State.{State}
 use Rattle.av_document.specs.Chunk.{root_tags, is_full, first_fault, cell_of}
 use Rattle.av_document.specs.Layout.{block_at, states_of}
-use Rattle.av_ticks.specs.Order.{ordered}
+use Rattle.av_types.specs.Order.{ordered}
 use Rattle.av_region_files.specs.declared.files.RegionFile.{RegionFile}
 use Rattle.av_survey.specs.Listing.{IsList, in_order}
 use Rattle.av_survey.specs.Survey.{IsFaultAlone}

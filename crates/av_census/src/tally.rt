@@ -8,7 +8,7 @@ ghost use Rattle.av_state.specs.Table.{states};
 ghost use Rattle.av_state.specs.declared.state.State.{State};
 ghost use Rattle.av_census.specs.Census.{AreCounts, most_first, state_order, times};
 ghost use Rattle.av_census.specs.Counting.{HasNoZero, Tallies, tallied, weighed};
-ghost use Rattle.av_ticks.specs.Order.{ordered};
+ghost use Rattle.av_types.specs.Order.{ordered};
 
 use crate::counts::StateCount;
 use av_state::{State, StateTable};

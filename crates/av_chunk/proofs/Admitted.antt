@@ -1,6 +1,7 @@
 -- What was judged before a chunk is taken apart, and the first fault.
 use Rattle.std.proofs.Common.{◌≡◌, ℕ, ◌≤◌, Bool, true, false, true≢false, not, ◌&&◌, ◌||◌, Option, Some, None, Result, Ok, Err, IfErr, List, [], ◌∷◌, ◌++◌, refl, sym, ap, arith, lit≤, if◌then◌else◌, codes}
 use Rattle.std.specs.List.{flat_map, list_any}
+use Rattle.std.proofs.lemmas.Bool.{or_parts}
 use Rattle.av_types.specs.Faults.{fault_number, least, lesser}
 use Rattle.av_types.specs.declared.place.ChunkPos.{ChunkPos}
 use Rattle.av_types.specs.declared.place.Height.{Height}
@@ -8,7 +9,8 @@ use Rattle.av_types.specs.declared.fault.Fault.{Fault}
 use Rattle.av_types.specs.declared.fault.Fault.TheVariants.{OutOfMemory, OldLayout, BadChunk, WrongPlace}
 use Rattle.av_tags.specs.Nbt.{Nbt, NamedTag}
 use Rattle.av_tags.specs.Place.{tag_of}
-use Rattle.av_tags.specs.Shape.{◌>>=◌, compounds_of, lacks, or_else}
+use Rattle.av_types.specs.Options.{◌>>=◌}
+use Rattle.av_tags.specs.Shape.{compounds_of, lacks, or_else}
 use Rattle.av_state.specs.BlockState.{BlockState}
 use Rattle.av_section.specs.BlockStates.{when}
 use Rattle.av_document.specs.Ticks.{is_bad_tick, int_at}
@@ -175,29 +177,21 @@ first_loaded h c root old a = rw (a.level, a.status, a.full, a.shape, a.place) r
 
 -- ---- the shape
 
-or_left : (a b : Bool) → a || b ≡ false → a ≡ false
-or_left true b e = e
-or_left false b e = refl
-
-or_right : (a b : Bool) → a || b ≡ false → b ≡ false
-or_right true b e = cc
-or_right false b e = e
-
 pub good_list : (h : Height) (root : List NamedTag) → is_bad_chunk h root ≡ false → is_bad_list h (sections_of root) ≡ false
 good_list h root e =
     let first = lacks (int_at (codes "xPos") root) || lacks (int_at (codes "zPos") root) in
-    or_right first (is_bad_list h (sections_of root)) (or_left (first || is_bad_list h (sections_of root)) (is_other compounds_of (tag_of (codes "fluid_ticks") root)) e)
+    (or_parts first (is_bad_list h (sections_of root)) (or_parts (first || is_bad_list h (sections_of root)) (is_other compounds_of (tag_of (codes "fluid_ticks") root)) e).0).1
 
 pub good_apart : (h : Height) (root : List NamedTag) → is_bad_chunk h root ≡ false → share_a_number (sections root) ≡ false
 good_apart h root e = of (sections_of root) (good_list h root e)
   where
     of : (o : Option (List (List NamedTag))) → is_bad_list h o ≡ false → share_a_number (or_else [] o) ≡ false
     of None e = refl
-    of (Some rows) e = or_right (list_any (is_bad_section h) rows) (share_a_number rows) e
+    of (Some rows) e = (or_parts (list_any (is_bad_section h) rows) (share_a_number rows) e).1
 
 pub good_ticks : (h : Height) (root : List NamedTag) → is_bad_chunk h root ≡ false → is_other compounds_of (tag_of (codes "fluid_ticks") root) ≡ false
 good_ticks h root e =
-    or_right (lacks (int_at (codes "xPos") root) || lacks (int_at (codes "zPos") root) || is_bad_list h (sections_of root)) (is_other compounds_of (tag_of (codes "fluid_ticks") root)) e
+    (or_parts (lacks (int_at (codes "xPos") root) || lacks (int_at (codes "zPos") root) || is_bad_list h (sections_of root)) (is_other compounds_of (tag_of (codes "fluid_ticks") root)) e).1
 
 shape_of : (h : Height) (t : Option Nbt) → is_bad_list h (t >>= compounds_of) ≡ false → is_other compounds_of t ≡ false
 shape_of h None e = refl

@@ -3,9 +3,10 @@ use Rattle.std.proofs.Common.{◌≡◌, ℕ, ◌<◌, ◌≤◌, ℤ, Bool, tru
 use Rattle.std.proofs.lemmas.Bool.Decides.{nat_tests}
 use Rattle.std.proofs.lemmas.List.Elements.{All-from_recursion}
 use Rattle.std.specs.List.{AllByRecursion, list_any, flat_map}
+use Rattle.std.proofs.lemmas.Bool.{and_parts}
 use Rattle.av_types.specs.Division.{divided}
 use Rattle.av_types.specs.Faults.{least, lesser}
-use Rattle.av_types.specs.Places.{is_section_of, place_of}
+use Rattle.av_types.specs.Places.{is_section_of, place_of, section_index}
 use Rattle.av_types.specs.declared.place.Pos.{Pos}
 use Rattle.av_types.specs.declared.place.ChunkPos.{ChunkPos}
 use Rattle.av_types.specs.declared.place.Height.{Height}
@@ -25,7 +26,7 @@ use Rattle.av_section.specs.Section as section
 use Rattle.av_section.specs.declared.section.Section.{Section}
 use Rattle.av_document.specs.Ticks.{lies_in}
 use Rattle.av_document.specs.Law.{HasInts}
-use Rattle.av_document.specs.Stored.{IsStored}
+use Rattle.av_document.specs.Stored.{IsStored, WasRead}
 use Rattle.av_document.proofs.Ints.{ints_read}
 use Rattle.av_document.specs.Chunk.{root_tags, sections, ticks, numbered, section_states, first_fault, DenotesChunk, block_cell, block_states_of, tags_at, cell_of}
 use Rattle.av_document.proofs.Positions.{within_from, place_of-lt}
@@ -33,15 +34,16 @@ use Rattle.av_chunk.specs.declared.chunk.Chunk.{Chunk}
 use Rattle.av_chunk.specs.declared.rest.ChunkRest.{ChunkRest}
 use Rattle.av_chunk.specs.declared.sections.Sections.{Sections}
 use Rattle.av_chunk.specs.declared.water.Ticks.{Ticks}
-use Rattle.av_chunk.specs.Rest.{rest_with, offset_of, found_outside}
+use Rattle.av_chunk.specs.Rest.{rest_with, found_outside}
 use Rattle.av_chunk.specs.Views.{section_in, state_in, cells_of, rest_of}
 use Rattle.av_chunk.specs.Reading.{IsLoaded}
+use Rattle.av_chunk.specs.Assembly.{IsTakenApart}
 use Rattle.av_chunk.specs.Pending.{SlotAddsAll, is_entry_at, MarksPending}
 use Rattle.av_chunk.specs.TicksRead.{AreTicks}
 use Rattle.av_chunk.specs.SectionsRead.{are_too_many, SlotHas, AreSectionsRead}
 use Rattle.av_chunk.specs.Reading.{IsAdmitted}
 use Rattle.av_chunk.proofs.Admitted.{first_loaded}
-use Rattle.av_chunk.proofs.WaterIn.{AreIn, and_left, and_right, water_in, pending_at}
+use Rattle.av_chunk.proofs.WaterIn.{AreIn, water_in, pending_at}
 
 pub members_in-of : (ms : List NamedTag) → members_in (members_of ms) ≡ ms
 members_in-of [] = refl
@@ -81,9 +83,9 @@ pub record Parts (c : ChunkPos) (h : Height) (root : List NamedTag) (old new : L
 
 slot_of : (c : ChunkPos) (h : Height) (root : List NamedTag) (old new : List BlockState) (read : Sections) (t : Ticks) (chunk : Chunk) (tags : List Named)
     → Parts c h root old new read t chunk tags → (y : ℤ) → is_section_of h y ≡ true
-    → Filled new (block_cell (block_states_of (tags_at y root))) (λ i. list_any (is_entry_at h (offset_of h y) i) (entries t.water)) (section_in h chunk y)
+    → Filled new (block_cell (block_states_of (tags_at y root))) (λ i. list_any (is_entry_at h (section_index h y) i) (entries t.water)) (section_in h chunk y)
 slot_of c h root old new read t chunk tags p y s =
-    filled new _ _ (get_or read.sections.items (offset_of h y) None) (section_in h chunk y) (p.read_are.cells y s) (p.marked.slots (offset_of h y))
+    filled new _ _ (get_or read.sections.items (section_index h y) None) (section_in h chunk y) (p.read_are.cells y s) (p.marked.slots (section_index h y))
 
 state_of : (c : ChunkPos) (h : Height) (root : List NamedTag) (old new : List BlockState) (read : Sections) (t : Ticks) (chunk : Chunk) (tags : List Named)
     → Parts c h root old new read t chunk tags → (q : Pos) → lies_in c h q ≡ true → state_in new h chunk q ≡ Some (cell_of root q)
@@ -120,7 +122,7 @@ denotes c h d root old new read t chunk tags p e =
 
 each_in : (c : ChunkPos) (h : Height) (es : List Entry) → AreIn c h es → AllByRecursion (λ e. lies_in c h e.pos ≡ true) es
 each_in c h [] p = tt
-each_in c h (e ∷ es) p = (and_left (lies_in c h e.pos) _ p, each_in c h es (and_right (lies_in c h e.pos) _ p))
+each_in c h (e ∷ es) p = ((and_parts (lies_in c h e.pos) _ p).0, each_in c h es (and_parts (lies_in c h e.pos) _ p).1)
 
 pub loaded : (c : ChunkPos) (h : Height) (d : Document) (root : List NamedTag) (old new : List BlockState) (read : Sections) (t : Ticks) (chunk : Chunk) (rest : ChunkRest)
     → IsStored d → root_tags d ≡ root → Parts c h root old new read t chunk rest.tags.items
@@ -145,6 +147,41 @@ loaded c h d root old new read t chunk rest stored e p place height same =
       height_is = height;
       states = rw e p.read_are.states;
     }
+
+-- ---- a document that was taken apart
+
+pub taken_apart : (c : ChunkPos) (h : Height) (d : Document) (root : List NamedTag) (old new : List BlockState) (tags : List Named) (read : Sections) (t : Ticks)
+    → IsStored d → root_tags d ≡ root → IsAdmitted h c root → named_views tags ≡ emptied (codes "fluid_ticks") (emptied (codes "sections") root)
+    → AreSectionsRead h (sections root) old new read → AreTicks c h (ticks root) t → length new ≤ most_states → IsTakenApart c h d old new d.name tags read t
+taken_apart c h d root old new tags read t stored e a left rows water few =
+    record { stored = stored; admitted = rw e a; name_is = refl; tags_are = rw e left; sections_are = rw e rows; ticks_are = rw e water; few = few }
+
+-- its parts, once the places of the entries are marked
+pub assembly : (c : ChunkPos) (h : Height) (d : Document) (old new : List BlockState) (name : List ℕ) (tags : List Named) (read : Sections) (t : Ticks) (chunk : Chunk)
+    → IsTakenApart c h d old new name tags read t → entries chunk.ticks ≡ entries t.water → MarksPending h (entries t.water) read.sections.items chunk.sections.items
+    → Parts c h (root_tags d) old new read t chunk tags
+assembly c h d old new name tags read t chunk taken water marked = record {
+  admitted = taken.admitted;
+  read_are = taken.sections_are;
+  ticks_are = taken.ticks_are;
+  few = taken.few;
+  water = water;
+  marked = marked;
+  tags_are = taken.tags_are;
+}
+
+-- what is left of it was read
+pub was_read : (c : ChunkPos) (h : Height) (d : Document) (old new : List BlockState) (name : List ℕ) (tags : List Named) (read : Sections) (t : Ticks) (chunk : Chunk)
+    → IsTakenApart c h d old new name tags read t → Parts c h (root_tags d) old new read t chunk tags
+    → WasRead c h (rest_with h name tags t.foreign.items read.kept.items read.outside.items)
+was_read c h d old new name tags read t chunk taken parts = record {
+  read = d;
+  stored = taken.stored;
+  cells = cells_of new h chunk;
+  water = entries chunk.ticks;
+  denotes = subst (λ n. DenotesChunk c h d (cells_of new h chunk) (entries chunk.ticks) (rest_with h n tags t.foreign.items read.kept.items read.outside.items)) (sym taken.name_is)
+      (denotes c h d (root_tags d) old new read t chunk tags parts refl);
+}
 
 -- ---- a fault of the ticks beside one of the sections
 

@@ -1,7 +1,6 @@
 -- What is found of a block.
-use Rattle.std.proofs.Common.{◌≡◌, ℕ, ◌<◌, Bool, true, false, true≢false, ◌&&◌, Option, Some, None, IsSome, List, length, slice_get, Result, Ok, Err, IfOk, IfErr, subst, refl, sym, ap, ◌∙◌, if◌then◌else◌}
+use Rattle.std.proofs.Common.{◌≡◌, ℕ, ◌<◌, Bool, true, false, true≢false, ◌&&◌, Option, Some, None, IsSome, List, length, slice_get, Result, Ok, Err, IfOk, IfErr, refl, sym, ap, ◌∙◌, if◌then◌else◌}
 use Rattle.std.proofs.lemmas.Option.{slice_get_within}
-use Rattle.std.specs.Result.{IsErrAnd}
 use Rattle.av_types.specs.Division.{divided}
 use Rattle.av_types.specs.Places.{chunk_of, is_block_of}
 use Rattle.av_types.specs.declared.place.Pos.{Pos}
@@ -81,8 +80,3 @@ if_ok_then (Err e) h f = tt
 pub if_err_then : {T E : Type 0} (r : Result T E) {P Q : E → Type 0} → IfErr r P → ((x : E) → P x → Q x) → IfErr r Q
 if_err_then (Ok x) h f = tt
 if_err_then (Err e) h f = f e h
-
--- an error that is passed on
-pub err_from : {T : Type 0} (r : Result T Fault) (x : Fault) (P : Fault → Type 0) → IsErrAnd r (λ e. e ≡ x) → P x → IfErr r P
-err_from (Ok v) x P h p = tt
-err_from (Err e) x P h p = subst P (sym h) p

@@ -4,7 +4,8 @@ use Rattle.std.proofs.lemmas.Int.{ints}
 use Rattle.std.specs.Ordering.{int_eq}
 use Rattle.std.specs.List.{list_any}
 use Rattle.av_tags.specs.Nbt.{Nbt, NamedTag}
-use Rattle.av_tags.specs.Shape.{◌>>=◌, compound_of, compounds_of, items_of_list, each, lacks}
+use Rattle.av_types.specs.Options.{◌>>=◌}
+use Rattle.av_tags.specs.Shape.{compound_of, compounds_of, items_of_list, each, lacks}
 use Rattle.std.proofs.Common.{subst, Decides}
 use Rattle.std.proofs.lemmas.Bool.Decides.{Decides-int_eq}
 use Rattle.av_types.specs.declared.place.Height.{Height}
@@ -14,6 +15,7 @@ use Rattle.std.proofs.Math.Bool.{or-true, or-false}
 use Rattle.av_types.specs.Places.{is_section_of}
 use Rattle.av_tags.specs.Place.{tag_of}
 use Rattle.std.specs.Prelude.{◌++◌, is_some}
+use Rattle.std.proofs.lemmas.Bool.{or_parts}
 use Rattle.av_document.specs.Chunk.{section_number, numbered, is_number, is_numbered_in, share_a_number, is_other, is_bad_list}
 use Rattle.av_document.proofs.Rows.{int_eq-refl}
 use Rattle.av_document.specs.Working.{is_bad_at, with_number, are_bad_sections}
@@ -103,10 +105,6 @@ is_bad_list-at h (Some t) ts e = rw e (is_bad_list-each h ts)
 
 -- ---- no number comes twice
 
-either : (b d : Bool) → b || d ≡ false → (b ≡ false) × (d ≡ false)
-either true d e = absurd (true≢false e)
-either false d e = (refl, e)
-
 -- a section whose number no section before it has
 abbrev pub HasNewNumber : List (List NamedTag) → List NamedTag → Type 0
 HasNewNumber rows ms = (z : ℤ) → section_number ms ≡ Some z → numbered z rows ≡ None
@@ -122,7 +120,7 @@ numbered_there z (r ∷ rows) more ms e = by (is_number z (section_number r)) (n
 pub new_number : (rows more : List (List NamedTag)) (ms : List NamedTag) → share_a_number (rows ++ ms ∷ more) ≡ false → HasNewNumber rows ms
 new_number [] more ms apart z e = refl
 new_number (r ∷ rows) more ms apart z e =
-    let both = either (is_numbered_in (rows ++ ms ∷ more) (section_number r)) (share_a_number (rows ++ ms ∷ more)) apart in
+    let both = or_parts (is_numbered_in (rows ++ ms ∷ more) (section_number r)) (share_a_number (rows ++ ms ∷ more)) apart in
     by (section_number r) both.0 (new_number rows more ms both.1 z e)
   where
     by : (n : Option ℤ) → is_numbered_in (rows ++ ms ∷ more) n ≡ false → numbered z rows ≡ None → (if is_number z n then Some r else numbered z rows) ≡ None

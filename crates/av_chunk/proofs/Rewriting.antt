@@ -6,11 +6,12 @@ use Rattle.std.specs.Int.RustNames.{FitsSigned}
 use Rattle.std.proofs.lemmas.Option.{slice_get-map, same_Some}
 use Rattle.std.proofs.lemmas.List.{length-drop, length-take-le}
 use Rattle.std.proofs.lemmas.List.Elements.{All-weaker, recursion_from_All}
-use Rattle.av_types.specs.Places.{is_section_of}
+use Rattle.av_types.specs.Places.{is_section_of, section_index}
 use Rattle.av_types.specs.declared.place.ChunkPos.{ChunkPos}
 use Rattle.av_types.specs.declared.place.Height.{Height}
 use Rattle.av_tags.specs.Nbt.{Document}
-use Rattle.av_tags.specs.Shape.{◌>>=◌, or_else}
+use Rattle.av_types.specs.Options.{◌>>=◌}
+use Rattle.av_tags.specs.Shape.{or_else}
 use Rattle.av_nbt.specs.Writing.{IsWellFormed}
 use Rattle.av_state.specs.BlockState.{BlockState, air, meant}
 use Rattle.av_state.specs.Table.{states}
@@ -23,7 +24,6 @@ use Rattle.av_ticks.specs.Ticks.{entries}
 use Rattle.av_document.specs.Ticks.{lies_in}
 use Rattle.av_document.specs.Law.{IsMeant, IsLawful, HasInts}
 use Rattle.av_document.proofs.Stored.{was_read-well_formed, was_read-denotes}
-use Rattle.av_chunk.specs.Rest.{offset_of}
 use Rattle.av_chunk.specs.Views.{number_in, cells_of, rest_of}
 use Rattle.av_chunk.specs.Light.{section_count}
 use Rattle.av_chunk.specs.Reading.{IsLoaded, HasAllSections}
@@ -98,7 +98,7 @@ section-lit : (chunk : Chunk) (rest : ChunkRest) (kinds : Kinds) (light : ChunkL
     → (y : ℤ) → is_section_of rest.height y ≡ true → length (light_of light rest.height y) ≡ 2048
 section-lit chunk rest kinds light elapsed can y inside =
     let count : light.sections ≡ rest.height.sections = can.lit in
-    light-length light.bytes.items light.sections (offset_of rest.height y) light.whole (omega (arith, count, offset_below rest.height y inside))
+    light-length light.bytes.items light.sections (section_index rest.height y) light.whole (omega (arith, count, offset_below rest.height y inside))
 
 pub written-well_formed : (chunk : Chunk) (rest : ChunkRest) (kinds : Kinds) (light : ChunkLight) (elapsed : ℕ) → CanWrite chunk rest kinds light elapsed
     → All (HasInts elapsed) (entries chunk.ticks) → IsWellFormed (written chunk rest kinds light elapsed)

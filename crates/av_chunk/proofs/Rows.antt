@@ -7,10 +7,12 @@ use Rattle.av_types.specs.declared.place.Height.{Height}
 use Rattle.av_types.specs.declared.tick.Entry.{Entry}
 use Rattle.av_tags.specs.declared.tag.Tag.{Tag}
 use Rattle.av_tags.specs.Nbt.{Nbt, NamedTag}
-use Rattle.av_tags.specs.Shape.{◌>>=◌, compound_of, compounds_of, items_of_list, each, lacks, or_else}
+use Rattle.av_types.specs.Options.{◌>>=◌}
+use Rattle.av_tags.specs.Shape.{compound_of, compounds_of, items_of_list, each, lacks, or_else}
 use Rattle.std.proofs.Common.{ℤ, true≢false}
 use Rattle.std.proofs.Math.Bool.{or-true}
 use Rattle.std.specs.Ordering.{int_eq}
+use Rattle.std.proofs.lemmas.Bool.{or_parts}
 use Rattle.av_document.specs.Chunk.{is_bad_list}
 use Rattle.av_document.specs.Working.{with_number}
 use Rattle.av_chunk.proofs.Numbers.{lacks-each, is_bad_list-each}
@@ -51,11 +53,7 @@ pub good_step : (c : ChunkPos) (h : Height) (t : Tag) (rest : List Nbt) (ms : Li
 good_step c h t rest ms e f = let g : is_bad_tick c h (or_else [] (compound_of (view t))) ≡ false = rw e f in rw g refl
 
 pub others_after : (t : Tag) (rest : List Nbt) → has_other (view t ∷ rest) ≡ false → has_other rest ≡ false
-others_after t rest h = after (lacks (compound_of (view t))) (has_other rest) h
-  where
-    after : (a b : Bool) → a || b ≡ false → b ≡ false
-    after true b h = cc
-    after false b h = h
+others_after t rest h = (or_parts (lacks (compound_of (view t))) (has_other rest) h).1
 
 pub rows-append : (xs ys : List Tag) → opened (views (xs ++ ys)) ≡ opened (views xs) ++ opened (views ys)
 rows-append xs ys = ap opened (map-append view xs ys) ∙ map-append tags_in (views xs) (views ys)
@@ -63,12 +61,8 @@ rows-append xs ys = ap opened (map-append view xs ys) ∙ map-append tags_in (vi
 pub rows-push : (xs : List Tag) (x : Tag) → opened (views (xs ++ x ∷ [])) ≡ opened (views xs) ++ tags_in (view x) ∷ []
 rows-push xs x = rows-append xs (x ∷ [])
 
-or_after : (a b : Bool) → a || b ≡ false → b ≡ false
-or_after true b h = cc
-or_after false b h = h
-
 pub good_after : (h : Height) (t : Nbt) (rest : List Nbt) → has_bad_number h (t ∷ rest) ≡ false → has_bad_number h rest ≡ false
-good_after h t rest e = or_after (lacks (checked_number h (compound_of t))) (has_bad_number h rest) e
+good_after h t rest e = (or_parts (lacks (checked_number h (compound_of t))) (has_bad_number h rest) e).1
 
 -- ---- Lists of Compounds
 

@@ -8,7 +8,7 @@ use Rattle.std.specs.List.{flat_map}
 use Rattle.std.proofs.lemmas.Grind.{flat_map-append}
 use Rattle.std.proofs.lemmas.List.{append-nil}
 use Rattle.av_types.specs.Faults.{fault_number, lesser}
-use Rattle.av_types.specs.Places.{is_section_of}
+use Rattle.av_types.specs.Places.{is_section_of, section_index}
 use Rattle.av_types.specs.declared.place.Height.{Height}
 use Rattle.av_types.specs.declared.fault.Fault.{Fault}
 use Rattle.av_tags.specs.Nbt.{NamedTag}
@@ -24,7 +24,7 @@ use Rattle.av_chunk.specs.declared.rest.OutsideSection.{OutsideSection}
 use Rattle.av_chunk.specs.declared.sections.Part.{Part}
 use Rattle.av_chunk.specs.declared.sections.Part.TheVariants.{Inside, Outside}
 use Rattle.av_chunk.specs.declared.sections.Sections.{Sections}
-use Rattle.av_chunk.specs.Rest.{offset_of, section_or_missing, found_outside}
+use Rattle.av_chunk.specs.Rest.{section_or_missing, found_outside}
 use Rattle.av_chunk.specs.SectionsRead.{HasCells, IsInside, IsOutside, IsPart, IsSectionRead, IsSectionRefused, or_missing, SlotHas, SlotFinds, SlotFilled, AreFilled, FilledBelow, HoldSections, AreMissing, IsPartPlaced, AreFound, AreSectionsRead, AreJudged, FitsHeight}
 use Rattle.av_chunk.proofs.Heights.{offset_below, offset_apart}
 use Rattle.av_chunk.proofs.Numbers.{HasNewNumber}
@@ -96,29 +96,29 @@ apart_numbers h y z s t false d = refl
 
 inside_cells : (h : Height) (old new : List BlockState) (rows : List (List NamedTag)) (ms : List NamedTag) (z : ℤ) (s : Section) (kept : SectionTags) (xs : List (Option Section))
     → OnlyGrows old new → IsInside h new ms z s kept → numbered z rows ≡ None → length xs ≡ h.sections → (y : ℤ) → is_section_of h y ≡ true
-    → SlotFinds old y (numbered y rows) (get_or xs (offset_of h y) None)
+    → SlotFinds old y (numbered y rows) (get_or xs (section_index h y) None)
     → (b : Bool) → Decides b (y ≡ z) → int_eq y z ≡ b
-    → SlotFinds new y (numbered y (rows ++ ms ∷ [])) (get_or (slice_set xs (offset_of h z) (Some s)) (offset_of h y) None)
+    → SlotFinds new y (numbered y (rows ++ ms ∷ [])) (get_or (slice_set xs (section_index h z) (Some s)) (section_index h y) None)
 inside_cells h old new rows ms z s kept xs g p none l y t c true d e =
     let same : y ≡ z = d.0 refl in
-    let within : offset_of h y < length xs = rw l (offset_below h y t) in
-    rw (numbered-new y z rows ms p.number e (ap (λ v. numbered v rows) same ∙ none), ← same, get_or-set_same xs (offset_of h y) (Some s) None within) p.cells
+    let within : section_index h y < length xs = rw l (offset_below h y t) in
+    rw (numbered-new y z rows ms p.number e (ap (λ v. numbered v rows) same ∙ none), ← same, get_or-set_same xs (section_index h y) (Some s) None within) p.cells
 inside_cells h old new rows ms z s kept xs g p none l y t c false d e =
-    let ne : offset_of h y ≢ offset_of h z = λ o. true≢false (sym (d.1 (offset_apart h y z t p.within o))) in
-    rw (numbered-other y z rows ms p.number e, get_or-set_other xs (offset_of h z) (offset_of h y) (Some s) None ne) (SlotFinds-grown old new y _ _ g c)
+    let ne : section_index h y ≢ section_index h z = λ o. true≢false (sym (d.1 (offset_apart h y z t p.within o))) in
+    rw (numbered-other y z rows ms p.number e, get_or-set_other xs (section_index h z) (section_index h y) (Some s) None ne) (SlotFinds-grown old new y _ _ g c)
 
 inside_rests : (h : Height) (new : List BlockState) (rows : List (List NamedTag)) (ms : List NamedTag) (z : ℤ) (s : Section) (kept : SectionTags) (xs : List (Option SectionTags))
     → IsInside h new ms z s kept → numbered z rows ≡ None → length xs ≡ h.sections → (y : ℤ) → is_section_of h y ≡ true
-    → section_or_missing y (get_or xs (offset_of h y) None) ≡ section_rest (or_missing y (numbered y rows))
+    → section_or_missing y (get_or xs (section_index h y) None) ≡ section_rest (or_missing y (numbered y rows))
     → (b : Bool) → Decides b (y ≡ z) → int_eq y z ≡ b
-    → section_or_missing y (get_or (slice_set xs (offset_of h z) (Some kept)) (offset_of h y) None) ≡ section_rest (or_missing y (numbered y (rows ++ ms ∷ [])))
+    → section_or_missing y (get_or (slice_set xs (section_index h z) (Some kept)) (section_index h y) None) ≡ section_rest (or_missing y (numbered y (rows ++ ms ∷ [])))
 inside_rests h new rows ms z s kept xs p none l y t c true d e =
     let same : y ≡ z = d.0 refl in
-    let within : offset_of h y < length xs = rw l (offset_below h y t) in
-    rw (numbered-new y z rows ms p.number e (ap (λ v. numbered v rows) same ∙ none), ← same, get_or-set_same xs (offset_of h y) (Some kept) None within) p.rest
+    let within : section_index h y < length xs = rw l (offset_below h y t) in
+    rw (numbered-new y z rows ms p.number e (ap (λ v. numbered v rows) same ∙ none), ← same, get_or-set_same xs (section_index h y) (Some kept) None within) p.rest
 inside_rests h new rows ms z s kept xs p none l y t c false d e =
-    let ne : offset_of h y ≢ offset_of h z = λ o. true≢false (sym (d.1 (offset_apart h y z t p.within o))) in
-    rw (numbered-other y z rows ms p.number e, get_or-set_other xs (offset_of h z) (offset_of h y) (Some kept) None ne) c
+    let ne : section_index h y ≢ section_index h z = λ o. true≢false (sym (d.1 (offset_apart h y z t p.within o))) in
+    rw (numbered-other y z rows ms p.number e, get_or-set_other xs (section_index h z) (section_index h y) (Some kept) None ne) c
 
 symmetric : (y z : ℤ) → int_eq z y ≡ false → int_eq y z ≡ false
 symmetric y z e = sym_of (int_eq y z) (Decides-int_eq y z) (int_eq z y) (Decides-int_eq z y) e
@@ -130,8 +130,8 @@ symmetric y z e = sym_of (int_eq y z) (Decides-int_eq y z) (int_eq z y) (Decides
 pub HoldSections-inside : (h : Height) (old new : List BlockState) (rows : List (List NamedTag)) (ms : List NamedTag) (z : ℤ) (s : Section) (kept : SectionTags) (r u : Sections)
     → OnlyGrows old new → IsInside h new ms z s kept → numbered z rows ≡ None → IsPartPlaced h (Inside z s kept) r u → HoldSections h old rows r → HoldSections h new (rows ++ ms ∷ []) u
 HoldSections-inside h old new rows ms z s kept r u g p none placed held = record {
-  count = ap length placed.0 ∙ (length-set r.sections.items (offset_of h z) (Some s) ∙ held.count);
-  count_kept = ap length placed.1 ∙ (length-set r.kept.items (offset_of h z) (Some kept) ∙ held.count_kept);
+  count = ap length placed.0 ∙ (length-set r.sections.items (section_index h z) (Some s) ∙ held.count);
+  count_kept = ap length placed.1 ∙ (length-set r.kept.items (section_index h z) (Some kept) ∙ held.count_kept);
   found = λ y t. rw placed.0 (inside_cells h old new rows ms z s kept r.sections.items g p none held.count y t (held.found y t) (int_eq y z) (Decides-int_eq y z) refl);
   rests = λ y t. rw placed.1 (inside_rests h new rows ms z s kept r.kept.items p none held.count_kept y t (held.rests y t) (int_eq y z) (Decides-int_eq y z) refl);
   others = λ y t. rw (placed.2, numbered-other y z rows ms p.number (symmetric y z (apart_numbers h z y p.within t (int_eq z y) (Decides-int_eq z y)))) (held.others y t);
@@ -189,8 +189,8 @@ AreFound-missing h table r m = record {
   held = record {
     count = m.count;
     count_kept = m.count_kept;
-    found = λ y t. rw (m.empty_sections (offset_of h y)) refl;
-    rests = λ y t. rw (m.empty (offset_of h y)) refl;
+    found = λ y t. rw (m.empty_sections (section_index h y)) refl;
+    rests = λ y t. rw (m.empty (section_index h y)) refl;
     others = λ y t. rw m.none refl;
   };
 }
@@ -213,8 +213,8 @@ AreSectionsRead-filled h rows start table r u b all filled kept outside = record
   states = all.states;
   count = filled.count ∙ all.held.count;
   cells = λ y t.
-      let low : offset_of h y < length r.sections.items = rw all.held.count (offset_below h y t) in
-      slot_filled table y (numbered y rows) (get_or r.sections.items (offset_of h y) None) (get_or u.sections.items (offset_of h y) None) (first_is_air table b) (all.held.found y t) (filled.slots (offset_of h y) low);
+      let low : section_index h y < length r.sections.items = rw all.held.count (offset_below h y t) in
+      slot_filled table y (numbered y rows) (get_or r.sections.items (section_index h y) None) (get_or u.sections.items (section_index h y) None) (first_is_air table b) (all.held.found y t) (filled.slots (section_index h y) low);
   rests = λ y t. rw kept (all.held.rests y t);
   others = λ y t. rw outside (all.held.others y t);
 }
@@ -245,11 +245,11 @@ pub FilledBelow-all : (old now : List (Option Section)) (n : ℕ) → length now
 FilledBelow-all old now n l past all = record { count = l; slots = λ i p. all.filled i (omega arith) }
 
 pub section_counts : (h : Height) (part : Part) (r u : Sections) → IsPartPlaced h part r u → length r.sections.items ≡ h.sections → length u.sections.items ≡ h.sections
-section_counts h (Inside y s kept) r u p l = ap length p.0 ∙ (length-set r.sections.items (offset_of h y) (Some s) ∙ l)
+section_counts h (Inside y s kept) r u p l = ap length p.0 ∙ (length-set r.sections.items (section_index h y) (Some s) ∙ l)
 section_counts h (Outside o) r u p l = ap length p.0 ∙ l
 
 pub kept_counts : (h : Height) (part : Part) (r u : Sections) → IsPartPlaced h part r u → length r.kept.items ≡ h.sections → length u.kept.items ≡ h.sections
-kept_counts h (Inside y s kept) r u p l = ap length p.1 ∙ (length-set r.kept.items (offset_of h y) (Some kept) ∙ l)
+kept_counts h (Inside y s kept) r u p l = ap length p.1 ∙ (length-set r.kept.items (section_index h y) (Some kept) ∙ l)
 kept_counts h (Outside o) r u p l = ap length p.1 ∙ l
 
 pub part_fits : (h : Height) (table : List BlockState) (ms : List NamedTag) (part : Part) → IsPart h table ms part → FitsHeight h part

@@ -1,12 +1,14 @@
 -- The states of a section, as the layout of a chunk has them and as the section has them.
-use Rattle.std.proofs.Common.{◌≡◌, ℕ, zero, suc, ◌+◌, ◌*◌, ◌/◌, ◌%◌, ◌<◌, ℤ, List, [], ◌∷◌, ◌++◌, map, length, get_or, take, add-one, append_assoc, Option, Some, None, true, true≢false, refl, sym, ap, ◌∙◌, subst, arith, false, if◌then◌else◌}
+use Rattle.std.proofs.Common.{◌≡◌, ℕ, zero, suc, ◌+◌, ◌<◌, ℤ, List, [], ◌∷◌, ◌++◌, map, length, get_or, take, add-one, append_assoc, Option, Some, None, true, true≢false, refl, sym, ap, ◌∙◌, subst, arith, false, if◌then◌else◌}
 use Rattle.std.specs.Prelude.{slice_get, slice_index_or, IsSome, IfSome}
-use Rattle.std.specs.List.{range_with_len, All}
+use Rattle.std.specs.List.{All}
 use Rattle.std.proofs.lemmas.List.{map-append, append-nil}
 use Rattle.std.proofs.lemmas.List.Concat.{flat_map-append}
 use Rattle.std.proofs.Math.Seq.{take-suc}
 use Rattle.std.proofs.lemmas.List.FromFn.{map-range_with_len_more}
-use Rattle.av_types.specs.Division.{divided, remainder}
+use Rattle.std.proofs.lemmas.Simd.{map-map}
+use Rattle.av_document.proofs.Inside.{map_range_agree}
+use Rattle.av_types.specs.Division.{divided}
 use Rattle.av_types.specs.Places.{is_section_of, place_of}
 use Rattle.av_types.specs.declared.place.Pos.{Pos}
 use Rattle.av_types.specs.declared.place.ChunkPos.{ChunkPos}
@@ -18,7 +20,8 @@ use Rattle.av_tags.specs.View.{view, views}
 use Rattle.av_tags.specs.declared.tag.Tag.{Tag}
 use Rattle.av_ticks.specs.Ticks.{entries}
 use Rattle.av_rules.specs.Kinds.{kind_count}
-use Rattle.av_tags.specs.Shape.{◌>>=◌, or_else}
+use Rattle.av_types.specs.Options.{◌>>=◌}
+use Rattle.av_tags.specs.Shape.{or_else}
 use Rattle.av_state.specs.BlockState.{BlockState, air}
 use Rattle.av_section.specs.Section.{number_at, HasNumbersBelow, section_states}
 use Rattle.av_section.specs.declared.section.Section.{Section}
@@ -26,7 +29,7 @@ use Rattle.av_document.specs.Ticks.{lies_in}
 use Rattle.av_document.specs.Chunk.{SectionRest}
 use Rattle.av_rules.specs.declared.kinds.Kinds.{Kinds}
 use Rattle.av_document.specs.Layout.{block_at, states_of, section_layout, section_numbers, compound_with, kept_section, all_of, compounds, entry_layout, section_at, ticks_layout}
-use Rattle.av_document.proofs.Positions.{coordinate, divided-coordinate, remainder-coordinate, place-parts, lies_in-block_at, within_from}
+use Rattle.av_document.proofs.Positions.{lies_in-block_at, within_from, section-of_block, place-of_block}
 use Rattle.av_chunk.specs.Rest.{opened, found_outside}
 use Rattle.av_chunk.specs.Views.{section_in, number_in, state_in, cells_of, rest_of}
 use Rattle.av_chunk.specs.Writing.{CanWrite, states_of_kinds, sources_of, light_of}
@@ -35,20 +38,6 @@ use Rattle.av_chunk.specs.WritingSteps as steps
 use Rattle.av_chunk.specs.declared.chunk.Chunk.{Chunk}
 use Rattle.av_chunk.specs.declared.rest.ChunkRest.{ChunkRest}
 use Rattle.av_chunk.specs.declared.light.ChunkLight.{ChunkLight}
-
--- where a block of a section lies
-section-of_block : (c : ChunkPos) (y : ℤ) (i : ℕ) → i < 4096 → divided (block_at c y i).y 16 ≡ y
-section-of_block c y i h = divided-coordinate y (i / 256) (omega arith)
-
-place-of_block : (c : ChunkPos) (y : ℤ) (i : ℕ) → i < 4096 → place_of (block_at c y i) ≡ i
-place-of_block c y i h =
-    let ry : remainder (coordinate y (i / 256)) 16 ≡ i / 256 = remainder-coordinate y (i / 256) (omega arith) in
-    let rz : remainder (coordinate c.z (i / 16 % 16)) 16 ≡ i / 16 % 16 = remainder-coordinate c.z (i / 16 % 16) (omega arith) in
-    let rx : remainder (coordinate c.x (i % 16)) 16 ≡ i % 16 = remainder-coordinate c.x (i % 16) (omega arith) in
-    ap (λ r. 256 * r + 16 * remainder (coordinate c.z (i / 16 % 16)) 16 + remainder (coordinate c.x (i % 16)) 16) ry
-    ∙ ap (λ r. 256 * (i / 256) + 16 * r + remainder (coordinate c.x (i % 16)) 16) rz
-    ∙ ap (λ r. 256 * (i / 256) + 16 * (i / 16 % 16) + r) rx
-    ∙ place-parts i h
 
 -- a block's state, by its section and its place there
 state-of_block : (table : List BlockState) (c : ChunkPos) (h : Height) (chunk : Chunk) (y : ℤ) (i : ℕ) (s : Section) → i < 4096 → section_in h chunk y ≡ Some s
@@ -68,18 +57,12 @@ below [] n h = absurd (true≢false (sym h))
 below (s ∷ table) zero h = omega arith
 below (s ∷ table) (suc n) h = let p = below table n h in omega arith
 
-same_map : {A : Type 0} (f g : ℕ → A) (a n : ℕ) → ((i : ℕ) → i < a + n → f i ≡ g i) → map f (range_with_len a n) ≡ map g (range_with_len a n)
-same_map f g a zero e = refl
-same_map f g a (suc n) e =
-    let rest : (i : ℕ) → i < a + 1 + n → f i ≡ g i = λ i h. e i (omega arith) in
-    ap (λ x. x ∷ map f (range_with_len (a + 1) n)) (e a (omega arith)) ∙ ap (λ xs. g a ∷ xs) (same_map f g (a + 1) n rest)
-
 -- the states of a section in the height are those that the section has ..
 pub states-of_section : (table : List BlockState) (c : ChunkPos) (h : Height) (chunk : Chunk) (y : ℤ) (s : Section) → section_in h chunk y ≡ Some s
     → section_states table s ≡ states_of (λ i. cells_of table h chunk (block_at c y i))
 unfolding section_states
 states-of_section table c h chunk y s e =
-    same_map (λ i. slice_index_or table (number_at s i) air) (λ i. cells_of table h chunk (block_at c y i)) 0 4096
+    map_range_agree (λ i. slice_index_or table (number_at s i) air) (λ i. cells_of table h chunk (block_at c y i)) 0 4096
     (λ i low. sym (ap (or_else air) (state-of_block table c h chunk y i s (omega arith) e) ∙ or_air table (number_at s i)))
 
 -- .. and each of them is in the table.
@@ -160,16 +143,12 @@ one_more-written f before es n d ticks new tick low so_far is step =
 
 -- ---- the whole
 
-map_map : {A B C : Type 0} (f : B → C) (g : A → B) (xs : List A) → map f (map g xs) ≡ map (λ x. f (g x)) xs
-map_map f g [] = refl
-map_map f g (x ∷ xs) = ap (λ ys. f (g x) ∷ ys) (map_map f g xs)
-
 pub ticks-written : (chunk : Chunk) (rest : ChunkRest) (kinds : Kinds) (elapsed : ℕ) (ticks : List Nbt)
     → ticks ≡ map compound_with (opened (views rest.foreign.items)) ++ map (written_entry chunk rest kinds elapsed) (entries chunk.ticks)
     → list tag_type.Compound (items_of ticks) ≡ ticks_layout (sources_of kinds rest.height chunk) (rest_of rest).foreign (entries chunk.ticks) elapsed
 ticks-written chunk rest kinds elapsed ticks e =
     ap (λ ts. list tag_type.Compound (items_of ts)) (e
-    ∙ ap (λ ts. map compound_with (opened (views rest.foreign.items)) ++ ts) (sym (map_map compound_with (λ e. entry_layout (sources_of kinds rest.height chunk e.pos) elapsed e) (entries chunk.ticks)))
+    ∙ ap (λ ts. map compound_with (opened (views rest.foreign.items)) ++ ts) (sym (map-map compound_with (λ e. entry_layout (sources_of kinds rest.height chunk e.pos) elapsed e) (entries chunk.ticks)))
     ∙ sym (map-append compound_with (opened (views rest.foreign.items)) (map (λ e. entry_layout (sources_of kinds rest.height chunk e.pos) elapsed e) (entries chunk.ticks))))
 
 pub sections-written : (chunk : Chunk) (rest : ChunkRest) (kinds : Kinds) (light : ChunkLight) (sections : List Nbt)

@@ -9,4 +9,5 @@ pub mod Writing
 pub mod WritingSteps
 pub mod TicksRead
 pub mod SectionsRead
+pub mod Assembly
 pub mod Pending

@@ -2,12 +2,11 @@
 use Rattle.std.specs.Prelude.{◌≡◌, ℕ, List, length, slice_index_or, Option, Some, None, Bool, true, ◌&&◌, ◌||◌, ◌==◌}
 use Rattle.std.specs.List.{list_any}
 use Rattle.av_types.specs.Division.{divided}
-use Rattle.av_types.specs.Places.{is_block_of, place_of}
+use Rattle.av_types.specs.Places.{is_block_of, place_of, section_index}
 use Rattle.av_types.specs.declared.place.Height.{Height}
 use Rattle.av_types.specs.declared.tick.Entry.{Entry}
 use Rattle.av_section.specs.Section.{number_at, is_pending, SetsPending}
 use Rattle.av_section.specs.declared.section.Section.{Section}
-use Rattle.av_chunk.specs.Rest.{offset_of}
 
 abbrev pub is_in_height : Height → Entry → Bool
 is_in_height h e = is_block_of h e.pos.y
@@ -29,7 +28,7 @@ SlotAddsAll _ _ test = ⊥
 
 -- an entry lies in the section at an offset, at a place of it
 abbrev pub is_entry_at : Height → ℕ → ℕ → Entry → Bool
-is_entry_at h offset place e = (offset == offset_of h (divided e.pos.y 16)) && (place == place_of e.pos)
+is_entry_at h offset place e = (offset == section_index h (divided e.pos.y 16)) && (place == place_of e.pos)
 
 pub record MarksPending (h : Height) (entries : List Entry) (old new : List (Option Section)) : Type 0 where
   pub count : length new ≡ length old

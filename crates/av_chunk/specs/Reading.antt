@@ -1,13 +1,12 @@
 -- What a reader of a chunk answers.
-use Rattle.std.specs.Prelude.{◌≡◌, ◌≢◌, ℤ, List, length, Some, None, true, false, IsSome}
+use Rattle.std.specs.Prelude.{◌≡◌, ℤ, List, length, None, true, false, IsSome}
 use Rattle.std.specs.List.{All}
-use Rattle.av_types.specs.Faults.{fault_number}
+use Rattle.av_types.specs.Faults.{IsRefusal}
 use Rattle.av_types.specs.Places.{is_section_of}
 use Rattle.av_types.specs.declared.place.Pos.{Pos}
 use Rattle.av_types.specs.declared.place.ChunkPos.{ChunkPos}
 use Rattle.av_types.specs.declared.place.Height.{Height}
 use Rattle.av_types.specs.declared.fault.Fault.{Fault}
-use Rattle.av_types.specs.declared.fault.Fault.TheVariants.{OutOfMemory}
 use Rattle.av_tags.specs.Nbt.{Document, NamedTag}
 use Rattle.av_tags.specs.Shape.{lacks}
 use Rattle.av_state.specs.BlockState.{BlockState}
@@ -61,5 +60,5 @@ pub record IsAdmitted (h : Height) (c : ChunkPos) (root : List NamedTag) : Type 
   pub place : is_elsewhere c root ≡ false
 
 -- every fault but memory is the first that holds
-pub record IsChunkRefusal (c : ChunkPos) (h : Height) (d : Document) (old : List BlockState) (e : Fault) : Type 0 where
-  pub first : e ≢ OutOfMemory → first_fault h c old (root_tags d) ≡ Some (fault_number e)
+abbrev pub IsChunkRefusal : ChunkPos → Height → Document → List BlockState → Fault → Type 0
+IsChunkRefusal c h d old = IsRefusal (first_fault h c old (root_tags d))

@@ -1,7 +1,7 @@
 -- What a chunk keeps beside its cells, its entries and its light, from where it lies in memory.
-use Rattle.std.specs.Prelude.{ℕ, ℤ, pos, negsuc, ◌-ℤ◌, List, [], ◌∷◌, map, Option, Some, None, codes, slice_index_or, if◌then◌else◌}
+use Rattle.std.specs.Prelude.{ℕ, ℤ, List, [], ◌∷◌, map, Option, Some, None, codes, slice_index_or, if◌then◌else◌}
 use Rattle.std.specs.Ordering.{int_eq}
-use Rattle.av_types.specs.Places.{is_section_of}
+use Rattle.av_types.specs.Places.{is_section_of, section_index}
 use Rattle.av_types.specs.declared.place.Height.{Height}
 use Rattle.av_tags.specs.Nbt.{Nbt, byte, NamedTag}
 use Rattle.av_tags.specs.Shape.{compound_of, or_else}
@@ -11,15 +11,6 @@ use Rattle.av_tags.specs.declared.tag.Named.{Named}
 use Rattle.av_document.specs.Chunk.{SectionRest, RestOfChunk, section_rest}
 use Rattle.av_chunk.specs.declared.rest.SectionTags.{SectionTags}
 use Rattle.av_chunk.specs.declared.rest.OutsideSection.{OutsideSection}
-
--- a number from 0 on as it is, and 0 for one below
-abbrev pub natural : ℤ → ℕ
-natural (pos n) = n
-natural (negsuc n) = 0
-
--- where the section of a number stands among those of the height
-abbrev pub offset_of : Height → ℤ → ℕ
-offset_of h y = natural (y -ℤ h.min_section)
 
 -- the tags of Compounds
 abbrev pub opened : List Nbt → List (List NamedTag)
@@ -48,5 +39,5 @@ rest_with h name tags foreign sections outside = record {
   tags = named_views tags;
   foreign = opened (views foreign);
   outside = λ y. if is_section_of h y then None else found_outside y outside;
-  section = λ y. section_or_missing y (slice_index_or sections (offset_of h y) None);
+  section = λ y. section_or_missing y (slice_index_or sections (section_index h y) None);
 }

@@ -1,8 +1,8 @@
 -- What the readers of sections answer. Working definitions: no public clause cites them.
 use Rattle.std.specs.Prelude.{◌≡◌, ◌≢◌, ℕ, ◌<◌, ◌≤◌, ℤ, List, [], ◌∷◌, ◌++◌, Option, Some, None, Bool, true, false, nat_lt, length, slice_get, slice_index_or, slice_set, codes}
 use Rattle.std.specs.List.{flat_map}
-use Rattle.av_types.specs.Faults.{fault_number, least}
-use Rattle.av_types.specs.Places.{is_section_of}
+use Rattle.av_types.specs.Faults.{fault_number, least, IsRefusal}
+use Rattle.av_types.specs.Places.{is_section_of, section_index}
 use Rattle.av_types.specs.declared.place.Height.{Height}
 use Rattle.av_types.specs.declared.fault.Fault.{Fault}
 use Rattle.av_types.specs.declared.fault.Fault.TheVariants.{OutOfMemory}
@@ -21,7 +21,7 @@ use Rattle.av_chunk.specs.declared.sections.Part.TheVariants.{Inside, Outside}
 use Rattle.av_chunk.specs.declared.sections.Sections.{Sections}
 use Rattle.av_chunk.specs.declared.rest.SectionTags.{SectionTags}
 use Rattle.av_chunk.specs.declared.rest.OutsideSection.{OutsideSection}
-use Rattle.av_chunk.specs.Rest.{tags_of, offset_of, section_or_missing, found_outside}
+use Rattle.av_chunk.specs.Rest.{tags_of, section_or_missing, found_outside}
 
 -- more states than a table has
 abbrev pub are_too_many : List BlockState → List BlockState → Bool
@@ -42,8 +42,8 @@ pub record AreStates (b : Option (List NamedTag)) (old new : List BlockState) (s
   pub cells : HasCells new (block_cell b) s
   pub others_are : others ≡ without (codes "data") (without (codes "palette") (or_else [] b))
 
-pub record AreStatesRefused (b : Option (List NamedTag)) (old : List BlockState) (e : Fault) : Type 0 where
-  pub first : e ≢ OutOfMemory → judged (block_faults b) old (block_palette b) ≡ Some (fault_number e)
+abbrev pub AreStatesRefused : Option (List NamedTag) → List BlockState → Fault → Type 0
+AreStatesRefused b old = IsRefusal (judged (block_faults b) old (block_palette b))
 
 -- a section in the height, and one out of it
 pub record IsInside (h : Height) (table : List BlockState) (ms : List NamedTag) (y : ℤ) (s : Section) (kept : SectionTags) : Type 0 where
@@ -66,8 +66,8 @@ pub record IsSectionRead (h : Height) (ms : List NamedTag) (old new : List Block
   pub no_fault : section_faults h ms ≡ []
   pub states : new ≡ with_states old (section_states h ms)
 
-pub record IsSectionRefused (h : Height) (ms : List NamedTag) (old : List BlockState) (e : Fault) : Type 0 where
-  pub first : e ≢ OutOfMemory → judged (section_faults h ms) old (section_states h ms) ≡ Some (fault_number e)
+abbrev pub IsSectionRefused : Height → List NamedTag → List BlockState → Fault → Type 0
+IsSectionRefused h ms old = IsRefusal (judged (section_faults h ms) old (section_states h ms))
 
 -- ---- all sections
 
@@ -88,8 +88,8 @@ SlotFinds table y found (Some s) = HasCells table (block_cell (block_states_of (
 pub record HoldSections (h : Height) (table : List BlockState) (rows : List (List NamedTag)) (r : Sections) : Type 0 where
   pub count : length r.sections.items ≡ h.sections
   pub count_kept : length r.kept.items ≡ h.sections
-  pub found : (y : ℤ) → is_section_of h y ≡ true → SlotFinds table y (numbered y rows) (slice_index_or r.sections.items (offset_of h y) None)
-  pub rests : (y : ℤ) → is_section_of h y ≡ true → section_or_missing y (slice_index_or r.kept.items (offset_of h y) None) ≡ section_rest (or_missing y (numbered y rows))
+  pub found : (y : ℤ) → is_section_of h y ≡ true → SlotFinds table y (numbered y rows) (slice_index_or r.sections.items (section_index h y) None)
+  pub rests : (y : ℤ) → is_section_of h y ≡ true → section_or_missing y (slice_index_or r.kept.items (section_index h y) None) ≡ section_rest (or_missing y (numbered y rows))
   pub others : (y : ℤ) → is_section_of h y ≡ false → found_outside y r.outside.items ≡ numbered y rows
 
 -- all missing, before any was found
@@ -103,7 +103,7 @@ pub record AreMissing (h : Height) (r : Sections) : Type 0 where
 -- one more part
 abbrev pub IsPartPlaced : Height → Part → Sections → Sections → Type 0
 IsPartPlaced h (Inside y s kept) old new =
-    (new.sections.items ≡ slice_set old.sections.items (offset_of h y) (Some s)) × (new.kept.items ≡ slice_set old.kept.items (offset_of h y) (Some kept)) × (new.outside.items ≡ old.outside.items)
+    (new.sections.items ≡ slice_set old.sections.items (section_index h y) (Some s)) × (new.kept.items ≡ slice_set old.kept.items (section_index h y) (Some kept)) × (new.outside.items ≡ old.outside.items)
 IsPartPlaced h (Outside o) old new =
     (new.sections.items ≡ old.sections.items) × (new.kept.items ≡ old.kept.items) × (new.outside.items ≡ old.outside.items ++ o ∷ [])
 
@@ -137,8 +137,8 @@ pub record AreSectionsRead (h : Height) (rows : List (List NamedTag)) (old new :
   pub no_fault : flat_map (section_faults h) rows ≡ []
   pub states : new ≡ with_states old (flat_map (section_states h) rows)
   pub count : length r.sections.items ≡ h.sections
-  pub cells : (y : ℤ) → is_section_of h y ≡ true → SlotHas new (block_cell (block_states_of (or_missing y (numbered y rows)))) (slice_index_or r.sections.items (offset_of h y) None)
-  pub rests : (y : ℤ) → is_section_of h y ≡ true → section_or_missing y (slice_index_or r.kept.items (offset_of h y) None) ≡ section_rest (or_missing y (numbered y rows))
+  pub cells : (y : ℤ) → is_section_of h y ≡ true → SlotHas new (block_cell (block_states_of (or_missing y (numbered y rows)))) (slice_index_or r.sections.items (section_index h y) None)
+  pub rests : (y : ℤ) → is_section_of h y ≡ true → section_or_missing y (slice_index_or r.kept.items (section_index h y) None) ≡ section_rest (or_missing y (numbered y rows))
   pub others : (y : ℤ) → is_section_of h y ≡ false → found_outside y r.outside.items ≡ numbered y rows
 
 pub record AreRefusedBy (h : Height) (rows : List (List NamedTag)) (old : List BlockState) (e : Fault) : Type 0 where

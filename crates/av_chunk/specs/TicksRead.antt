@@ -1,7 +1,7 @@
 -- What the reader of a chunk's scheduled ticks answers. Working definitions: no public clause cites them.
-use Rattle.std.specs.Prelude.{◌≡◌, ◌≢◌, ℕ, List, [], ◌++◌, Option, Some, true, false}
+use Rattle.std.specs.Prelude.{◌≡◌, ◌≢◌, ℕ, List, [], ◌++◌, Option, true, false}
 use Rattle.std.specs.List.{list_any, flat_map}
-use Rattle.av_types.specs.Faults.{fault_number, least}
+use Rattle.av_types.specs.Faults.{least, IsRefusal}
 use Rattle.av_state.specs.BlockState.{BlockState}
 use Rattle.av_section.specs.BlockStates.{when}
 use Rattle.av_document.specs.Chunk.{section_faults, section_states}
@@ -33,5 +33,5 @@ abbrev pub parts_judged : ChunkPos → Height → List (List NamedTag) → List 
 parts_judged c h rows ticks old =
     least ((flat_map (section_faults h) rows ++ when (list_any (is_bad_tick c h) ticks) 16) ++ when (are_too_many old (flat_map (section_states h) rows)) 18)
 
-pub record ArePartsRefused (c : ChunkPos) (h : Height) (rows ticks : List (List NamedTag)) (old : List BlockState) (e : Fault) : Type 0 where
-  pub first : e ≢ OutOfMemory → parts_judged c h rows ticks old ≡ Some (fault_number e)
+abbrev pub ArePartsRefused : ChunkPos → Height → List (List NamedTag) → List (List NamedTag) → List BlockState → Fault → Type 0
+ArePartsRefused c h rows ticks old = IsRefusal (parts_judged c h rows ticks old)

@@ -1,21 +1,22 @@
 -- What a chunk in memory holds, and what its rest does.
 use Rattle.std.specs.Prelude.{ℕ, ℤ, List, Option, Some, None, Bool, false, slice_get, slice_index_or}
 use Rattle.av_types.specs.Division.{divided}
-use Rattle.av_types.specs.Places.{place_of}
+use Rattle.av_types.specs.Places.{place_of, section_index}
 use Rattle.av_types.specs.declared.place.Pos.{Pos}
 use Rattle.av_types.specs.declared.place.Height.{Height}
-use Rattle.av_tags.specs.Shape.{◌>>=◌, or_else}
+use Rattle.av_types.specs.Options.{◌>>=◌}
+use Rattle.av_tags.specs.Shape.{or_else}
 use Rattle.av_state.specs.BlockState.{BlockState, air}
 use Rattle.av_section.specs.Section.{number_at, is_pending}
 use Rattle.av_section.specs.declared.section.Section.{Section}
 use Rattle.av_document.specs.Chunk.{RestOfChunk}
-use Rattle.av_chunk.specs.Rest.{offset_of, rest_with}
+use Rattle.av_chunk.specs.Rest.{rest_with}
 use Rattle.av_chunk.specs.declared.chunk.Chunk.{Chunk}
 use Rattle.av_chunk.specs.declared.rest.ChunkRest.{ChunkRest}
 
 -- the section of a number, where it is not out
 abbrev pub section_in : Height → Chunk → ℤ → Option Section
-section_in h chunk y = slice_index_or chunk.sections.items (offset_of h y) None
+section_in h chunk y = slice_index_or chunk.sections.items (section_index h y) None
 
 -- the number of a block's state
 abbrev pub number_in : Height → Chunk → Pos → Option ℕ

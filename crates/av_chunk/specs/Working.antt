@@ -11,7 +11,8 @@ use Rattle.av_types.specs.declared.fault.Fault.{Fault}
 use Rattle.av_types.specs.declared.fault.Fault.TheVariants.{OldLayout, BadChunk, WrongPlace}
 use Rattle.av_tags.specs.Nbt.{Nbt, NamedTag}
 use Rattle.av_tags.specs.Place.{tag_of}
-use Rattle.av_tags.specs.Shape.{◌>>=◌, text_of, byte_of, compound_of, compounds_of, items_of_list, lacks, or_else}
+use Rattle.av_types.specs.Options.{◌>>=◌}
+use Rattle.av_tags.specs.Shape.{text_of, byte_of, compound_of, compounds_of, items_of_list, lacks, or_else}
 use Rattle.av_document.specs.Chunk.{section_number, is_other, has_level, status_of, is_full, is_bad_chunk, is_elsewhere}
 use Rattle.av_document.specs.Working.{with_number}
 

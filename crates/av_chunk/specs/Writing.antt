@@ -16,7 +16,7 @@ use Rattle.av_document.specs.Ticks.{lies_in}
 use Rattle.av_document.specs.Chunk.{DenotesChunk}
 use Rattle.av_document.specs.Layout.{chunk_layout}
 use Rattle.av_document.specs.Law.{sooner}
-use Rattle.av_chunk.specs.Rest.{offset_of}
+use Rattle.av_types.specs.Places.{section_index}
 use Rattle.av_chunk.specs.Views.{number_in, state_in, cells_of, rest_of}
 use Rattle.av_chunk.specs.Reading.{HasAllSections}
 use Rattle.av_chunk.specs.Light.{section_count, light_section}
@@ -39,7 +39,7 @@ sources_of k h chunk p = is_source_number k (number_in h chunk p)
 
 -- the light of the section of a number
 abbrev pub light_of : ChunkLight → Height → ℤ → List ℕ
-light_of l h y = light_section l (offset_of h y)
+light_of l h y = light_section l (section_index h y)
 
 -- The document that a chunk is written as.
 abbrev pub written : Chunk → ChunkRest → Kinds → ChunkLight → ℕ → Document

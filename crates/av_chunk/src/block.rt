@@ -9,7 +9,7 @@ ghost use Rattle.av_chunk.specs.Block.{is_of_region, IsFound, IsBlockRefused, Is
 
 use crate::chunk::{Chunk, Reading};
 use crate::payload::read_payload;
-use crate::sections::offset_of;
+use crate::sections::section_index;
 use av_region::Region;
 use av_state::{State, StateTable};
 use av_types::{Fault, Height, Pos, RegionPos};
@@ -35,7 +35,7 @@ fn number_in(chunk: &Chunk, pos: Pos, height: Height) -> Option<u16>
     requires count { length chunk.now.sections.items ≡ height.sections }
     ensures { result ≡ number_in height chunk.now pos }
 {
-    match &chunk.sections[offset_of(height, pos.section().y)] {
+    match &chunk.sections[section_index(height, pos.section().y)] {
         None => None,
         Some(section) => Some(section.get(pos.place())),
     }

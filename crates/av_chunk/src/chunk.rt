@@ -12,7 +12,7 @@ ghost use Rattle.av_chunk.specs.Rest.{opened};
 ghost use Rattle.av_chunk.specs.Working.{has_other, has_bad_number, list_items, list_rows};
 
 use crate::faults::lesser;
-use crate::pending::mark_pending;
+use crate::loaded::assembled;
 use crate::rest::ChunkRest;
 use crate::sections::{Sections, emptied, read_sections};
 use crate::shape::admitted;
@@ -115,7 +115,7 @@ impl Chunk {
         }
         let sections = emptied(alloc, &mut tags, b"sections")?;
         let ticks = emptied(alloc, &mut tags, b"fluid_ticks")?;
-        let (mut read, ticks) = read_parts(
+        let (read, ticks) = read_parts(
             alloc,
             items(alloc, sections),
             items(alloc, ticks),
@@ -123,21 +123,6 @@ impl Chunk {
             height,
             table,
         )?;
-        mark_pending(&mut read.sections, ticks.water.as_slice(), height);
-        Ok(Reading::Full {
-            chunk: Chunk {
-                sections: read.sections,
-                ticks: ticks.water,
-            },
-            rest: ChunkRest {
-                place,
-                height,
-                name,
-                tags,
-                foreign: ticks.foreign,
-                sections: read.kept,
-                outside: read.outside,
-            },
-        })
+        Ok(assembled(name, tags, read, ticks, place, height))
     }
 }

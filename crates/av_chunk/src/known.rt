@@ -11,8 +11,8 @@ ghost use Rattle.av_chunk.specs.Rest.{opened};
 ghost use Rattle.av_chunk.specs.Working.{checked_number, compound_in, tags_in, has_bad_number};
 
 use crate::chunk::{Chunk, Reading, items};
-use crate::pending::mark_pending;
-use crate::rest::{ChunkRest, OutsideSection, SectionTags};
+use crate::loaded::assembled;
+use crate::rest::{OutsideSection, SectionTags};
 use crate::sections::{Part, Sections, emptied, fill_all, is_inside};
 use crate::shape::admitted;
 use crate::tags::byte_at;
@@ -148,28 +148,13 @@ impl Chunk {
         }
         let sections = emptied(alloc, &mut tags, b"sections")?;
         let ticks = emptied(alloc, &mut tags, b"fluid_ticks")?;
-        let Some(mut read) = known_sections(alloc, items(alloc, sections), height, table)? else {
+        let Some(read) = known_sections(alloc, items(alloc, sections), height, table)? else {
             return Ok(None);
         };
         let ticks = read_ticks(alloc, items(alloc, ticks), place, height);
         let Some(ticks) = unless_refused(ticks)? else {
             return Ok(None);
         };
-        mark_pending(&mut read.sections, ticks.water.as_slice(), height);
-        Ok(Some(Reading::Full {
-            chunk: Chunk {
-                sections: read.sections,
-                ticks: ticks.water,
-            },
-            rest: ChunkRest {
-                place,
-                height,
-                name,
-                tags,
-                foreign: ticks.foreign,
-                sections: read.kept,
-                outside: read.outside,
-            },
-        }))
+        Ok(Some(assembled(name, tags, read, ticks, place, height)))
     }
 }

@@ -7,6 +7,7 @@ pub mod chunk;
 mod faults;
 mod known;
 pub mod light;
+mod loaded;
 pub mod payload;
 mod pending;
 pub mod rest;

@@ -22,7 +22,7 @@ impl ChunkLight {
     pub fn new(alloc: Global, sections: u32) -> Result<Self, Fault>
         ensures sections { IfOk result (λ l. section_count l ≡ sections) }
         ensures dark { IfOk result (λ l. light_bytes l ≡ replicate (2048 * sections) 0) }
-        ensures err { IfErr result (λ e. e ≡ OutOfMemory) }
+        ensures memory { IfErr result (λ e. e ≡ OutOfMemory) }
     {
         let bytes = vec![in alloc; 0u8; 2048 * sections as usize]?;
         Ok(ChunkLight { sections, bytes })

@@ -3,7 +3,7 @@ ghost use Rattle.std.specs.Prelude.{◌≡◌, length, true};
 ghost use Rattle.std.specs.List.{list_all};
 ghost use Rattle.av_chunk.specs.Pending.{SlotPending, MarksPending, is_in_height};
 
-use crate::sections::offset_of;
+use crate::sections::section_index;
 use av_section::Section;
 use av_types::{Entry, Height, Place};
 
@@ -23,7 +23,7 @@ pub(crate) fn mark_pending(sections: &mut Vec<Option<Section>>, entries: &[Entry
     ensures { MarksPending height entries.now sections.old.items sections.new.items }
 {
     for entry in entries {
-        let index = offset_of(height, entry.pos.section().y);
+        let index = section_index(height, entry.pos.section().y);
         set_pending(&mut sections[index], entry.pos.place());
     }
 }

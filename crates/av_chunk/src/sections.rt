@@ -1,7 +1,7 @@
 //! The sections of a chunk, taken apart in the order of the file.
 ghost use Rattle.std.specs.Prelude.{◌≡◌, IfOk, IfErr, OnOk, IsSome, ◌<◌, ◌≢◌, length, true, false, option_map};
 ghost use Rattle.av_types.specs.declared.fault.Fault.TheVariants.{OutOfMemory};
-ghost use Rattle.av_types.specs.Places.{is_section_of};
+ghost use Rattle.av_types.specs.Places.{is_section_of, section_index};
 ghost use Rattle.av_tags.specs.Place.{tag_of, emptied, blank};
 ghost use Rattle.av_tags.specs.Shape.{compound_of};
 ghost use Rattle.av_tags.specs.View.{view, views, named_view, named_views};
@@ -9,7 +9,7 @@ ghost use Rattle.av_state.specs.Table.{states};
 ghost use Rattle.av_section.specs.Reading.{OnlyGrows};
 ghost use Rattle.av_document.specs.Chunk.{is_other, share_a_number};
 ghost use Rattle.av_chunk.specs.SectionsRead.{AreStates, AreStatesRefused, IsSectionRead, IsSectionRefused, AreMissing, IsPartPlaced, FitsHeight, SlotFilled, AreFilled, AreFound, AreSectionsRead, AreRefusedBy};
-ghost use Rattle.av_chunk.specs.Rest.{offset_of, opened};
+ghost use Rattle.av_chunk.specs.Rest.{opened};
 ghost use Rattle.av_chunk.specs.Working.{checked_number, compound_in, tags_in, has_bad_number};
 
 use crate::faults::lesser;
@@ -118,9 +118,9 @@ pub(crate) struct Sections {
 }
 
 /// Where a section of the height stands among its sections, by its number.
-pub(crate) fn offset_of(height: Height, y: i32) -> usize
+pub(crate) fn section_index(height: Height, y: i32) -> usize
     requires { is_section_of height y ≡ true }
-    ensures value { result ≡ offset_of height y }
+    ensures value { result ≡ section_index height y }
     ensures bound { result < height.sections }
 {
     height.section_index(y)
@@ -153,7 +153,7 @@ impl Sections {
     {
         match part {
             Part::Inside { y, section, kept } => {
-                let index = offset_of(height, i32::from(y));
+                let index = section_index(height, i32::from(y));
                 self.sections[index] = Some(section);
                 self.kept[index] = Some(kept);
             }

@@ -9,7 +9,7 @@ ghost use Rattle.av_chunk.specs.WritingSteps.{CanWriteSections, number_at, insid
 use crate::chunk::Chunk;
 use crate::light::ChunkLight;
 use crate::rest::{ChunkRest, SectionTags};
-use crate::sections::offset_of;
+use crate::sections::section_index;
 use crate::write_section::{kept_section, outside_section, section_tags};
 use av_rules::Kinds;
 use av_section::Section;
@@ -52,7 +52,7 @@ fn inside_section(
     requires inside { is_section_of rest.now.height y ≡ true }
     ensures { IfOk result (λ tags. named_views tags.items ≡ inside_layout chunk.now rest.now kinds.now light.now y) }
 {
-    let index = offset_of(rest.height, i32::from(y));
+    let index = section_index(rest.height, i32::from(y));
     let Some(section) = section_at(chunk, index) else {
         unreachable!()
     };

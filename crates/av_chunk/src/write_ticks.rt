@@ -19,7 +19,7 @@ ghost use Rattle.std.specs.List.{All};
 use crate::build::{appended, copied_compound};
 use crate::chunk::Chunk;
 use crate::rest::ChunkRest;
-use crate::sections::offset_of;
+use crate::sections::section_index;
 use crate::write_sections::section_at;
 use av_rules::Kinds;
 use av_tags::{Named, Tag};
@@ -89,7 +89,7 @@ fn is_source(chunk: &Chunk, height: Height, kinds: &Kinds, pos: Pos) -> bool
     requires below { IfSome (number_in height chunk.now pos) (λ n. n < kind_count kinds.now) }
     ensures { result ≡ sources_of kinds.now height chunk.now pos }
 {
-    let index = offset_of(height, pos.section().y);
+    let index = section_index(height, pos.section().y);
     match section_at(chunk, index) {
         None => false,
         Some(section) => kinds.wet(section.get(pos.place())).is_source(),

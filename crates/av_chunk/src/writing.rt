@@ -35,7 +35,7 @@ impl Chunk {
         ensures ok { IfOk result (λ root. document root ≡ written self.now rest.now kinds.now light.now elapsed) }
         ensures well_formed { IfOk result (λ root. IsWellFormed (document root)) }
         ensures denotes { IfOk result (λ root. DenotesSooner self.now rest.now kinds.now elapsed (document root)) }
-        ensures err { IfErr result (λ e. e ≡ OutOfMemory) }
+        ensures memory { IfErr result (λ e. e ≡ OutOfMemory) }
     {
         let sections = all_sections(alloc, self, rest, kinds, light)?;
         let ticks = all_ticks(alloc, self, rest, kinds, elapsed)?;

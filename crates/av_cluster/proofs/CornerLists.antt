@@ -1,7 +1,7 @@
 -- The sections of a reach's corners that are there are those of the list of the territory.
 use Rattle.std.proofs.Common.{◌≡◌, ◌↔◌, ℕ, ◌+◌, ◌<◌, pos, ◌+ℤ◌, ◌-ℤ◌, ◌&&◌, Bool, true, false, cond, List, [], ◌∷◌, ◌++◌, length, get_or, take, Some, slice_get, ◌⊎◌, inl, inr, refl, sym, ap, ◌∙◌, subst, append_assoc, IsTrue, arith}
 use Rattle.std.specs.List.{Contains}
-use Rattle.std.proofs.lemmas.List.{append-nil}
+use Rattle.std.proofs.lemmas.List.{append-nil, take_more}
 use Rattle.std.proofs.lemmas.List.Elements.{Contains-append_cases, Contains-append_left, Contains-append_right, Contains-push, Contains-push_cases}
 use Rattle.std.proofs.lemmas.Option.{slice_get-get_or, get_or_from_slice_get}
 use Rattle.av_types.specs.declared.place.Pos.{Pos}
@@ -17,7 +17,7 @@ use Rattle.av_cluster.specs.Territory.{is_new, one_if, at_column, at_side, terri
 use Rattle.av_cluster.specs.Forest.{AreJoined}
 use Rattle.av_cluster.specs.Joining.{Owners, Touches, ArePlacesLinked, IsTouchedIf, IsNoted, IsBefore}
 use Rattle.av_cluster.proofs.Sides.{territory_exact}
-use Rattle.av_cluster.proofs.Joinings.{linked_by, around_itself, noted_beside, IsWithin, within_more, within_all, taken_more, taken_all}
+use Rattle.av_cluster.proofs.Joinings.{linked_by, around_itself, noted_beside, IsWithin, within_more, within_all, taken_all}
 
 module _ (g : Grid) where
   pub there_append : (xs ys : List Pos) → sections_there g (xs ++ ys) ≡ sections_there g xs ++ sections_there g ys
@@ -35,7 +35,7 @@ module _ (g : Grid) where
       n
       ∙ ap (λ fs. fs ++ one_if (is_here (g (section_of (get_or cs i d)))) (section_of (get_or cs i d))) e
       ∙ sym (there_push (take i cs) (get_or cs i d))
-      ∙ ap (sections_there g) (sym (taken_more cs i d l))
+      ∙ ap (sections_there g) (sym (take_more cs i d l))
 
   -- where two lists are taken, or neither
   there_both : (b : Bool) (xs ys : List Pos) → sections_there g (cond b (xs ++ ys) []) ≡ cond b (sections_there g xs) [] ++ cond b (sections_there g ys) []

@@ -1,38 +1,22 @@
 -- Entries put into parts.
 use Rattle.std.proofs.Common.{◌≡◌, ℕ, zero, suc, ◌+◌, ◌-◌, ◌<◌, ◌≤◌, nat_eq, Bool, true, false, cond, List, [], ◌∷◌, ◌++◌, length, take, filter, map, get_or, set, slice_get, Some, ◌⊎◌, inl, inr, refl, sym, ap, ◌∙◌, subst, arith}
-use Rattle.std.proofs.lemmas.List.{append-nil, length-map, map-set, get_or-map}
+use Rattle.std.proofs.lemmas.List.{append-nil, length-map, map-set, get_or-map, get_or_append_left, get_or_push, get_or_past}
 use Rattle.std.proofs.lemmas.List.Elements.{filter-append}
-use Rattle.std.proofs.lemmas.Option.{slice_get-get_or, get_or_from_slice_get}
-use Rattle.std.proofs.Math.Seq.{map-set_same}
+use Rattle.std.proofs.Math.Seq.{map-set_same, take-length}
+use Rattle.std.proofs.lemmas.Bool.{cases_lt, cases_eq, ne_eqb, eq-eqb}
 use Rattle.av_types.specs.declared.tick.Entry.{Entry}
 use Rattle.av_play.specs.declared.event.Placed.{Placed}
 use Rattle.av_cells.specs.World.{World}
 use Rattle.av_play.specs.Parts.{numbered, part_at, IsPlan}
 use Rattle.av_play.specs.Labels.{AreLabelled}
 use Rattle.av_play.specs.Groups.{AreFirst, rank, grouped}
-use Rattle.av_play.proofs.Lists.{itself, take_one_more, take_whole}
+use Rattle.av_play.proofs.Lists.{take_one_more}
 use Rattle.av_play.proofs.Groups.{labels_plan}
 use Rattle.av_cluster.specs.Gathering.{part_by, IsGathered, AreAlone}
 use Rattle.av_cluster.specs.Forest.{first, IsFalling, AreSame}
-use Rattle.av_cluster.proofs.Forests.{first_below, first_twice, first_of_own, differs, same_or_other}
+use Rattle.av_cluster.proofs.Forests.{first_below, first_twice, first_of_own}
 
--- lists that grow at their end
-get_before : (xs : List ℕ) (y k : ℕ) → k < length xs → get_or (xs ++ y ∷ []) k 0 ≡ get_or xs k 0
-get_before [] y k h = absurd (omega arith)
-get_before (x ∷ xs) y zero h = refl
-get_before (x ∷ xs) y (suc k) h = get_before xs y k (omega arith)
-
-get_last : (xs : List ℕ) (y k : ℕ) → k ≡ length xs → get_or (xs ++ y ∷ []) k 0 ≡ y
-get_last [] y zero h = refl
-get_last [] y (suc k) h = absurd (omega arith)
-get_last (x ∷ xs) y zero h = absurd (omega arith)
-get_last (x ∷ xs) y (suc k) h = get_last xs y k (omega arith)
-
-get_past : (xs : List ℕ) (k : ℕ) → length xs ≤ k → get_or xs k 0 ≡ 0
-get_past [] k h = refl
-get_past (x ∷ xs) zero h = absurd (omega arith)
-get_past (x ∷ xs) (suc k) h = get_past xs k (omega arith)
-
+-- a list that grows at its end
 length_push : {X : Type 0} (xs : List X) (y : X) → length (xs ++ y ∷ []) ≡ suc (length xs)
 length_push [] y = refl
 length_push (x ∷ xs) y = ap suc (length_push xs y)
@@ -41,15 +25,15 @@ pub alone_none : AreAlone [] 0
 alone_none = record { count = refl; own = λ k l. absurd (omega arith) }
 
 pub alone_more : (ps qs : List ℕ) (n m : ℕ) → AreAlone ps n → qs ≡ ps ++ n ∷ [] → m ≡ suc n → AreAlone qs m
-alone_more ps qs n m h e g = record { count = ap length e ∙ length_push ps n ∙ ap suc h.count ∙ sym g; own = λ k l. ap (λ xs. get_or xs k 0) e ∙ by k (same_or_other k n) (omega arith) } where
+alone_more ps qs n m h e g = record { count = ap length e ∙ length_push ps n ∙ ap suc h.count ∙ sym g; own = λ k l. ap (λ xs. get_or xs k 0) e ∙ by k (cases_eq k n) (omega arith) } where
   by : (k : ℕ) → (k ≡ n) ⊎ (¬ (k ≡ n)) → k ≤ n → get_or (ps ++ n ∷ []) k 0 ≡ k
-  by k (inl f) l = get_last ps n k (f ∙ sym h.count) ∙ sym f
-  by k (inr f) l = let c = h.count in get_before ps n k (omega arith) ∙ h.own k (omega arith)
+  by k (inl f) l = get_or_push ps n 0 k (sym (f ∙ sym h.count)) ∙ sym f
+  by k (inr f) l = let c = h.count in get_or_append_left ps (n ∷ []) 0 k (omega arith) ∙ h.own k (omega arith)
 
 pub alone_falling : (ps : List ℕ) (n : ℕ) → AreAlone ps n → IsFalling ps
-alone_falling ps n h i = by (same_or_other (n - i) 0) where
+alone_falling ps n h i = by (cases_eq (n - i) 0) where
   by : (n - i ≡ 0) ⊎ (¬ (n - i ≡ 0)) → get_or ps i 0 ≤ i
-  by (inl f) = let c = h.count in let g = get_past ps i (omega arith) in omega arith
+  by (inl f) = let c = h.count in let g = get_or_past ps i 0 (omega arith) in omega arith
   by (inr f) = let g = h.own i (omega arith) in omega arith
 
 pub alone_first : (ps : List ℕ) (n : ℕ) → AreAlone ps n → (k : ℕ) → k < n → first ps k ≡ k
@@ -67,10 +51,10 @@ rank_rises label i zero = let e : i ≡ 0 + i = omega arith in subst (λ j. rank
 rank_rises label i (suc d) = let e : suc (d + i) ≡ suc d + i = omega arith in let f = rank_rises label i d in let g = rank_one_more label (d + i) in subst (λ j. rank label i ≤ rank label j) e (omega arith)
 
 rank_of_first : (label : ℕ → ℕ) (i : ℕ) → label i ≡ i → rank label (suc i) ≡ suc (rank label i)
-rank_of_first label i e = ap (λ j. cond (nat_eq j i) (suc (rank label i)) (rank label i)) e ∙ ap (λ b. cond b (suc (rank label i)) (rank label i)) (itself i)
+rank_of_first label i e = ap (λ j. cond (nat_eq j i) (suc (rank label i)) (rank label i)) e ∙ ap (λ b. cond b (suc (rank label i)) (rank label i)) (eq-eqb i i refl)
 
 rank_of_other : (label : ℕ → ℕ) (i : ℕ) → ¬ (label i ≡ i) → rank label (suc i) ≡ rank label i
-rank_of_other label i f = ap (λ b. cond b (suc (rank label i)) (rank label i)) (differs (label i) i f)
+rank_of_other label i f = ap (λ b. cond b (suc (rank label i)) (rank label i)) (ne_eqb (label i) i f)
 
 rank_below : (label : ℕ → ℕ) (i j : ℕ) → label i ≡ i → i < j → rank label i < rank label j
 rank_below label i j e l =
@@ -95,9 +79,9 @@ module _ (p : ℕ → ℕ) (xs : List Placed) (x : Placed) where
   grouped_own : (from count j : ℕ) → j < count → p x.place ≡ from + j → grouped p (xs ++ x ∷ []) from count ≡ set (grouped p xs from count) j (get_or (grouped p xs from count) j [] ++ x ∷ [])
   grouped_own from zero j l e = absurd (omega arith)
   grouped_own from (suc count) zero l e =
-      λ i. group_own from (let f : p x.place ≡ from = omega arith in ap (λ m. nat_eq m from) f ∙ itself from) i ∷ grouped_others (suc from) count (λ n a b. differs (p x.place) n (λ f. omega arith)) i
+      λ i. group_own from (let f : p x.place ≡ from = omega arith in ap (λ m. nat_eq m from) f ∙ eq-eqb from from refl) i ∷ grouped_others (suc from) count (λ n a b. ne_eqb (p x.place) n (λ f. omega arith)) i
   grouped_own from (suc count) (suc j) l e =
-      λ i. group_other from (differs (p x.place) from (λ f. omega arith)) i ∷ grouped_own (suc from) count j (omega arith) (omega arith) i
+      λ i. group_other from (ne_eqb (p x.place) from (λ f. omega arith)) i ∷ grouped_own (suc from) count j (omega arith) (omega arith) i
 
 grouped_next : (p : ℕ → ℕ) (xs : List Placed) (from count : ℕ) → grouped p xs from (suc count) ≡ grouped p xs from count ++ filter (λ y. nat_eq (p y.place) (from + count)) xs ∷ []
 grouped_next p xs from zero = let e : from ≡ from + 0 = omega arith in ap (λ n. filter (λ (y : Placed). nat_eq (p y.place) n) xs ∷ []) e
@@ -113,7 +97,7 @@ none_of p m r zero es h = refl
 none_of p m r (suc n) [] h = refl
 none_of p m r (suc n) (e ∷ es) h =
     let l = h m (omega arith) (omega arith) in
-    ap (λ b. cond b (record { place = m; entry = e } ∷ filter (λ (y : Placed). nat_eq (p y.place) r) (take n (numbered (suc m) es))) (filter (λ (y : Placed). nat_eq (p y.place) r) (take n (numbered (suc m) es)))) (differs (p m) r (λ f. omega arith))
+    ap (λ b. cond b (record { place = m; entry = e } ∷ filter (λ (y : Placed). nat_eq (p y.place) r) (take n (numbered (suc m) es))) (filter (λ (y : Placed). nat_eq (p y.place) r) (take n (numbered (suc m) es)))) (ne_eqb (p m) r (λ f. omega arith))
     ∙ none_of p (suc m) r n es (λ k a b. h k (omega arith) (omega arith))
 
 module _ (es : List Entry) (label : ℕ → ℕ) (firsts : AreFirst (length es) label) (n : ℕ) (numbers : List ℕ) (parts : List (List Placed)) (h : IsGathered es label n numbers parts) (x : Placed) (there : slice_get (numbered 0 es) n ≡ Some x) (place : x.place ≡ n) (inside : n < length es) where
@@ -127,10 +111,10 @@ module _ (es : List Entry) (label : ℕ → ℕ) (firsts : AreFirst (length es) 
   count_parts = ap length h.parts_are ∙ length_grouped (part_by label) (take n (numbered 0 es)) 0 (rank label n)
 
   numbers_next : (c : ℕ) → c ≡ part_by label n → (k : ℕ) → k < suc n → get_or (numbers ++ c ∷ []) k 0 ≡ part_by label k
-  numbers_next c e k l = by (same_or_other k n) where
+  numbers_next c e k l = by (cases_eq k n) where
     by : (k ≡ n) ⊎ (¬ (k ≡ n)) → get_or (numbers ++ c ∷ []) k 0 ≡ part_by label k
-    by (inl f) = get_last numbers c k (f ∙ sym h.count) ∙ e ∙ ap (part_by label) (sym f)
-    by (inr f) = let g = h.count in get_before numbers c k (omega arith) ∙ h.numbers_are k (omega arith)
+    by (inl f) = get_or_push numbers c 0 k (sym (f ∙ sym h.count)) ∙ e ∙ ap (part_by label) (sym f)
+    by (inr f) = let g = h.count in get_or_append_left numbers (c ∷ []) 0 k (omega arith) ∙ h.numbers_are k (omega arith)
 
   -- the first entry of a part
   pub gathered_first : label n ≡ n → (c : ℕ) → c ≡ length parts → IsGathered es label (suc n) (numbers ++ c ∷ []) (parts ++ (x ∷ []) ∷ [])
@@ -147,12 +131,12 @@ module _ (es : List Entry) (label : ℕ → ℕ) (firsts : AreFirst (length es) 
       grown : grouped (part_by label) (take n (numbered 0 es) ++ x ∷ []) 0 (suc (rank label n)) ≡ grouped (part_by label) (take n (numbered 0 es)) 0 (rank label n) ++ (x ∷ []) ∷ []
       grown =
           grouped_next (part_by label) (take n (numbered 0 es) ++ x ∷ []) 0 (rank label n)
-          ∙ (λ i. grouped_others (part_by label) (take n (numbered 0 es)) x 0 (rank label n) (λ m a b. differs (part_by label x.place) m (λ f. let o = own in omega arith)) i ++ last i ∷ [])
+          ∙ (λ i. grouped_others (part_by label) (take n (numbered 0 es)) x 0 (rank label n) (λ m a b. ne_eqb (part_by label x.place) m (λ f. let o = own in omega arith)) i ++ last i ∷ [])
         where
           last : filter (λ (y : Placed). nat_eq (part_by label y.place) (0 + rank label n)) (take n (numbered 0 es) ++ x ∷ []) ≡ x ∷ []
           last =
               let z : 0 + rank label n ≡ rank label n = omega arith in
-              group_own (part_by label) (take n (numbered 0 es)) x (0 + rank label n) (ap (λ m. nat_eq m (0 + rank label n)) (own ∙ sym z) ∙ itself (0 + rank label n))
+              group_own (part_by label) (take n (numbered 0 es)) x (0 + rank label n) (ap (λ m. nat_eq m (0 + rank label n)) (own ∙ sym z) ∙ eq-eqb (0 + rank label n) (0 + rank label n) refl)
               ∙ ap (λ l. l ++ x ∷ []) (none_of (part_by label) 0 (0 + rank label n) n es (λ k a b. let r = part_below k (omega arith) in omega arith))
 
   -- a further entry of a part
@@ -193,9 +177,6 @@ grown_at f xs i d new z l is e =
 pub kept_at : {X Y : Type 0} (f : X → Y) (xs : List X) (i : ℕ) (d new : X) → d ≡ get_or xs i d → f new ≡ f d → map f (set xs i new) ≡ map f xs
 kept_at f xs i d new is e = map-set_same f xs i new d (e ∙ ap f is)
 
-pub any_default : (xs : List ℕ) (i d : ℕ) → i < length xs → d ≡ get_or xs i d → d ≡ get_or xs i 0
-any_default xs i d l e = sym (get_or_from_slice_get xs i d 0 (slice_get-get_or xs i d l ∙ ap Some (sym e)))
-
 pub are_first : (ps : List ℕ) → IsFalling ps → (n : ℕ) → AreFirst n (first ps)
 are_first ps f n i l = (first_below ps f i, first_twice ps f i)
 
@@ -219,17 +200,8 @@ length_numbered n (e ∷ es) = ap suc (length_numbered (suc n) es)
 
 pub gathered_all : (w : World) (es : List Entry) (label : ℕ → ℕ) → AreLabelled w (numbered 0 es) label → AreFirst (length es) label → (numbers : List ℕ) (parts : List (List Placed)) → IsGathered es label (length es) numbers parts → IsPlan w es parts
 gathered_all w es label a f numbers parts h =
-    let all : take (length es) (numbered 0 es) ≡ numbered 0 es = ap (λ n. take n (numbered 0 es)) (sym (length_numbered 0 es)) ∙ take_whole (numbered 0 es) in
+    let all : take (length es) (numbered 0 es) ≡ numbered 0 es = ap (λ n. take n (numbered 0 es)) (sym (length_numbered 0 es)) ∙ take-length (numbered 0 es) in
     subst (IsPlan w es) (sym (h.parts_are ∙ ap (λ l. grouped (part_by label) l 0 (rank label (length es))) all)) (labels_plan w es label a f)
-
-below_or : (a b : ℕ) → (a < b) ⊎ (b ≤ a)
-below_or zero zero = inr (omega arith)
-below_or zero (suc b) = inl (omega arith)
-below_or (suc a) zero = inr (omega arith)
-below_or (suc a) (suc b) = on (below_or a b) where
-  on : (a < b) ⊎ (b ≤ a) → (suc a < suc b) ⊎ (suc b ≤ suc a)
-  on (inl f) = inl (omega arith)
-  on (inr f) = inr (omega arith)
 
 grouped_at : (p : ℕ → ℕ) (all : List Placed) (from count n : ℕ) → n < count → part_at (grouped p all from count) n ≡ filter (λ x. nat_eq (p x.place) (from + n)) all
 grouped_at p all from zero n h = absurd (omega arith)
@@ -242,9 +214,9 @@ grouped_past p all from (suc count) zero h = absurd (omega arith)
 grouped_past p all from (suc count) (suc n) h = grouped_past p all (suc from) count n (omega arith)
 
 pub parts_each : (es : List Entry) (label : ℕ → ℕ) → AreFirst (length es) label → (numbers : List ℕ) (parts : List (List Placed)) → IsGathered es label (length es) numbers parts → (n : ℕ) → part_at parts n ≡ filter (λ x. nat_eq (part_by label x.place) n) (numbered 0 es)
-parts_each es label f numbers parts h n = ap (λ l. part_at l n) h.parts_are ∙ by (below_or n (rank label (length es))) where
+parts_each es label f numbers parts h n = ap (λ l. part_at l n) h.parts_are ∙ by (cases_lt n (rank label (length es))) where
   all : take (length es) (numbered 0 es) ≡ numbered 0 es
-  all = ap (λ m. take m (numbered 0 es)) (sym (length_numbered 0 es)) ∙ take_whole (numbered 0 es)
+  all = ap (λ m. take m (numbered 0 es)) (sym (length_numbered 0 es)) ∙ take-length (numbered 0 es)
 
   below : (k : ℕ) → k < length es → part_by label k < rank label (length es)
   below k l = let g = f k l in let a = g.0 in rank_below label (label k) (length es) g.1 (omega arith)

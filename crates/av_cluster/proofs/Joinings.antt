@@ -3,8 +3,8 @@ use Rattle.std.proofs.Common.{◌≡◌, ℕ, zero, suc, ◌+◌, ◌<◌, ◌�
 use Rattle.std.specs.Ordering.{int_eq}
 use Rattle.std.proofs.lemmas.Int.{ints}
 use Rattle.std.specs.List.{Contains}
-use Rattle.std.proofs.lemmas.Bool.{true≢false}
-use Rattle.std.proofs.lemmas.Option.{slice_get-get_or, slice_get_within, get_or_from_slice_get}
+use Rattle.std.proofs.lemmas.Bool.{cases_eq, and_parts}
+use Rattle.std.proofs.lemmas.Option.{slice_get-get_or, slice_get_within, get_or_from_slice_get, same_Some}
 use Rattle.av_types.specs.declared.place.SectionPos.{SectionPos}
 use Rattle.av_types.specs.declared.tick.Entry.{Entry}
 use Rattle.av_types.specs.Places.{section_of}
@@ -17,19 +17,15 @@ use Rattle.av_play.proofs.Chains.{linked_on, linked_back}
 use Rattle.av_cluster.specs.Forest.{first, IsFalling, AreJoined, IsEither}
 use Rattle.av_cluster.specs.Joining.{same_key, key_of, Touches, ArePlacesLinked, Owners, IsTouched, IsNoted, IsBefore}
 use Rattle.std.proofs.lemmas.List.Elements.{Contains-append_left, Contains-push, Contains-push_cases}
-use Rattle.av_play.proofs.Lists.{none_contained, take_one_more, take_whole}
-use Rattle.av_cluster.proofs.Forests.{first_below, first_twice, same_or_other}
+use Rattle.std.proofs.Math.Seq.{take-length}
+use Rattle.av_play.proofs.Lists.{none_contained}
+use Rattle.av_cluster.proofs.Forests.{first_below, first_twice}
 
 -- sections with the same key are the same
-and_both : (a b : Bool) → a && b ≡ true → (a ≡ true) × (b ≡ true)
-and_both true true e = (refl, refl)
-and_both true false e = absurd (true≢false (sym e))
-and_both false b e = absurd (true≢false (sym e))
-
 pub same_keyed : (s t : SectionPos) → same_key (key_of s) (key_of t) ≡ true → s ≡ t
 same_keyed s t e =
-    let a = and_both (int_eq s.x t.x && int_eq s.y t.y) (int_eq s.z t.z) e in
-    let b = and_both (int_eq s.x t.x) (int_eq s.y t.y) a.0 in
+    let a = and_parts (int_eq s.x t.x && int_eq s.y t.y) (int_eq s.z t.z) e in
+    let b = and_parts (int_eq s.x t.x) (int_eq s.y t.y) a.0 in
     let x : s.x ≡ t.x = (let h = b.0 in grind (arith, ints)) in
     let y : s.y ≡ t.y = (let h = b.1 in grind (arith, ints)) in
     let z : s.z ≡ t.z = (let h = a.1 in grind (arith, ints)) in
@@ -173,7 +169,7 @@ module _ (w : World) (es : List Entry) (old new : List ℕ) (owners : Owners) (b
       (linked_places_on w es (first old k) place (first new k) (linked_places_back w es place (first old k) (beside_either (first old k) e.0)) (beside_either (first new k) e.1))
 
   joined_beside : (k : ℕ) (s : SectionPos) → IsBefore w es (place + 1) k s → (i : ℕ) × (owners s ≡ Some i) × (first new i ≡ first new k)
-  joined_beside k s d = by (same_or_other k place) where
+  joined_beside k s d = by (cases_eq k place) where
     by : (k ≡ place) ⊎ (¬ (k ≡ place)) → (i : ℕ) × (owners s ≡ Some i) × (first new i ≡ first new k)
     by (inl g) =
         let r = h.joined b s (less, same s (subst (λ n. Touches w es n s) g d.1)) in
@@ -243,10 +239,7 @@ module _ (w : World) (es : List Entry) (ps : List ℕ) (owners : Owners) (h : Is
       let p = where_is a ca in let q = where_is b cb in
       let x = h.joined a.place s.section (slice_get_within es a.place a.entry p.1, record { entry = a.entry; is_at = p.1; territory = s.first }) in
       let y = h.joined b.place s.section (slice_get_within es b.place b.entry q.1, record { entry = b.entry; is_at = q.1; territory = s.second }) in
-      sym x.2 ∙ ap (first ps) (one x.0 y.0 (sym x.1 ∙ y.1)) ∙ y.2
-    where
-      one : (i j : ℕ) → Some i ≡ Some j → i ≡ j
-      one i j e = cc
+      sym x.2 ∙ ap (first ps) (same_Some x.0 y.0 (sym x.1 ∙ y.1)) ∙ y.2
 
   linked_label : (a b : Placed) → Contains all a → Contains all b → first ps a.place ≡ first ps b.place → AreLinked w all a b
   linked_label a b ca cb e =
@@ -299,7 +292,7 @@ within_all w es ps owners place xs e at exact h = noted_as w es ps owners (IsWit
   some_entry x y g = cc
 
   back : (k : ℕ) (s : SectionPos) → IsBefore w es (place + 1) k s → IsWithin w es place xs k s
-  back k s d = by (same_or_other k place) where
+  back k s d = by (cases_eq k place) where
     by : (k ≡ place) ⊎ (¬ (k ≡ place)) → IsWithin w es place xs k s
     by (inl g) = inr (g, (exact s).1 (subst (λ (y : Entry). InTerritory w y.pos s) (some_entry d.1.entry e (sym d.1.is_at ∙ ap (slice_get es) g ∙ at)) d.1.territory))
     by (inr g) = inl (let l = d.0 in omega arith, d.1)
@@ -314,11 +307,8 @@ touches_at w es place d h xs ys e exact i l ds =
       territory = (exact x).0 (subst (λ zs. Contains zs x) e (i, l, get_or_from_slice_get xs i x x (slice_get-get_or xs i ds l)));
     }
 
-pub taken_more : {X : Type 0} (xs : List X) (i : ℕ) (d : X) → i < length xs → take (i + 1) xs ≡ take i xs ++ get_or xs i d ∷ []
-taken_more xs i d l = let e : i + 1 ≡ suc i = omega arith in ap (λ n. take n xs) e ∙ take_one_more xs i (get_or xs i d) (slice_get-get_or xs i d l)
-
 pub taken_all : {X : Type 0} (xs : List X) (i : ℕ) → i ≡ length xs → take i xs ≡ xs
-taken_all xs i e = ap (λ n. take n xs) e ∙ take_whole xs
+taken_all xs i e = ap (λ n. take n xs) e ∙ take-length xs
 
 pub within_end : (w : World) (es : List Entry) (ps : List ℕ) (owners : Owners) (place : ℕ) (d : Entry) → place < length es → (xs ys : List SectionPos) → xs ≡ ys → ((s : SectionPos) → Contains ys s ↔ InTerritory w (get_or es place d).pos s) → (i : ℕ) → i ≡ length xs → IsNoted w es ps owners (IsWithin w es place (take i xs)) → IsNoted w es ps owners (IsBefore w es (place + 1))
 within_end w es ps owners place d h xs ys e exact i l n =

@@ -1,15 +1,15 @@
 -- No part has a section twice.
 use Rattle.std.proofs.Common.{◌≡◌, ℕ, zero, suc, ℤ, ◌<◌, Bool, true, false, List, [], ◌∷◌, ◌++◌, length, get_or, set, take, Option, None, Some, ◌⊎◌, inl, inr, refl, sym, ap, ◌∙◌, subst, arith}
 use Rattle.std.specs.List.{Contains, AllPairs, IsDistinct}
-use Rattle.std.proofs.lemmas.List.{get_or-set_same, get_or-set_other, get_or-take, length-take}
+use Rattle.std.proofs.lemmas.List.{get_or-set_same, get_or-set_other, get_or-take, length-take, get_or_default}
 use Rattle.std.proofs.lemmas.List.Quantifiers.{all_pairs_push}
 use Rattle.std.proofs.lemmas.Map.Made.{AllPairs-from_IsDistinct}
+use Rattle.std.proofs.lemmas.Bool.{cases_eq}
 use Rattle.av_types.specs.declared.place.SectionPos.{SectionPos}
 use Rattle.av_types.proofs.SamePlaces.{same_section_is}
 use Rattle.av_cells.specs.Positions.{same_section}
 use Rattle.av_cluster.specs.Joining.{same_key, key_of, Owners}
 use Rattle.av_cluster.specs.Clusters.{IsGiven, AreBare, AreShared, AreOnce}
-use Rattle.av_cluster.proofs.Forests.{same_or_other}
 use Rattle.av_cluster.proofs.Joinings.{same_keyed, own_key}
 
 pub once_none : (xs : List (List SectionPos)) → AreBare xs → AreOnce xs
@@ -36,7 +36,7 @@ once_more owners numbers ks x old new shared once fresh inside g = by (owners x)
 
   by : (o : Option ℕ) → owners x ≡ o → IsGiven o numbers x old new → AreOnce new
   by None e i n = subst (λ ys. AllPairs (λ s t. same_section t s ≡ false) (get_or ys n [])) (sym i) (once n)
-  by (Some o) e i n = at (same_or_other n m) where
+  by (Some o) e i n = at (cases_eq n m) where
     m : ℕ
     m = get_or numbers o 0
 
@@ -54,13 +54,8 @@ key_fresh ks h i d l c =
     let k = c.0 in
     let below : k < length (take i ks) = c.1 in
     let inside : k < i = omega (arith, length-take i ks) in
-    apart k i (get_or ks i d) inside l (sym (get_or-take i ks k (get_or ks i d) inside) ∙ c.2 ∙ any ks i d (get_or ks i d) l)
+    apart k i (get_or ks i d) inside l (sym (get_or-take i ks k (get_or ks i d) inside) ∙ c.2 ∙ get_or_default ks i d (get_or ks i d) l)
   where
-    any : (xs : List (ℤ × ℤ × ℤ)) (i : ℕ) (c d : ℤ × ℤ × ℤ) → i < length xs → get_or xs i c ≡ get_or xs i d
-    any [] i c d l = absurd (omega arith)
-    any (y ∷ ys) zero c d l = refl
-    any (y ∷ ys) (suc i) c d l = any ys i c d (omega arith)
-
     section : ℤ × ℤ × ℤ → SectionPos
     section k = record { x = k.0; y = k.1; z = k.2 }
 

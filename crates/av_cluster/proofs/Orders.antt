@@ -3,7 +3,7 @@ use Rattle.std.proofs.Common.{◌≡◌, ◌≤ℤ◌, zero, suc, ℤ, pos, ◌+
 use Rattle.std.specs.Ordering.{int_eq}
 use Rattle.std.specs.List.{AllPairs}
 use Rattle.std.proofs.lemmas.Int.{ints}
-use Rattle.std.proofs.lemmas.Bool.{true≢false}
+use Rattle.std.proofs.lemmas.Bool.{true≢false, or_right}
 use Rattle.std.proofs.lemmas.Bool.Decides.{Decides-int_eq}
 use Rattle.std.proofs.lemmas.List.Elements.{All-append, All-cons, All-head, All-nil, All-tail}
 use Rattle.std.proofs.lemmas.List.Kept.{AllPairs-cons}
@@ -11,8 +11,8 @@ use Rattle.av_types.specs.Division.{divided}
 use Rattle.av_types.specs.declared.place.Pos.{Pos}
 use Rattle.av_types.specs.declared.place.SectionPos.{SectionPos}
 use Rattle.av_types.specs.Places.{section_of}
-use Rattle.av_cells.specs.Grid.{Grid, is_here, IsInSixteen}
-use Rattle.av_cells.proofs.Sections.{lies_in}
+use Rattle.av_cells.specs.Grid.{Grid, is_here}
+use Rattle.av_cells.proofs.Sections.{in_sixteen}
 use Rattle.av_play.specs.Corners.{corner}
 use Rattle.av_cluster.specs.Territory.{before, AreRising, is_new, is_first_there, one_if, at_corner, at_column, at_side, territory_list}
 
@@ -33,9 +33,6 @@ pairs_one R false s = λ m n d l u. absurd (omega arith)
 each_then : (P Q : SectionPos → Type 0) (xs : List SectionPos) → ((s : SectionPos) → P s → Q s) → All P xs → All Q xs
 each_then P Q xs f h = λ n d l. f (get_or xs n d) (h n d l)
 
-in_sixteen : (x : ℤ) → IsInSixteen (divided x 16) x
-in_sixteen x = (lies_in (record { x = x; y = x; z = x })).along_x
-
 -- the end of a line that is new there lies in a later section than its start
 later : (low high : ℤ) → low ≤ℤ high → is_new true low high ≡ true → int_lt (divided low 16) (divided high 16) ≡ true
 later low high l h =
@@ -49,10 +46,6 @@ by_z s t h = ap (λ b. b || int_eq s.z t.z && (int_lt s.x t.x || int_eq s.x t.x 
 
 same : (a b : ℤ) → a ≡ b → int_eq a b ≡ true
 same a b e = (Decides-int_eq a b).1 e
-
-or_right : (a b : Bool) → b ≡ true → a || b ≡ true
-or_right true b h = refl
-or_right false b h = h
 
 by_x : (s t : SectionPos) → s.z ≡ t.z → int_lt s.x t.x ≡ true → IsTrue (before s t)
 by_x s t e h = or_right (int_lt s.z t.z) _ ((λ i. same s.z t.z e i && (h i || int_eq s.x t.x && int_lt s.y t.y)))

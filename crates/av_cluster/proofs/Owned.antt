@@ -4,6 +4,7 @@ use Rattle.std.specs.List.{Contains}
 use Rattle.std.specs.Map.{keys_of}
 use Rattle.std.proofs.lemmas.List.Elements.{Contains-append_right, Contains-append_cases, Contains-push_cases}
 use Rattle.std.proofs.lemmas.Option.{slice_get_within, get_or_from_slice_get}
+use Rattle.std.proofs.lemmas.Bool.{eqb-true, eq-eqb}
 use Rattle.av_types.specs.declared.place.SectionPos.{SectionPos}
 use Rattle.av_types.specs.declared.tick.Entry.{Entry}
 use Rattle.av_cells.specs.World.{World}
@@ -11,7 +12,7 @@ use Rattle.av_play.specs.declared.event.Placed.{Placed}
 use Rattle.av_play.specs.Parts.{numbered, part_at}
 use Rattle.av_play.specs.Laws.{IsOfPart}
 use Rattle.av_play.specs.Groups.{rank}
-use Rattle.av_play.proofs.Lists.{kept, itself, same_number, none_contained}
+use Rattle.av_play.proofs.Lists.{kept, none_contained}
 use Rattle.av_cluster.specs.Forest.{first}
 use Rattle.av_cluster.specs.Joining.{same_key, key_of, owner_in, IsNoted, IsBefore}
 use Rattle.av_cluster.specs.Clusters.{AreShared}
@@ -45,7 +46,7 @@ module _ (w : World) (es : List Entry) (ps : List ℕ) (entries : List ((ℤ × 
       let a = where_is w es ps (owner_in entries) h g.owner c.1 in
       let j = h.joined g.owner.place s (slice_get_within es g.owner.place g.owner.entry a.1, record { entry = g.owner.entry; is_at = a.1; territory = g.territory }) in
       let t = h.done j.0 s (h.owned s j.0 j.1) in
-      (j.0, j.1, are j.0 (slice_get_within es j.0 t.entry t.is_at) ∙ ap (rank (first ps)) j.2 ∙ same_number (part_by (first ps) g.owner.place) n c.0)
+      (j.0, j.1, are j.0 (slice_get_within es j.0 t.entry t.is_at) ∙ ap (rank (first ps)) j.2 ∙ eqb-true (part_by (first ps) g.owner.place) n c.0)
 
   -- and a section whose owner is in a part is of the part
   pub part_of_owner : (n : ℕ) (s : SectionPos) (o : ℕ) → owner_in entries s ≡ Some o → get_or numbers o 0 ≡ n → IsOfPart w (part n) s
@@ -56,7 +57,7 @@ module _ (w : World) (es : List Entry) (ps : List ℕ) (entries : List ((ℤ × 
       let a = placed_at es o t.entry t.is_at in
       record {
         owner = x;
-        there = kept (λ (y : Placed). nat_eq (part_by (first ps) y.place) n) (numbered 0 es) x (ap (λ m. nat_eq m n) (sym (are o l) ∙ f) ∙ itself n) (o, slice_get_within (numbered 0 es) o x a, get_or_from_slice_get (numbered 0 es) o x x a);
+        there = kept (λ (y : Placed). nat_eq (part_by (first ps) y.place) n) (numbered 0 es) x (ap (λ m. nat_eq m n) (sym (are o l) ∙ f) ∙ eq-eqb n n refl) (o, slice_get_within (numbered 0 es) o x a, get_or_from_slice_get (numbered 0 es) o x x a);
         territory = t.territory;
       }
 

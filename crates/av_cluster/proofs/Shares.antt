@@ -3,13 +3,14 @@ use Rattle.std.proofs.Common.{◌≡◌, ◌↔◌, ℕ, ℤ, zero, suc, ◌<◌
 use Rattle.std.specs.List.{Contains}
 use Rattle.std.proofs.lemmas.List.{get_or-set_same, get_or-set_other, length-map}
 use Rattle.std.proofs.lemmas.List.Elements.{Contains-append_left, Contains-push, Contains-push_cases}
+use Rattle.std.proofs.lemmas.Bool.{cases_eq}
+use Rattle.std.proofs.lemmas.Option.{same_Some}
 use Rattle.av_types.specs.declared.place.SectionPos.{SectionPos}
 use Rattle.av_play.proofs.Lists.{none_contained}
 use Rattle.av_cluster.specs.Joining.{key_of, Owners}
 use Rattle.av_cluster.specs.Clusters.{parts_of, sections_of, IsGiven, AreBare, IsSharedTo, AreShared}
 use Rattle.av_play.specs.declared.event.Placed.{Placed}
 use Rattle.av_cluster.specs.declared.cluster_part.Cluster.{Cluster}
-use Rattle.av_cluster.proofs.Forests.{same_or_other}
 
 pub bare_more : (xs : List (List SectionPos)) → AreBare xs → AreBare (xs ++ [] ∷ [])
 bare_more [] h zero = refl
@@ -23,9 +24,6 @@ shared_none owners numbers xs h n s = (λ c. absurd (none_contained s (subst (λ
 same_keys : (s t : SectionPos) → key_of s ≡ key_of t → s ≡ t
 same_keys s t e = λ i. record { x = (e i).0; y = (e i).1; z = (e i).2 }
 
-some_is : (a b : ℕ) → Some a ≡ Some b → a ≡ b
-some_is a b e = cc
-
 module _ (owners : Owners) (numbers : List ℕ) (ks : List (ℤ × ℤ × ℤ)) (x : SectionPos) (old new : List (List SectionPos)) (h : AreShared owners numbers ks old) where
   earlier : (n : ℕ) (s : SectionPos) → IsSharedTo owners numbers ks n s → IsSharedTo owners numbers (ks ++ key_of x ∷ []) n s
   earlier n s g = record { key = Contains-append_left ks (key_of x ∷ []) (key_of s) g.key; owner = g.owner; owns = g.owns; of_part = g.of_part }
@@ -37,7 +35,7 @@ module _ (owners : Owners) (numbers : List ℕ) (ks : List (ℤ × ℤ × ℤ)) 
     by (inr e) = inr (same_keys x s e)
 
   shared_given : (o : ℕ) → owners x ≡ Some o → get_or numbers o 0 < length old → new ≡ set old (get_or numbers o 0) (get_or old (get_or numbers o 0) [] ++ x ∷ []) → AreShared owners numbers (ks ++ key_of x ∷ []) new
-  shared_given o own l e n s = by (same_or_other n (get_or numbers o 0)) where
+  shared_given o own l e n s = by (cases_eq n (get_or numbers o 0)) where
     by : (n ≡ get_or numbers o 0) ⊎ (¬ (n ≡ get_or numbers o 0)) → Contains (get_or new n []) s ↔ IsSharedTo owners numbers (ks ++ key_of x ∷ []) n s
     by (inl f) = (to, from) where
       now : get_or new n [] ≡ get_or old n [] ++ x ∷ []
@@ -62,7 +60,7 @@ module _ (owners : Owners) (numbers : List ℕ) (ks : List (ℤ × ℤ × ℤ)) 
       from g = subst (λ ys. Contains ys s) (sym now) (cases (key_or s g.key)) where
         cases : Contains ks (key_of s) ⊎ (x ≡ s) → Contains (get_or old n []) s
         cases (inl d) = (h n s).1 (record { key = d; owner = g.owner; owns = g.owns; of_part = g.of_part })
-        cases (inr e2) = absurd (f (sym g.of_part ∙ ap (λ k. get_or numbers k 0) (some_is g.owner o (sym g.owns ∙ ap owners (sym e2) ∙ own))))
+        cases (inr e2) = absurd (f (sym g.of_part ∙ ap (λ k. get_or numbers k 0) (same_Some g.owner o (sym g.owns ∙ ap owners (sym e2) ∙ own))))
 
   shared_not : owners x ≡ None → new ≡ old → AreShared owners numbers (ks ++ key_of x ∷ []) new
   shared_not none e n s = (λ c. earlier n s ((h n s).0 (subst (λ ys. Contains (get_or ys n []) s) e c)), λ g. subst (λ ys. Contains (get_or ys n []) s) (sym e) (cases g (key_or s g.key))) where

@@ -9,6 +9,7 @@ use Rattle.std.proofs.lemmas.Map.Entries.{length-keys_of}
 use Rattle.std.proofs.lemmas.Nat.{mod_below}
 use Rattle.std.proofs.lemmas.Option.{slice_get_within}
 use Rattle.std.proofs.Math.Seq.{get_or-append_seam}
+use Rattle.std.proofs.Math.Bool.{and_assoc}
 use Rattle.av_cluster.specs.Indices.{key_cmp, slot_of, index_by, index_in, AreIndexed, AreSlots}
 use Rattle.av_cluster.specs.Joining.{key_of, same_key}
 use Rattle.av_types.specs.declared.place.SectionPos.{SectionPos}
@@ -38,10 +39,6 @@ by_found (suc i) es f k x some low at =
     let is : suc i - 1 ≡ i = omega arith in
     let key : get_or (keys_of es) i k ≡ x.0 = get_or-map (λ y. y.0) es i x k (omega arith) ∙ ap (λ n. (get_or es n x).0) (sym is) ∙ ap (λ y. y.0) (sym at) in
     ap (λ y. cond (same_key k y) (Some i) (f k)) key ∙ ap (λ n. cond (same_key k x.0) (Some n) (f k)) (sym is)
-
-and_assoc : (a b c : Bool) → (a && b) && c ≡ a && (b && c)
-and_assoc true b c = refl
-and_assoc false b c = refl
 
 -- sections are compared as their keys are
 pub compared : (s t : SectionPos) (k : Key) → key_of s ≡ k → int_eq s.x t.x && (int_eq s.y t.y && int_eq s.z t.z) ≡ same_key (key_of t) k

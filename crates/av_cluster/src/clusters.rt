@@ -271,7 +271,7 @@ pub fn plan(alloc: Global, world: &World, entries: &[Entry]) -> Result<Vec<Clust
     requires loaded { All (λ e. IsTrue ((blocks world.now).loaded e.pos)) entries.now }
     ensures planned { IfOk result (λ clusters. ArePlanned (blocks world.now) entries.now clusters.items) }
     ensures count { IfOk result (λ clusters. vec_len clusters ≤ 4294967295) }
-    ensures fault { IfErr result (λ e. e ≡ OutOfMemory) }
+    ensures memory { IfErr result (λ e. e ≡ OutOfMemory) }
 {
     let mut owners = Owners::with_room(alloc, entries.len())?;
     let mut parents = alone(alloc, entries.len())?;

@@ -1,13 +1,13 @@
 -- The numbers of a column's blocks are those of its list.
 use Rattle.std.proofs.Common.{◌≡◌, ◌↔◌, ℕ, zero, suc, ◌*◌, ◌<◌, nat_lt, ℤ, List, [], ◌∷◌, length, slice_index, replicate, Bool, true, false, cond, IsTrue, refl, sym, ap, ◌∙◌, subst, arith}
 use Rattle.std.specs.List.{list_all}
-use Rattle.std.proofs.lemmas.Bool.{and_parts, true≢false, ltb-true}
-use Rattle.std.proofs.lemmas.Bool.Decides.{nat_tests}
+use Rattle.std.proofs.lemmas.Bool.{and_parts, true≢false, ltb-true, and_from, lt-ltb}
+use Rattle.std.proofs.lemmas.List.{length-replicate}
 use Rattle.av_types.specs.declared.place.Pos.{Pos}
 use Rattle.av_cells.specs.Rule.{HasKinds}
 use Rattle.av_column.specs.Columns.{is_there, slot, world_of}
 use Rattle.av_column.specs.Limits.{there_of}
-use Rattle.av_column.proofs.Slots.{slot_within, both, block_at, slot_of_block, block_is_there}
+use Rattle.av_column.proofs.Slots.{slot_within, block_at, slot_of_block, block_is_there}
 
 all_have_kinds : (bottom : ℤ) (layers : ℕ) (numbers : List ℕ) (waiting : List Bool) (count : ℕ) → length numbers ≡ 256 * layers
     → ((k : ℕ) → k < length numbers → slice_index numbers k < count) → HasKinds count (world_of bottom layers numbers waiting)
@@ -21,13 +21,9 @@ replicate_below n k zero i h l = absurd (omega arith)
 replicate_below n k (suc count) zero h l = h
 replicate_below n k (suc count) (suc i) h l = replicate_below n k count i h (omega arith)
 
-long_as : (n count : ℕ) → length (replicate count n) ≡ count
-long_as n zero = refl
-long_as n (suc count) = ap suc (long_as n count)
-
 pub filled_has_kinds : (bottom : ℤ) (layers : ℕ) (numbers : List ℕ) (waiting : List Bool) (n k : ℕ) → numbers ≡ replicate (256 * layers) n → n < k → HasKinds k (world_of bottom layers numbers waiting)
 filled_has_kinds bottom layers numbers waiting n k is h =
-    all_have_kinds bottom layers numbers waiting k (ap length is ∙ long_as n (256 * layers))
+    all_have_kinds bottom layers numbers waiting k (ap length is ∙ length-replicate (256 * layers) n)
     (subst (λ xs. (i : ℕ) → i < length xs → slice_index xs i < k) (sym is) (λ i l. replicate_below n k (256 * layers) i h l))
 
 numbers_have : (bottom : ℤ) (layers : ℕ) (numbers : List ℕ) (waiting : List Bool) (count : ℕ) → length numbers ≡ 256 * layers
@@ -45,9 +41,7 @@ below_each count (x ∷ xs) h (suc i) less = below_each count xs (and_parts (nat
 
 below_all : (count : ℕ) (xs : List ℕ) → ((i : ℕ) → i < length xs → slice_index xs i < count) → list_all (λ n. nat_lt n count) xs ≡ true
 below_all count [] h = refl
-below_all count (x ∷ xs) h = both (nat_lt x count) (list_all (λ n. nat_lt n count) xs) (is_less x count (h zero (omega arith))) (below_all count xs (λ i less. h (suc i) (omega arith))) where
-  is_less : (a b : ℕ) → a < b → nat_lt a b ≡ true
-  is_less a b l = grind (arith, nat_tests)
+below_all count (x ∷ xs) h = and_from (nat_lt x count) (list_all (λ n. nat_lt n count) xs) (lt-ltb x count (h zero (omega arith))) (below_all count xs (λ i less. h (suc i) (omega arith)))
 
 -- each number of the list is below a count exactly where each block's number is
 pub below_is_kinds : (bottom : ℤ) (layers : ℕ) (numbers : List ℕ) (waiting : List Bool) (count : ℕ) (xs : List ℕ) (n : ℕ) (b : Bool) → length numbers ≡ 256 * layers

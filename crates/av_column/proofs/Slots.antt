@@ -1,6 +1,7 @@
 -- Each block has a place of its own in the list.
-use Rattle.std.proofs.Common.{◌≡◌, ℕ, ◌+◌, ◌*◌, ◌<◌, ◌/◌, ◌%◌, ℤ, pos, negsuc, ◌+ℤ◌, ◌-ℤ◌, ◌≤ℤ◌, ◌<ℤ◌, nat_abs, int_le, int_lt, true, false, Bool, ◌&&◌, refl, arith}
+use Rattle.std.proofs.Common.{◌≡◌, ℕ, ◌+◌, ◌*◌, ◌<◌, ◌/◌, ◌%◌, ℤ, pos, negsuc, ◌+ℤ◌, ◌-ℤ◌, ◌≤ℤ◌, ◌<ℤ◌, nat_abs, int_le, int_lt, true, arith}
 use Rattle.std.proofs.lemmas.Int.{ints}
+use Rattle.std.proofs.lemmas.Bool.{and_from}
 use Rattle.av_types.specs.declared.place.Pos.{Pos}
 use Rattle.av_cells.specs.Positions.{IsInner}
 use Rattle.av_column.specs.Columns.{is_there, slot}
@@ -47,18 +48,13 @@ le_is a b h = grind (arith, ints)
 lt_is : (a b : ℤ) → a <ℤ b → int_lt a b ≡ true
 lt_is a b h = grind (arith, ints)
 
-pub both : (a b : Bool) → a ≡ true → b ≡ true → (a && b) ≡ true
-both true true g h = refl
-both true false g h = h
-both false b g h = g
-
 pub block_is_there : (bottom : ℤ) (layers i : ℕ) → i < 256 * layers → is_there bottom layers (block_at bottom i) ≡ true
 block_is_there bottom layers i h =
-    both _ _
-    (both _ _
-    (both _ _ (le_is (pos 0) (pos (i % 16)) (omega (arith, ints))) (lt_is (pos (i % 16)) (pos 0 +ℤ pos 16) (omega (arith, ints))))
-    (both _ _ (le_is (pos 0) (pos (i / 16 % 16)) (omega (arith, ints))) (lt_is (pos (i / 16 % 16)) (pos 0 +ℤ pos 16) (omega (arith, ints)))))
-    (both _ _ (le_is bottom (bottom +ℤ pos (i / 256)) (omega (arith, ints))) (lt_is (bottom +ℤ pos (i / 256)) (bottom +ℤ pos layers) (omega (arith, ints))))
+    and_from _ _
+    (and_from _ _
+    (and_from _ _ (le_is (pos 0) (pos (i % 16)) (omega (arith, ints))) (lt_is (pos (i % 16)) (pos 0 +ℤ pos 16) (omega (arith, ints))))
+    (and_from _ _ (le_is (pos 0) (pos (i / 16 % 16)) (omega (arith, ints))) (lt_is (pos (i / 16 % 16)) (pos 0 +ℤ pos 16) (omega (arith, ints)))))
+    (and_from _ _ (le_is bottom (bottom +ℤ pos (i / 256)) (omega (arith, ints))) (lt_is (bottom +ℤ pos (i / 256)) (bottom +ℤ pos layers) (omega (arith, ints))))
 
 pub there_is_inner : (bottom : ℤ) (layers : ℕ) (p : Pos) → is_there bottom layers p ≡ true → negsuc 1023 ≤ℤ bottom → (bottom +ℤ pos layers) ≤ℤ pos 1024 → IsInner p
 there_is_inner bottom layers p h low high =

@@ -84,7 +84,7 @@ impl Column {
     pub fn filled(alloc: Global, bottom: i32, layers: u32, number: u16) -> Result<Column, Fault>
         requires low { negsuc 1023 ≤ℤ bottom }
         requires high { (bottom +ℤ pos layers) ≤ℤ pos 1024 }
-        ensures fault { IfErr result (λ e. e ≡ OutOfMemory) }
+        ensures memory { IfErr result (λ e. e ≡ OutOfMemory) }
         ensures bottom { IfOk result (λ c. bottom_of c ≡ bottom) }
         ensures layers { IfOk result (λ c. layer_count c ≡ layers) }
         ensures numbers { IfOk result (λ c. numbers_of c ≡ replicate (256 * layers) number) }

@@ -2,7 +2,7 @@
 ghost use Rattle.std.specs.Prelude.{None};
 
 use crate::expecting::expect_equal;
-use av_exchange::{Folder, close, place, repair, stage, sweep};
+use av_exchange::{Folder, close, place, place_alone, repair, stage, sweep, unstage};
 use av_sink::NoTeller;
 use std::alloc::{AllocError, Global};
 use std::io::{self, ErrorKind};
@@ -261,5 +261,27 @@ fn files_that_are_left_alone(rt: HostRuntime) -> Result<(), Fail> {
         expect_equal(&rt, folder.text(name), "text");
     }
     expect_equal(&rt, folder.entries.len(), 4);
+    Ok(())
+}
+
+/// What is left of one new file keeps its next one from being written, until it alone is taken away.
+#[test]
+fn what_is_left_of_one_file_is_taken_away(rt: HostRuntime) -> Result<(), Fail> {
+    let mut folder = Memory::new(rt.alloc());
+    folder.add("map.png", b"old")?;
+    folder.add(".anvilwater-map.png", b"ha")?;
+    folder.add(".anvilwater-other.png", b"other")?;
+    let error = stage(rt.alloc(), &mut folder, "map.png", b"new")
+        .err()
+        .ok_or("a file in the place of the new one")?;
+    expect_equal(&rt, error.kind(), ErrorKind::AlreadyExists);
+    unstage(rt.alloc(), &mut folder, "map.png")?;
+    expect_equal(&rt, folder.text(".anvilwater-map.png"), "-");
+    expect_equal(&rt, folder.text("map.png"), "old");
+    stage(rt.alloc(), &mut folder, "map.png", b"new")?;
+    place_alone(rt.alloc(), &mut folder, "map.png")?;
+    expect_equal(&rt, folder.text("map.png"), "new");
+    expect_equal(&rt, folder.text(".anvilwater-other.png"), "other");
+    expect_equal(&rt, folder.entries.len(), 2);
     Ok(())
 }

@@ -1,7 +1,8 @@
 -- Entries turned one after the other, in a world of blocks with lists and in its land.
 use Rattle.std.proofs.Common.{◌≡◌, ◌∙◌, ℕ, ◌<◌, ◌≤◌, ◌&&◌, List, [], ◌∷◌, ◌++◌, Bool, true, false, cond, refl, sym, ap, arith}
-use Rattle.std.proofs.lemmas.Bool.{true≢false}
+use Rattle.std.proofs.lemmas.Bool.{true≢false, cond_both}
 use Rattle.std.specs.List.{AllByRecursion}
+use Rattle.av_play.proofs.LandTurns.{listed_pending, waits_as}
 use Rattle.av_types.specs.Places.{chunk_of}
 use Rattle.av_types.specs.declared.place.Pos.{Pos}
 use Rattle.av_types.specs.declared.tick.Entry.{Entry}
@@ -19,7 +20,6 @@ use Rattle.av_land.proofs.Steps.{IsClosed, turn_keeps}
 use Rattle.av_play.specs.Play.{Outcome, in_order}
 use Rattle.av_play.specs.Waiting.{is_among}
 use Rattle.av_play.proofs.Waiting.{turn_waits}
-use Rattle.av_crew.proofs.Staying.{listed_pending}
 
 -- ---- what a turn makes is of loaded blocks
 
@@ -59,15 +59,11 @@ record IsKnown (count : ℕ) (L : Pos → Bool) (c : Change) : Type 0 where
   loaded : c.world.loaded ≡ L
   known : (q : Pos) → L q ≡ true → c.world.number q < count
 
-known_if : (b : Bool) (n m count : ℕ) → n < count → m < count → cond b n m < count
-known_if true n m count a b = a
-known_if false n m count a b = b
-
 known_closed : (k : ℕ → Kind) (now count : ℕ) (L : Pos → Bool) → IsClosed k now L (λ m. m < count) (IsKnown count L)
 known_closed k now count L =
     record {
       loads = λ c s. s.loaded;
-      set = λ p m c less l s. record { loaded = s.loaded; known = λ q t. known_if (same_pos q p) m (c.world.number q) count less (s.known q t) };
+      set = λ p m c less l s. record { loaded = s.loaded; known = λ q t. cond_both (same_pos q p) m (c.world.number q) (λ n. n < count) (λ _. less) (λ _. s.known q t) };
       wake = λ p c l free s. record { loaded = s.loaded; known = s.known };
     }
 
@@ -85,12 +81,6 @@ order_loaded k now [] w l = refl
 order_loaded k now (e ∷ es) w l = order_loaded k now es (turn k now e.pos w).world _ ∙ (turn_kept k now e.pos w).kept_loaded
 
 -- ---- a turn in the land
-
-waits_as : (loaded among before : Bool) → (among ≡ true → loaded ≡ true) → loaded && cond among true before ≡ cond among true (loaded && before)
-waits_as true true b h = refl
-waits_as true false b h = refl
-waits_as false true b h = absurd (true≢false (sym (h refl)))
-waits_as false false b h = refl
 
 turned_cells : (k : ℕ → Kind) (now : ℕ) (p : Pos) (w : Land ℕ) → cells_of (turned k now p w) ≡ (turn k now p (cells_of w)).world
 turned_cells k now p w = λ i. record { loaded = sym (turn_kept k now p (cells_of w)).kept_loaded i; number = (turn k now p (cells_of w)).world.number; pending = λ q. pending q i } where

@@ -1,5 +1,5 @@
 -- One more entry turned.
-use Rattle.std.proofs.Common.{◌≡◌, ℕ, suc, ◌+◌, ◌<◌, List, [], ◌∷◌, ◌++◌, length, get_or, take, true, Result, Ok, Err, OnErr, refl, sym, ap, ◌∙◌, add-one, arith}
+use Rattle.std.proofs.Common.{◌≡◌, ℕ, suc, ◌+◌, ◌<◌, List, [], ◌∷◌, ◌++◌, length, get_or, take, true, refl, sym, ap, ◌∙◌, add-one, arith}
 use Rattle.std.proofs.lemmas.Option.{slice_get-get_or}
 use Rattle.av_types.specs.declared.tick.Entry.{Entry}
 use Rattle.av_types.specs.declared.tick.Made.{Made}
@@ -41,10 +41,6 @@ one_more k now i entries d old mid new l m n made more t h e f g =
           ∙ ap (λ es. listed_all l (entries_of made ++ es)) (sym (entries_of_labelled x.place 0 (turn_of k now x mid).made))
           ∙ ap (listed_all l) (sym (entries_of_append made (made_by k now x mid))) ∙ ap (λ ms. listed_all l (entries_of ms)) (sym f);
     }
-
-pub on_err : {X E : Type 0} (r : Result X E) (P : Type 0) → P → OnErr r P
-on_err (Ok x) P p = tt
-on_err (Err e) P p = p
 
 -- nothing more was turned
 pub no_more : (k : ℕ → Kind) (now i : ℕ) (entries : List Placed) (old mid new : World) (l m n : Lists) (made more : List Made) → AreTurned k now i entries old mid l m made

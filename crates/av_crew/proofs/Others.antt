@@ -1,8 +1,10 @@
 -- The blocks of no part, while parts are out and when they are back.
-use Rattle.std.proofs.Common.{◌≡◌, ℕ, Bool, true, false, cond, List, [], ◌∷◌, length, take, Option, Some, None, refl, ap, ◌∙◌, IsTrue}
+use Rattle.std.proofs.Common.{◌≡◌, ℕ, Bool, false, cond, List, [], ◌∷◌, length, take, Option, Some, None, refl, ap, ◌∙◌, IsTrue}
 use Rattle.std.proofs.lemmas.List.Elements.{recursion_from_All, All-from_recursion}
 use Rattle.std.proofs.lemmas.List.Sorted.{All-permutation}
 use Rattle.std.specs.List.{AllByRecursion, AllZip}
+use Rattle.std.proofs.lemmas.Bool.{false_from_ne_true}
+use Rattle.av_types.proofs.Each.{each_then}
 use Rattle.av_types.specs.Places.{section_of, place_of}
 use Rattle.av_types.specs.declared.place.Pos.{Pos}
 use Rattle.av_types.specs.declared.place.SectionPos.{SectionPos}
@@ -11,7 +13,6 @@ use Rattle.av_cells.specs.declared.kind.Kind.{Kind}
 use Rattle.av_cells.specs.World.{World, Lists}
 use Rattle.av_cells.specs.Grid.{Grid, is_here, number_in, pending_in, cells_of}
 use Rattle.av_play.specs.declared.event.Placed.{Placed}
-use Rattle.av_play.proofs.Lists.{each_then}
 use Rattle.av_play.proofs.Projection.{after_loaded}
 use Rattle.av_world.specs.ParcelViews.{blocks, lists}
 use Rattle.av_crew.specs.declared.jobs.Job.{Job}
@@ -46,16 +47,12 @@ zip_without k now q [] (d ∷ ds) h z = absurd z
 zip_without k now q (j ∷ js) [] h z = absurd z
 zip_without k now q (j ∷ js) (d ∷ ds) h z = (ap (λ f. f q) (done_loaded k now j d z.0) ∙ h.0, zip_without k now q js ds h.1 z.1)
 
-not_true : (b : Bool) → ¬ (b ≡ true) → b ≡ false
-not_true true f = absurd (f refl)
-not_true false f = refl
-
 module _ (g : Grid) (parts : List (List Placed)) (picks : ℕ → SectionPos → Bool) where
   abbrev Is : Job → Type 0
   Is j = (m : ℕ) × IsJob g parts picks m j
 
   job_without : (q : Pos) → ((n : ℕ) → ¬ IsTrue (picks n (section_of q))) → (j : Job) → Is j → (blocks j.parcel).loaded q ≡ false
-  job_without q f j i = ap (λ (w : World). w.loaded q) i.1.blocks_are ∙ ap (λ b. is_here (cond b (g (section_of q)) None)) (not_true (picks i.0 (section_of q)) (f i.0))
+  job_without q f j i = ap (λ (w : World). w.loaded q) i.1.blocks_are ∙ ap (λ b. is_here (cond b (g (section_of q)) None)) (false_from_ne_true (picks i.0 (section_of q)) (f i.0))
 
   pub kept_mended : (k : ℕ → Kind) (now : ℕ) (l : Lists) (count : ℕ) (rest : Grid) → IsCarved g picks count rest → (jobs : List Job) → AreJobs g parts picks 0 jobs → (dones : List Done) → AnswersAll k now jobs dones
       → (h : World) → h ≡ mended_all (λ d. blocks d.parcel) l dones (cells_of rest) → AreOthersKept picks (cells_of g) h

@@ -1,6 +1,6 @@
 -- Jobs that were worked off, in whatever order, and mended: each part is settled.
 use Rattle.std.proofs.Common.{◌≡◌, ℕ, zero, suc, ◌+◌, ◌<◌, ◌≤◌, nat_eq, Bool, true, false, cond, List, [], ◌∷◌, length, refl, sym, ap, subst, ◌∙◌, arith, ◌⊎◌, inl, inr, IsTrue, ◌↔◌, Option, None}
-use Rattle.std.proofs.lemmas.Bool.{true≢false}
+use Rattle.std.proofs.lemmas.Bool.{true≢false, cases_lt, false_from_ne_true, ne_eqb, eqb-true, eq-eqb}
 use Rattle.std.proofs.lemmas.List.Elements.{recursion_from_All, All-from_recursion}
 use Rattle.std.proofs.lemmas.List.Sorted.{All-permutation, Contains-permutation}
 use Rattle.std.specs.List.{AllByRecursion, flat_map, Contains}
@@ -18,38 +18,25 @@ use Rattle.av_play.specs.Parts.{numbered, IsPlan, part_at, count_of}
 use Rattle.av_play.specs.Play.{world_after, made_after, made_by, turn_of}
 use Rattle.av_play.specs.Laws.{IsOfPart, made_for}
 use Rattle.av_play.specs.Parcels.{AreSettled}
-use Rattle.av_play.proofs.Lists.{same_number, itself, other_number, each_chosen, each_then, none_contained}
+use Rattle.av_play.proofs.Lists.{other_number, each_chosen, none_contained}
 use Rattle.av_play.proofs.Trace.{known_all}
 use Rattle.av_play.proofs.Turns.{all_for, none_for}
 use Rattle.av_play.proofs.Projection.{after_loaded}
 use Rattle.av_play.proofs.Interleaving.{parts_share_nothing, stable_test}
 use Rattle.std.proofs.lemmas.List.Elements.{filter-append}
+use Rattle.av_world.proofs.DueLists.{filter_flat}
+use Rattle.av_types.proofs.Each.{each_then}
 use Rattle.av_world.specs.Lawful.{IsTied}
 use Rattle.av_crew.specs.declared.jobs.Job.{Job}
 use Rattle.av_crew.specs.Jobs.{IsJob, AreJobs, world_of, made_of, mended_all, IsCarved}
-use Rattle.av_crew.proofs.Totals.{Has, has_contained, has_then, total, total_permuted, Gives, none_counts, one_counts, filter_flat}
+use Rattle.av_crew.proofs.Totals.{Has, has_contained, has_then, total, total_permuted, Gives, none_counts, one_counts}
 use Rattle.av_crew.proofs.Mending.{IsAt, SameAt, Tells, found, passed}
 
 -- ---- numbers
 
-below_or : (m n : ℕ) → (m < n) ⊎ (n ≤ m)
-below_or zero zero = inr (omega arith)
-below_or zero (suc n) = inl (omega arith)
-below_or (suc m) zero = inr (omega arith)
-below_or (suc m) (suc n) = by (below_or m n) where
-  by : (m < n) ⊎ (n ≤ m) → (suc m < suc n) ⊎ (suc n ≤ suc m)
-  by (inl h) = inl (omega arith)
-  by (inr h) = inr (omega arith)
-
 -- one where the number is n
 abbrev one_of : ℕ → Job → ℕ
 one_of n j = cond (nat_eq j.number n) 1 0
-
-different : (a b : ℕ) → ¬ (a ≡ b) → nat_eq a b ≡ false
-different a b f = by (nat_eq a b) refl where
-  by : (c : Bool) → nat_eq a b ≡ c → nat_eq a b ≡ false
-  by true e = absurd (f (same_number a b e))
-  by false e = e
 
 part_missing : (parts : List (List Placed)) (n : ℕ) → count_of parts ≤ n → part_at parts n ≡ []
 part_missing [] n h = refl
@@ -82,7 +69,7 @@ module _ (g : Grid) (parts : List (List Placed)) (picks : ℕ → SectionPos →
 
   has_number : (a n : ℕ) (js : List Job) → AreJobs g parts picks a js → a ≤ n → n < a + length js → (j : Job) × Contains js j × Is n j
   has_number a n [] h l u = absurd (omega arith)
-  has_number a n (j ∷ js) h l u = by (below_or a n) (has_number (suc a) n js h.1) where
+  has_number a n (j ∷ js) h l u = by (cases_lt a n) (has_number (suc a) n js h.1) where
     by : (a < n) ⊎ (n ≤ a) → (suc a ≤ n → n < suc a + length js → (j : Job) × Contains js j × Is n j) → (i : Job) × Contains (j ∷ js) i × Is n i
     by (inr e) rest = (j, (0, (omega arith), refl), subst (λ m. Is m j) (omega arith) h.0)
     by (inl e) rest = let r = rest (omega arith) (omega arith) in (r.0, (suc r.1.0, omega (arith, r.1.1), r.1.2), r.2)
@@ -91,25 +78,25 @@ module _ (g : Grid) (parts : List (List Placed)) (picks : ℕ → SectionPos →
   below_none : (a n : ℕ) (js : List Job) → AreJobs g parts picks a js → n < a → total (one_of n) js ≡ 0
   below_none a n [] h l = refl
   below_none a n (j ∷ js) h l =
-      let e : nat_eq j.number n ≡ false = ap (λ m. nat_eq m n) h.0.number ∙ different a n (λ e. omega (arith, e)) in
+      let e : nat_eq j.number n ≡ false = ap (λ m. nat_eq m n) h.0.number ∙ ne_eqb a n (λ e. omega (arith, e)) in
       rw (e, below_none (suc a) n js h.1 (omega arith)) refl
 
   above_none : (a n : ℕ) (js : List Job) → AreJobs g parts picks a js → a + length js ≤ n → total (one_of n) js ≡ 0
   above_none a n [] h l = refl
   above_none a n (j ∷ js) h l =
-      let e : nat_eq j.number n ≡ false = ap (λ m. nat_eq m n) h.0.number ∙ different a n (λ e. omega (arith, e)) in
+      let e : nat_eq j.number n ≡ false = ap (λ m. nat_eq m n) h.0.number ∙ ne_eqb a n (λ e. omega (arith, e)) in
       rw (e, above_none (suc a) n js h.1 (omega arith)) refl
 
   within_one : (a n : ℕ) (js : List Job) → AreJobs g parts picks a js → a ≤ n → n < a + length js → total (one_of n) js ≡ 1
   within_one a n [] h l u = absurd (omega arith)
-  within_one a n (j ∷ js) h l u = by (below_or a n) (within_one (suc a) n js h.1) where
+  within_one a n (j ∷ js) h l u = by (cases_lt a n) (within_one (suc a) n js h.1) where
     by : (a < n) ⊎ (n ≤ a) → (suc a ≤ n → n < suc a + length js → total (one_of n) js ≡ 1) → total (one_of n) (j ∷ js) ≡ 1
     by (inr e) rest =
         let f : a ≡ n = omega arith in
-        let t : nat_eq j.number n ≡ true = ap (λ m. nat_eq m n) (h.0.number ∙ f) ∙ itself n in
+        let t : nat_eq j.number n ≡ true = ap (λ m. nat_eq m n) (h.0.number ∙ f) ∙ eq-eqb n n refl in
         rw (t, below_none (suc a) n js h.1 (omega arith)) refl
     by (inl e) rest =
-        let t : nat_eq j.number n ≡ false = ap (λ m. nat_eq m n) h.0.number ∙ different a n (λ f. omega (arith, f)) in
+        let t : nat_eq j.number n ≡ false = ap (λ m. nat_eq m n) h.0.number ∙ ne_eqb a n (λ f. omega (arith, f)) in
         rw (t, rest (omega arith) (omega arith)) refl
 
 picked_of : {X : Type 0} (b : Bool) (x : Option X) → (o : Option X → Bool) → o None ≡ false → o (cond b x None) ≡ true → b ≡ true
@@ -165,7 +152,7 @@ module _ (g : Grid) (entries : List Entry) (parts : List (List Placed)) (plan : 
   picked_alone n q c = alone_loaded n q ∙ ap (λ b. is_here (cond b (g (section_of q)) None)) c ∙ of_there n q c
 
   number_below : (n : ℕ) (s : SectionPos) → IsTrue (picks n s) → n < count_of parts
-  number_below n s c = by (below_or n (count_of parts)) where
+  number_below n s c = by (cases_lt n (count_of parts)) where
     by : (n < count_of parts) ⊎ (count_of parts ≤ n) → n < count_of parts
     by (inl u) = u
     by (inr u) = let o = (exact n s).0 c in absurd (none_contained o.owner (subst (λ (p : List Placed). Contains p o.owner) (part_missing parts n u) o.there))
@@ -173,8 +160,8 @@ module _ (g : Grid) (entries : List Entry) (parts : List (List Placed)) (plan : 
   same_part : (m n : ℕ) (s : SectionPos) → IsTrue (picks m s) → IsTrue (picks n s) → m ≡ n
   same_part m n s c d = by (nat_eq m n) refl where
     by : (b : Bool) → nat_eq m n ≡ b → m ≡ n
-    by true e = same_number m n e
-    by false e = absurd (parts_share_nothing w entries parts plan m n s (λ f. true≢false (sym (ap (λ i. nat_eq i n) f ∙ itself n) ∙ e)) ((exact m s).0 c) ((exact n s).0 d))
+    by true e = eqb-true m n e
+    by false e = absurd (parts_share_nothing w entries parts plan m n s (λ f. true≢false (sym (ap (λ i. nat_eq i n) f ∙ eq-eqb n n refl) ∙ e)) ((exact m s).0 c) ((exact n s).0 d))
 
   tells : (n : ℕ) (q : Pos) → IsTrue (picks n (section_of q)) → AllByRecursion (Tells (world_of k now) l q ((alone n).number q)) order
   tells n q c = each_then _ _ (λ j i t.
@@ -186,12 +173,8 @@ module _ (g : Grid) (entries : List Entry) (parts : List (List Placed)) (plan : 
   at_picked n q c = found (world_of k now) l q ((alone n).number q) order (cells_of rest) (tells n q c)
       (has_then _ _ (λ j i. ap (λ v. v.loaded q) (world_is n j i) ∙ picked_alone n q c) order (has n (number_below n (section_of q) c)))
 
-  not_true : (b : Bool) → ¬ (b ≡ true) → b ≡ false
-  not_true true f = absurd (f refl)
-  not_true false f = refl
-
   at_others : (q : Pos) → ((n : ℕ) → ¬ IsTrue (picks n (section_of q))) → SameAt q h (cells_of rest)
-  at_others q f = passed (world_of k now) l q order (cells_of rest) (each_then _ _ (λ j i. not_true _ (λ t. f i.0 (alone_picked i.0 q (sym (ap (λ v. v.loaded q) (world_is i.0 j i.1)) ∙ t)))) order each)
+  at_others q f = passed (world_of k now) l q order (cells_of rest) (each_then _ _ (λ j i. false_from_ne_true _ (λ t. f i.0 (alone_picked i.0 q (sym (ap (λ v. v.loaded q) (world_is i.0 j i.1)) ∙ t)))) order each)
 
   rest_is : (q : Pos) → ((n : ℕ) → ¬ IsTrue (picks n (section_of q))) → rest (section_of q) ≡ g (section_of q)
   rest_is q f = carved.others (section_of q) (λ n u. f n)
@@ -204,9 +187,9 @@ module _ (g : Grid) (entries : List Entry) (parts : List (List Placed)) (plan : 
   gives : (n : ℕ) (j : Job) → ((m : ℕ) × IsJob g parts picks m j) → Gives (one_of n) (λ j. made_for (own n) (made_of k now j)) (own_made n) j
   gives n j i =
       record {
-        one = λ c. let e : i.0 ≡ n = sym i.1.number ∙ same_number j.number n (one_is (nat_eq j.number n) c) in
+        one = λ c. let e : i.0 ≡ n = sym i.1.number ∙ eqb-true j.number n (one_is (nat_eq j.number n) c) in
             ap (made_for (own n)) (made_is i.0 j i.1 ∙ ap own_made e) ∙ for_all k now (own n) (part_at parts n) (cells_of (only (picks n) g)) (of_part n);
-        none = λ c. let f : ¬ (i.0 ≡ n) = λ e. true≢false (sym (ap (λ m. nat_eq m n) (i.1.number ∙ e) ∙ itself n) ∙ none_is (nat_eq j.number n) c) in
+        none = λ c. let f : ¬ (i.0 ≡ n) = λ e. true≢false (sym (ap (λ m. nat_eq m n) (i.1.number ∙ e) ∙ eq-eqb n n refl) ∙ none_is (nat_eq j.number n) c) in
             ap (made_for (own n)) (made_is i.0 j i.1) ∙ for_none k now (own n) (part_at parts i.0) (cells_of (only (picks i.0) g)) (each_then _ _ (λ x e. other_number (plan.part_of x.place) n i.0 e (λ d. f (sym d))) (part_at parts i.0) (of_part i.0));
         either = cases (nat_eq j.number n);
       }
@@ -230,7 +213,7 @@ module _ (g : Grid) (entries : List Entry) (parts : List (List Placed)) (plan : 
   all_gives n = each_then _ _ (gives n) order each
 
   aside_for : (n : ℕ) → made_for (own n) (flat_map (made_of k now) order) ≡ own_made n
-  aside_for n = filter_flat (λ m. own n m.maker) (made_of k now) order ∙ by (below_or n (count_of parts)) where
+  aside_for n = filter_flat (λ m. own n m.maker) (made_of k now) order ∙ by (cases_lt n (count_of parts)) where
     by : (n < count_of parts) ⊎ (count_of parts ≤ n) → flat_map (λ j. made_for (own n) (made_of k now j)) order ≡ own_made n
     by (inl u) = one_counts (one_of n) _ (own_made n) order (all_gives n) (total_permuted (one_of n) jobs order permuted ∙ within_one g parts picks 0 n jobs are (omega arith) (omega (arith, u, count)))
     by (inr u) = none_counts (one_of n) _ (own_made n) order (all_gives n) (total_permuted (one_of n) jobs order permuted ∙ above_none g parts picks 0 n jobs are (omega (arith, u, count))) ∙ ap (λ (p : List Placed). made_after k now p (cells_of (only (picks n) g))) (sym (part_missing parts n u))

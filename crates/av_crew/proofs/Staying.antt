@@ -1,6 +1,7 @@
 -- A part of a world is a part of it after turns.
 use Rattle.std.proofs.Common.{◌≡◌, ℕ, Bool, true, false, cond, ◌||◌, List, [], ◌∷◌, length, take, Option, Some, None, refl, sym, ap, subst, ◌∙◌, IsTrue}
-use Rattle.std.proofs.lemmas.Bool.{true≢false}
+use Rattle.std.proofs.lemmas.Bool.{true≢false, or_parts}
+use Rattle.av_play.proofs.LandTurns.{listed_pending}
 use Rattle.av_types.specs.Places.{chunk_of}
 use Rattle.av_types.specs.declared.place.Pos.{Pos}
 use Rattle.av_types.specs.declared.place.ChunkPos.{ChunkPos}
@@ -10,14 +11,13 @@ use Rattle.av_types.specs.declared.tick.Made.{Made}
 use Rattle.av_ticks.specs.Entries.{is_pending}
 use Rattle.av_cells.specs.declared.kind.Kind.{Kind}
 use Rattle.av_cells.specs.Positions.{same_pos}
-use Rattle.av_cells.specs.World.{World, Lists, listed_if, listed_all}
+use Rattle.av_cells.specs.World.{World, Lists, listed_all}
 use Rattle.av_play.specs.declared.event.Placed.{Placed}
 use Rattle.av_play.specs.Play.{world_after, made_after, entries_of}
 use Rattle.av_play.specs.Waiting.{is_among, AreNew}
 use Rattle.av_play.proofs.Projection.{after_loaded}
 use Rattle.av_play.proofs.Waiting.{turns_wait, turns_fresh}
 use Rattle.av_world.specs.OutOf.{IsPartOf}
-use Rattle.av_world.proofs.Tied.{tied_added}
 use Rattle.av_types.specs.declared.fault.Fault.{Fault}
 use Rattle.av_types.proofs.SamePlaces.{same_pos_is}
 use Rattle.av_world.specs.ParcelViews.{blocks, lists}
@@ -25,34 +25,12 @@ use Rattle.av_crew.specs.declared.jobs.Job.{Job}
 use Rattle.av_crew.specs.declared.jobs.Done.{Done}
 use Rattle.av_crew.specs.Work.{AreTurned, IsDoneOf}
 
--- what the lists have after entries were put aside
-pub listed_pending : (p : Pos) (es : List Entry) (l : Lists) → is_pending p (listed_all l es (chunk_of p)) ≡ cond (is_among p es) true (is_pending p (l (chunk_of p)))
-listed_pending p [] l = refl
-listed_pending p (e ∷ es) l =
-    listed_pending p es (listed_if true l e) ∙ ap (λ b. cond (is_among p es) true b) (sym one) ∙ swap (is_among p es) (same_pos p e.pos) (is_pending p (l (chunk_of p)))
-  where
-    all : World
-    all = record { loaded = λ q. true; number = λ q. 0; pending = λ q. is_pending q (l (chunk_of q)) }
-
-    one : cond (same_pos p e.pos) true (is_pending p (l (chunk_of p))) ≡ is_pending p (listed_if true l e (chunk_of p))
-    one = tied_added all l e (λ q t. refl) p refl
-
-    swap : (m s x : Bool) → cond m true (cond s true x) ≡ cond (cond s true m) true x
-    swap true true x = refl
-    swap true false x = refl
-    swap false true x = refl
-    swap false false x = refl
-
 new_among : (w : World) (p : Pos) (es : List Entry) → AreNew w es → is_among p es ≡ true → w.pending p ≡ false
 new_among w p [] n h = absurd (true≢false (sym h))
 new_among w p (e ∷ es) n h = by (same_pos p e.pos) refl h (new_among w p es n.2) where
   by : (s : Bool) → same_pos p e.pos ≡ s → cond s true (is_among p es) ≡ true → (is_among p es ≡ true → w.pending p ≡ false) → w.pending p ≡ false
   by true s h rest = ap w.pending (same_pos_is p e.pos s) ∙ n.0
   by false s h rest = rest h
-
-neither : (a b : Bool) → a || b ≡ false → a ≡ false
-neither true b h = absurd (true≢false h)
-neither false b h = refl
 
 module _ (h : Height) (ps : List ChunkPos) (l : Lists) (b : World) (aside : Lists) (i : IsPartOf h ps l b aside) (k : ℕ → Kind) (now : ℕ) (xs : List Placed) where
   abbrev made : List Entry
@@ -76,7 +54,7 @@ module _ (h : Height) (ps : List ChunkPos) (l : Lists) (b : World) (aside : List
       }
     where
       by : (p : Pos) → IsTrue (b.loaded p) → (m : Bool) → is_among p made ≡ m → cond m true (is_pending p (aside (chunk_of p))) ≡ true → is_pending p (l (chunk_of p)) ≡ false
-      by p t true m e = neither (is_pending p (l (chunk_of p))) (is_pending p (aside (chunk_of p))) (sym (i.tied p t) ∙ new_among b p made (turns_fresh k now xs b) m)
+      by p t true m e = (or_parts (is_pending p (l (chunk_of p))) (is_pending p (aside (chunk_of p))) (sym (i.tied p t) ∙ new_among b p made (turns_fresh k now xs b) m)).0
       by p t false m e = i.apart p t e
 
 -- the same, of what was turned

@@ -1,10 +1,10 @@
 -- One more parcel carved or mended.
-use Rattle.std.proofs.Common.{◌≡◌, ℕ, zero, suc, ◌+◌, ◌<◌, ◌||◌, Bool, true, false, cond, List, [], ◌∷◌, ◌++◌, length, get_or, slice_index_or, length-append, refl, sym, ap, subst, ◌∙◌, arith, IsTrue, Option, Some, None, is_some, All, append-nil}
-use Rattle.std.proofs.lemmas.Bool.{true≢false}
+use Rattle.std.proofs.Common.{◌≡◌, ℕ, zero, suc, ◌+◌, ◌<◌, ◌||◌, Bool, true, false, cond, List, [], ◌∷◌, ◌++◌, length, get_or, slice_index_or, length-append, refl, sym, ap, subst, ◌∙◌, arith, IsTrue, Option, Some, None, is_some, All}
+use Rattle.std.proofs.lemmas.Bool.{true≢false, false_from_ne_true}
 use Rattle.std.proofs.lemmas.List.Elements.{All-push, All-from_recursion}
 use Rattle.std.proofs.lemmas.List.Folds.{list_any-append}
-use Rattle.std.proofs.lemmas.List.Concat.{flat_map-append}
-use Rattle.std.specs.List.{flat_map, list_any, AllByRecursion}
+use Rattle.std.specs.List.{list_any, AllByRecursion}
+use Rattle.std.proofs.Math.Bool.{or-false}
 use Rattle.av_types.specs.declared.place.SectionPos.{SectionPos}
 use Rattle.av_types.specs.declared.fault.Fault.{Fault}
 use Rattle.av_types.specs.declared.tick.Entry.{Entry}
@@ -32,12 +32,6 @@ use Rattle.av_crew.specs.Parts.{picks_of, IsCut, CanCarve, IsPartIn, HaveParts, 
 pub mended_push : {X : Type 0} (part : X → cells.World) (l : Lists) (xs : List X) (x : X) (w : cells.World) → mended_all part l (xs ++ x ∷ []) w ≡ mended l (part x) (mended_all part l xs w)
 mended_push part l [] x w = refl
 mended_push part l (y ∷ ys) x w = mended_push part l ys x (mended l (part y) w)
-
-pub flat_push : {X A : Type 0} (f : X → List A) (xs : List X) (x : X) → flat_map f (xs ++ x ∷ []) ≡ flat_map f xs ++ f x
-flat_push f xs x = flat_map-append f xs (x ∷ []) ∙ ap (λ l. flat_map f xs ++ l) (append-nil (f x))
-
-pub same_trans : (u v w : World) → IsSamePlaces u v → IsSamePlaces v w → IsSamePlaces u w
-same_trans u v w a b = record { height = b.height ∙ a.height; positions = b.positions ∙ a.positions; broken = b.broken ∙ a.broken; lists_are = b.lists_are ∙ a.lists_are }
 
 pub part_in_same : (v w : World) (p : Parcel) → IsSamePlaces v w → IsPartIn v p → IsPartIn w p
 part_in_same v w p s i =
@@ -110,12 +104,8 @@ module _ (g : Grid) (entries : List Entry) (clusters : List Cluster) (cut : IsCu
     pub carved_more : IsCarved g picks (i + 1) (grid new)
     carved_more =
         record {
-          others = λ s f. ap (λ h. h s) (one.left ∙ ap (without (among cluster.sections.items)) at) ∙ ap (λ b. cond b None (rest s)) (mine s ∙ not_true (picks i s) (f i (omega arith))) ∙ carved.others s (λ n u. f n (omega (arith, u)));
+          others = λ s f. ap (λ h. h s) (one.left ∙ ap (without (among cluster.sections.items)) at) ∙ ap (λ b. cond b None (rest s)) (mine s ∙ false_from_ne_true (picks i s) (f i (omega arith))) ∙ carved.others s (λ n u. f n (omega (arith, u)));
         }
-      where
-        not_true : (b : Bool) → ¬ (b ≡ true) → b ≡ false
-        not_true true f = absurd (f refl)
-        not_true false f = refl
 
 -- what some first parts leave, all of them leave
 pub carved_first : (g : Grid) (picks : ℕ → SectionPos → Bool) (all seen left : List Cluster) → all ≡ seen ++ left → (n : ℕ) → n ≡ length all → (rest : Grid) → IsCarved g picks (length seen) rest → IsCarved g picks n rest
@@ -133,12 +123,8 @@ at_middle {X} all ys x zs e = subst (λ l. (length ys < length l) × (x ≡ get_
 pub parts_more : (v w : World) (js : List Job) (j : Job) → HaveParts v js → IsSamePlaces v w → IsPartIn w j.parcel → HaveParts w (js ++ j ∷ [])
 parts_more v w js j h s p = All-push (λ j. IsPartIn w j.parcel) js j (λ k d u. part_in_same v w (slice_index_or js k d).parcel s (h k d u)) p
 
-or_false : (b : Bool) → (b || false) ≡ b
-or_false true = refl
-or_false false = refl
-
 pub refused_more : (ds : List Done) (d : Done) → list_any (λ d. is_some d.fault) (ds ++ d ∷ []) ≡ (list_any (λ d. is_some d.fault) ds || is_some d.fault)
-refused_more ds d = list_any-append (λ (x : Done). is_some x.fault) ds (d ∷ []) ∙ ap (λ b. list_any (λ (x : Done). is_some x.fault) ds || b) (or_false (is_some d.fault))
+refused_more ds d = list_any-append (λ (x : Done). is_some x.fault) ds (d ∷ []) ∙ ap (λ b. list_any (λ (x : Done). is_some x.fault) ds || b) (or-false (is_some d.fault))
 
 -- where memory was refused to no worker, no answer has a fault
 pub none_refused : (ds : List Done) → list_any (λ d. is_some d.fault) ds ≡ false → All (λ d. d.fault ≡ None) ds

@@ -78,7 +78,3 @@ answers_all k now jobs ss ps left z p e =
 pub whole_of_each : (jobs taken : List Job) (ss : List (SeatShown Job)) → 0 < length ss → All (λ s. s.jobs ≡ jobs) ss → All (λ s. IsPermutation s.jobs taken) ss → IsPermutation jobs taken
 whole_of_each jobs taken [] some told whole = absurd (omega (arith, some))
 whole_of_each jobs taken (s ∷ ss) some told whole = subst (λ (l : List Job). IsPermutation l taken) (told 0 s (omega arith)) (whole 0 s (omega arith))
-
-pub no_element : {X : Type 0} (xs : List X) → length xs ≡ 0 → xs ≡ []
-no_element [] e = refl
-no_element (x ∷ xs) e = absurd (omega (arith, e))

@@ -1,9 +1,8 @@
 -- Lists of which one element counts.
-use Rattle.std.proofs.Common.{◌≡◌, ℕ, zero, suc, ◌+◌, ◌<◌, Bool, List, [], ◌∷◌, ◌++◌, length, slice_index_or, refl, sym, ap, subst, ◌∙◌, arith, ◌⊎◌, inl, inr, append-nil, Result, Ok, Err, IfOk, OnOk}
-use Rattle.std.specs.List.{AllByRecursion, AllZip, flat_map, filter, Contains}
+use Rattle.std.proofs.Common.{◌≡◌, ℕ, zero, suc, ◌+◌, ◌<◌, List, [], ◌∷◌, ◌++◌, length, slice_index_or, refl, sym, subst, ◌∙◌, arith, ◌⊎◌, inl, inr, append-nil}
+use Rattle.std.specs.List.{AllByRecursion, AllZip, flat_map, Contains}
 use Rattle.std.specs.List.Sorted.{IsPermutation}
 use Rattle.std.proofs.lemmas.List.Recursion.{is_sum_by}
-use Rattle.std.proofs.lemmas.List.Elements.{filter-append}
 use Rattle.std.proofs.lemmas.List.Sorted.{sum_by-IsPermutation}
 
 -- some element is of the kind
@@ -49,20 +48,8 @@ one_counts {X} {A} c f all (x ∷ xs) e t = by e.0.either (λ u. none_counts c f
   by (inl z) zero_rest one_rest = rw (e.0.none z) (one_rest (omega arith))
   by (inr o) zero_rest one_rest = rw (e.0.one o, zero_rest (omega arith)) (append-nil all)
 
-pub filter_flat : {X A : Type 0} (p : A → Bool) (f : X → List A) (xs : List X) → filter p (flat_map f xs) ≡ flat_map (λ x. filter p (f x)) xs
-filter_flat p f [] = refl
-filter_flat p f (x ∷ xs) = filter-append p (f x) (flat_map f xs) ∙ ap (λ l. filter p (f x) ++ l) (filter_flat p f xs)
-
 pub flat_zip : {X Y A : Type 0} (R : X → Y → Type 0) (f : X → List A) (h : Y → List A) → ((x : X) (y : Y) → R x y → h y ≡ f x) → (xs : List X) (ys : List Y) → AllZip R xs ys → flat_map h ys ≡ flat_map f xs
 flat_zip R f h e [] [] z = refl
 flat_zip R f h e [] (y ∷ ys) z = absurd z
 flat_zip R f h e (x ∷ xs) [] z = absurd z
 flat_zip R f h e (x ∷ xs) (y ∷ ys) z = rw (e x y z.0, flat_zip R f h e xs ys z.1) refl
-
-pub if_ok : {X E : Type 0} (P Q : X → Type 0) → ((x : X) → P x → Q x) → (r : Result X E) → IfOk r P → IfOk r Q
-if_ok P Q f (Ok x) h = f x h
-if_ok P Q f (Err e) h = tt
-
-pub on_ok : {X E : Type 0} (P Q : Type 0) → (P → Q) → (r : Result X E) → OnOk r P → OnOk r Q
-on_ok P Q f (Ok x) h = f h
-on_ok P Q f (Err e) h = tt

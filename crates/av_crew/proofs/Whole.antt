@@ -1,21 +1,22 @@
 -- All parts of a tick together.
-use Rattle.std.proofs.Common.{◌≡◌, ℕ, suc, ◌<◌, Bool, true, false, cond, List, [], ◌∷◌, length, take, refl, sym, ap, subst, ◌∙◌, IsTrue, None, All, arith}
+use Rattle.std.proofs.Common.{◌≡◌, ℕ, suc, ◌<◌, Bool, true, false, cond, List, [], ◌∷◌, length, take, refl, sym, ap, subst, ◌∙◌, IsTrue, None, All}
 use Rattle.std.proofs.lemmas.Bool.{true≢false}
-use Rattle.std.proofs.lemmas.Int.{ints}
 use Rattle.std.proofs.lemmas.List.Elements.{recursion_from_All, All-from_recursion}
 use Rattle.std.proofs.lemmas.List.Sorted.{All-permutation}
 use Rattle.std.specs.List.{AllByRecursion, AllZip, flat_map}
+use Rattle.std.proofs.Math.Seq.{take-length}
+use Rattle.av_world.proofs.Corners.{reach_self}
+use Rattle.av_types.proofs.Each.{each_then}
 use Rattle.av_types.specs.Places.{section_of, place_of}
 use Rattle.av_types.specs.declared.place.Pos.{Pos}
 use Rattle.av_types.specs.declared.place.SectionPos.{SectionPos}
 use Rattle.av_types.specs.declared.tick.Entry.{Entry}
 use Rattle.av_types.specs.declared.tick.Made.{Made}
 use Rattle.av_ticks.specs.Entries.{made_order}
-use Rattle.av_ticks.specs.Order.{ordered}
+use Rattle.av_types.specs.Order.{ordered}
 use Rattle.av_rules.specs.declared.kinds.Kinds.{Kinds}
 use Rattle.av_rules.specs.Kinds.{kind_count}
 use Rattle.av_cells.specs.declared.kind.Kind.{Kind}
-use Rattle.av_cells.specs.Positions.{InReach}
 use Rattle.av_cells.specs.Rule.{HasKinds}
 use Rattle.av_cells.specs.World as cells
 use Rattle.av_cells.specs.World.{Lists}
@@ -25,7 +26,7 @@ use Rattle.av_play.specs.Parts.{numbered, part_at, count_of}
 use Rattle.av_play.specs.Play.{world_after, made_after, entries_of}
 use Rattle.av_play.specs.Laws.{IsOfPart}
 use Rattle.av_play.specs.Waiting.{AreNew, appended}
-use Rattle.av_play.proofs.Lists.{each_chosen, each_then, take_whole}
+use Rattle.av_play.proofs.Lists.{each_chosen}
 use Rattle.av_play.proofs.Trace.{known_all}
 use Rattle.av_play.proofs.Settled.{settled_whole, settled_new}
 use Rattle.av_world.specs.Lawful.{IsTied}
@@ -54,9 +55,6 @@ each_both P Q (x ∷ xs) h k = ((h.0, k.0), each_both P Q xs h.1 k.1)
 each_numbered : (P : Entry → Type 0) (es : List Entry) (n : ℕ) → AllByRecursion P es → AllByRecursion (λ x. P x.entry) (numbered n es)
 each_numbered P [] n h = tt
 each_numbered P (e ∷ es) n h = (h.0, each_numbered P es (suc n) h.1)
-
-reach_self : (p : Pos) → InReach p p
-reach_self p = record { west = omega (arith, ints); east = omega (arith, ints); low = omega (arith, ints); high = omega (arith, ints); north = omega (arith, ints); south = omega (arith, ints) }
 
 count_is : (cs : List Cluster) → count_of (parts_of cs) ≡ length cs
 count_is [] = refl
@@ -127,7 +125,7 @@ zip_whole k now [] (d ∷ ds) z f = absurd z
 zip_whole k now (j ∷ js) [] z f = absurd z
 zip_whole k now (j ∷ js) (d ∷ ds) z f =
     let t = z.0.whole f.0 in
-    let all : take (length j.entries.items) j.entries.items ≡ j.entries.items = take_whole j.entries.items in
+    let all : take (length j.entries.items) j.entries.items ≡ j.entries.items = take-length j.entries.items in
     (record { world = t.world ∙ ap (λ (xs : List Placed). world_after k now xs (parcel_blocks j.parcel)) all; made = t.put_aside ∙ ap (λ (xs : List Placed). made_after k now xs (parcel_blocks j.parcel)) all }, zip_whole k now js ds z.1 f.1)
 
 -- what a job's turns make is of blocks of the whole grid

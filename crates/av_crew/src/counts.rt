@@ -23,7 +23,7 @@ impl Workers {
     pub fn new(count: u32) -> Result<Self, Fault>
         ensures ok { IfOk result (λ workers. workers.count ≡ count) }
         ensures few { OnOk result (is_count_of_workers count ≡ true) }
-        ensures fault { IfErr result (λ e. e ≡ BadCount) }
+        ensures err { IfErr result (λ e. e ≡ BadCount) }
         ensures bad { IfErr result (λ _. is_count_of_workers count ≡ false) }
     {
         if 1 <= count && count <= MOST_WORKERS {

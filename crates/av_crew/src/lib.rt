@@ -2,6 +2,7 @@
 #![tactic(auto)]
 
 pub mod counts;
+mod crew;
 pub mod gates;
 pub mod jobs;
 mod pages;

@@ -54,7 +54,7 @@ pub fn carve_all(
     ensures carved { IsCarved (grid world.old) (picks_of clusters.items) (vec_len clusters) (grid world.new) }
     ensures parts { OnOk result (HaveParts world.new jobs.new.items) }
     ensures same { IsSamePlaces world.old world.new }
-    ensures fault { IfErr result (λ e. e ≡ OutOfMemory) }
+    ensures memory { IfErr result (λ e. e ≡ OutOfMemory) }
 {
     let mut number: u32 = 0;
     for cluster in clusters {

@@ -11,6 +11,7 @@ ghost use Rattle.av_serial.specs.Ready.{IsReady, IsSamePlace, CanApply, CanTick,
 ghost use Rattle.av_crew.specs.Counts.{is_count_of_workers};
 
 use crate::counts::Workers;
+use crate::crew::Crew;
 use crate::gates::{Gate, Step};
 use crate::pages::keep_pages;
 use crate::ticks::tick_or_give_up;
@@ -58,9 +59,9 @@ pub fn run_ticks<R: Threads + Wait + Sync, G: Gate + Sync>(
     ensures stands { OnErr result ((world.new ≡ world.old) ⊎ (is_broken world.new ≡ true)) }
     ensures unchanged { is_broken world.old ≡ true → world.new ≡ world.old }
     ensures refused { is_count_of_workers workers ≡ false → world.new ≡ world.old }
-    ensures fault { IfErr result (λ e. e ≡ (if is_count_of_workers workers then (if is_broken world.old then Broken else OutOfMemory) else BadCount)) }
+    ensures err { IfErr result (λ e. e ≡ (if is_count_of_workers workers then (if is_broken world.old then Broken else OutOfMemory) else BadCount)) }
 {
-    let workers = Workers::new(workers)?;
+    let crew = Crew::new(Workers::new(workers)?);
     keep_pages(alloc);
     let turns = run_ticks_with(
         alloc,
@@ -72,7 +73,7 @@ pub fn run_ticks<R: Threads + Wait + Sync, G: Gate + Sync>(
             requires { CanTick kinds.now world.old edits.now }
             ensures { IsTick kinds.entry.now now edits.now world.old world.new result }
         {
-            let count = tick_or_give_up(rt, world, kinds, now, edits, workers, gate)?;
+            let count = tick_or_give_up(rt, world, kinds, now, edits, &crew, gate)?;
             note_tick(gate, now, n);
             Ok(count)
         },

@@ -45,7 +45,7 @@ pub fn turn_parts<R: Threads + Wait + Sync, G: Gate + Sync>(
     ensures ok { IfOk result (λ made. (entries : List Entry) → IsCut (grid world.old) entries clusters.items → AreBroughtTogether (kinds_of kinds.now) now entries (blocks world.old) (lists world.old) (blocks world.new) made.items) }
     ensures same { IsSamePlaces world.old world.new }
     ensures others { AreOthersKept (picks_of clusters.items) (blocks world.old) (blocks world.new) }
-    ensures fault { IfErr result (λ e. e ≡ OutOfMemory) }
+    ensures memory { IfErr result (λ e. e ≡ OutOfMemory) }
 {
     let alloc = *clusters.allocator();
     let mut jobs = Vec::with_capacity(alloc, clusters.len())?;

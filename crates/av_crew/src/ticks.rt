@@ -13,6 +13,7 @@ ghost use Rattle.av_serial.specs.Ready.{IsReady, IsSamePlace, CanApply};
 ghost use Rattle.av_crew.specs.Counts.{is_count_of_workers};
 
 use crate::counts::Workers;
+use crate::crew::Crew;
 use crate::gates::Gate;
 use crate::ticking::turn_parts;
 use av_cluster::{Cluster, plan};
@@ -29,11 +30,11 @@ use std::thread::Threads;
 const FEW: usize = 32;
 
 /// Whether entries are turned without a plan.
-fn skips_plan<G: Gate>(gate: &G, workers: usize, entries: usize) -> bool {
+fn skips_plan<G: Gate>(gate: &G, crew: &Crew, now: u32, entries: usize) -> bool {
     if gate.watches() {
         return false;
     }
-    workers == 1 || entries <= FEW
+    crew.workers.count == 1 || entries <= FEW || crew.goes_unplanned(now)
 }
 
 /// Whether one part has two thirds of the entries, or more. A part costs half as much again as its entries turned on the
@@ -55,10 +56,9 @@ fn turn_planned<R: Threads + Wait + Sync, G: Gate + Sync>(
     now: u32,
     clusters: Vec<Cluster>,
     entries: &[Entry],
-    workers: usize,
+    crew: &Crew,
     gate: &G,
 ) -> Result<(), AllocError>
-    requires workers { (0 < workers) × (workers ≤ 8) }
     requires ready { IsReady (kind_count kinds.now) world.old }
     requires sound { is_broken world.old ≡ false }
     requires loaded { list_all (λ e. (blocks world.old).loaded e.pos) entries.now ≡ true }
@@ -68,7 +68,7 @@ fn turn_planned<R: Threads + Wait + Sync, G: Gate + Sync>(
     ensures ready { OnOk result (IsReady (kind_count kinds.now) world.new) }
     ensures place { OnOk result (IsSamePlace world.old world.new) }
 {
-    let Ok(made) = turn_parts(rt, world, kinds, now, clusters, workers, gate) else {
+    let Ok(made) = turn_parts(rt, world, kinds, now, clusters, crew.workers.count, gate) else {
         return Err(AllocError);
     };
     let Ok(()) = world.append(made.as_slice()) else {
@@ -85,10 +85,9 @@ fn turn_taken<R: Threads + Wait + Sync, G: Gate + Sync>(
     kinds: &Kinds,
     now: u32,
     entries: &[Entry],
-    workers: usize,
+    crew: &Crew,
     gate: &G,
 ) -> Result<(), AllocError>
-    requires workers { (0 < workers) × (workers ≤ 8) }
     requires ready { IsReady (kind_count kinds.now) world.old }
     requires sound { is_broken world.old ≡ false }
     requires loaded { list_all (λ e. (blocks world.old).loaded e.pos) entries.now ≡ true }
@@ -97,7 +96,7 @@ fn turn_taken<R: Threads + Wait + Sync, G: Gate + Sync>(
     ensures place { OnOk result (IsSamePlace world.old world.new) }
 {
     // One worker or few entries pay no plan, no parcels and no ring.
-    if skips_plan(gate, workers, entries.len()) {
+    if skips_plan(gate, crew, now, entries.len()) {
         return turn_all(world, kinds, now, entries);
     }
     let Ok(clusters) = plan(alloc, world, entries) else {
@@ -105,9 +104,10 @@ fn turn_taken<R: Threads + Wait + Sync, G: Gate + Sync>(
     };
     // Nothing is moved where all workers but one would soon have nothing to do.
     if !gate.watches() && is_lopsided(clusters.as_slice(), entries.len()) {
+        crew.planned_in_vain(now);
         return turn_all(world, kinds, now, entries);
     }
-    turn_planned(rt, world, kinds, now, clusters, entries, workers, gate)
+    turn_planned(rt, world, kinds, now, clusters, entries, crew, gate)
 }
 
 /// Takes what is due, and turns it.
@@ -116,10 +116,9 @@ fn turn_due<R: Threads + Wait + Sync, G: Gate + Sync>(
     world: &mut World,
     kinds: &Kinds,
     now: u32,
-    workers: usize,
+    crew: &Crew,
     gate: &G,
 ) -> Result<u64, AllocError>
-    requires workers { (0 < workers) × (workers ≤ 8) }
     requires ready { IsReady (kind_count kinds.now) world.old }
     requires sound { is_broken world.old ≡ false }
     ensures done { OnOk result (land_of world.new ≡ turned_all (kinds_of kinds.now) now (due_entries now (land_of world.old)) (without_due now (land_of world.old))) }
@@ -132,7 +131,7 @@ fn turn_due<R: Threads + Wait + Sync, G: Gate + Sync>(
     };
     let alloc = *entries.allocator();
     let due = entries.as_slice();
-    turn_taken(rt, alloc, world, kinds, now, due, workers, gate)?;
+    turn_taken(rt, alloc, world, kinds, now, due, crew, gate)?;
     Ok(entries.len() as u64)
 }
 
@@ -143,10 +142,9 @@ fn work_tick<R: Threads + Wait + Sync, G: Gate + Sync>(
     kinds: &Kinds,
     now: u32,
     edits: &[Edit],
-    workers: usize,
+    crew: &Crew,
     gate: &G,
 ) -> Result<u64, AllocError>
-    requires workers { (0 < workers) × (workers ≤ 8) }
     requires ready { IsReady (kind_count kinds.now) world.old }
     requires sound { is_broken world.old ≡ false }
     requires edits { All (CanApply (kind_count kinds.now) world.old) edits.now }
@@ -158,7 +156,7 @@ fn work_tick<R: Threads + Wait + Sync, G: Gate + Sync>(
     let Ok(()) = apply_all(world, kinds, now, edits) else {
         return Err(AllocError);
     };
-    turn_due(rt, world, kinds, now, workers, gate)
+    turn_due(rt, world, kinds, now, crew, gate)
 }
 
 /// Works a tick off, and gives the world up where memory is refused.
@@ -168,7 +166,7 @@ pub(crate) fn tick_or_give_up<R: Threads + Wait + Sync, G: Gate + Sync>(
     kinds: &Kinds,
     now: u32,
     edits: &[Edit],
-    workers: Workers,
+    crew: &Crew,
     gate: &G,
 ) -> Result<u64, AllocError>
     requires ready { IsReady (kind_count kinds.now) world.old }
@@ -180,7 +178,7 @@ pub(crate) fn tick_or_give_up<R: Threads + Wait + Sync, G: Gate + Sync>(
     ensures place { OnOk result (IsSamePlace world.old world.new) }
     ensures broken { OnErr result (is_broken world.new ≡ true) }
 {
-    match work_tick(rt, world, kinds, now, edits, workers.count, gate) {
+    match work_tick(rt, world, kinds, now, edits, crew, gate) {
         Ok(count) => Ok(count),
         Err(refused) => {
             world.give_up();
@@ -213,7 +211,7 @@ pub fn tick<R: Threads + Wait + Sync, G: Gate + Sync>(
     ensures place { OnOk result (IsSamePlace world.old world.new) }
     ensures sound { OnOk result (is_broken world.old ≡ false) }
     ensures workers { OnOk result (is_count_of_workers workers ≡ true) }
-    ensures fault { IfErr result (λ e. e ≡ (if is_count_of_workers workers then (if is_broken world.old then Broken else OutOfMemory) else BadCount)) }
+    ensures err { IfErr result (λ e. e ≡ (if is_count_of_workers workers then (if is_broken world.old then Broken else OutOfMemory) else BadCount)) }
     ensures broken { IfErr result (λ e. e ≡ OutOfMemory → is_broken world.new ≡ true) }
     ensures unchanged { IfErr result (λ e. e ≢ OutOfMemory → world.new ≡ world.old) }
 {
@@ -221,5 +219,6 @@ pub fn tick<R: Threads + Wait + Sync, G: Gate + Sync>(
     if world.broken() {
         return Err(Fault::Broken);
     }
-    Ok(tick_or_give_up(rt, world, kinds, now, edits, workers, gate)?)
+    let crew = Crew::new(workers);
+    Ok(tick_or_give_up(rt, world, kinds, now, edits, &crew, gate)?)
 }

@@ -239,7 +239,7 @@ pub fn work_all<R: Threads + Wait + Sync, G: Gate + Sync>(
     requires numbers { HaveDistinctNumbers (λ job. job.number) jobs.items }
     requires able { All (CanWork kinds.now) jobs.items }
     ensures ok { IfOk result (λ dones. AnswersAll (kinds_of kinds.now) now jobs.items dones.items) }
-    ensures fault { IfErr result (λ e. e ≡ OutOfMemory) }
+    ensures memory { IfErr result (λ e. e ≡ OutOfMemory) }
 {
     let alloc = *jobs.allocator();
     if jobs.is_empty() {

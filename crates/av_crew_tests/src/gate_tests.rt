@@ -91,14 +91,20 @@ fn entries_go_by_their_makers(rt: HostRuntime) -> Result<(), Fail> {
     Ok(())
 }
 
-/// Sources that wait for tick 1, at this z and at each x of some ranges.
-fn waiting(alloc: Global, ranges: &[(i32, i32)], z: i32) -> Result<Vec<Entry>, AllocError> {
+/// Sources that wait for a tick, at this y and z and at each x of some ranges.
+fn waiting(
+    alloc: Global,
+    ranges: &[(i32, i32)],
+    y: i32,
+    z: i32,
+    due: i64,
+) -> Result<Vec<Entry>, AllocError> {
     let mut entries = Vec::new(alloc);
     for (from, to) in ranges {
         for x in *from..*to {
             entries.push(Entry {
-                pos: Pos { x, y: 64, z },
-                due: 1,
+                pos: Pos { x, y, z },
+                due,
                 priority: 0,
             })?;
         }
@@ -146,7 +152,7 @@ fn told<R: Threads + Wait + Sync + Abort>(
     row: RowTick<'_>,
 ) -> Result<u64, Fault> {
     let gate = Counting::of(watching);
-    let entries = waiting(alloc, row.ranges, 8)?;
+    let entries = waiting(alloc, row.ranges, 64, 8, 1)?;
     let world = with_sources(alloc, entries.as_slice())?;
     let (_, kinds) = edits_and_kinds(alloc, 1, &world, "", 0)?;
     let after = crew_ran(rt, alloc, world, &kinds, &[], 1, row.workers, &gate)?;
@@ -237,6 +243,34 @@ fn another_gate_is_told_of_parts_of_many_entries(rt: HostRuntime) -> Result<(), 
     Ok(())
 }
 
+/// How many jobs a gate that does not watch is told of in a run up to a tick in which two parts of sixty entries each, high above the
+/// ground, are due beside what is left of a row of thirty-six sources. Those are turned in tick 1, and spread in every fifth tick
+/// until tick 36: no part has two thirds of the entries of that tick.
+fn told_behind<R: Threads + Wait + Sync + Abort>(
+    rt: &R,
+    alloc: Global,
+    tick: u32,
+) -> Result<u64, Fault> {
+    let gate = Counting::of(false);
+    let mut entries = waiting(alloc, &[(0, 36)], 64, 8, 1)?;
+    for z in 6..9 {
+        entries.append(&mut waiting(alloc, &[(0, 20), (44, 64)], 100, z, i64::from(tick))?)?;
+    }
+    let world = with_sources(alloc, entries.as_slice())?;
+    let (_, kinds) = edits_and_kinds(alloc, 1, &world, "", 0)?;
+    let _ = crew_ran(rt, alloc, world, &kinds, &[], tick, 2, &gate)?;
+    Ok(gate.count())
+}
+
+/// After a tick of one part, seven of every fifth ticks go without a plan, and those between them do not.
+#[test]
+fn ticks_go_without_a_plan_behind_one_of_no_use(rt: HostRuntime) -> Result<(), Fail> {
+    for (tick, parts) in [(2, 2), (6, 0), (36, 0), (41, 2)] {
+        assert_eq!(rt; told_behind(&rt, rt.alloc(), tick)?, parts, "tick {tick}");
+    }
+    Ok(())
+}
+
 /// The columns of x of four squares, one in the middle of each chunk of the row. No part of one meets another one's.
 const SQUARES: [(i32, i32); 4] = [(7, 10), (23, 26), (39, 42), (55, 58)];
 
@@ -250,7 +284,7 @@ fn turn_squares<R: Threads + Wait + Sync + Abort, G: Gate + Sync>(
 ) -> Result<(), Fault> {
     let mut entries = Vec::new(alloc);
     for z in 7..10 {
-        entries.append(&mut waiting(alloc, &SQUARES, z)?)?;
+        entries.append(&mut waiting(alloc, &SQUARES, 64, z, 1)?)?;
     }
     let world = with_sources(alloc, entries.as_slice())?;
     let (_, kinds) = edits_and_kinds(alloc, 1, &world, "", 0)?;

@@ -1,6 +1,5 @@
 -- What follows where no fault holds, and that none holds of what was written.
-use Rattle.std.proofs.Common.{◌≡◌, ℕ, List, [], ◌∷◌, ◌++◌, Bool, true, false, ◌||◌, None, refl, sym, ap, ◌∙◌}
-use Rattle.std.proofs.lemmas.Bool.{true≢false}
+use Rattle.std.proofs.Common.{◌≡◌, ℕ, List, [], ◌∷◌, ◌++◌, Bool, true, false, None, refl, sym}
 use Rattle.std.proofs.lemmas.Option.{none-some}
 use Rattle.av_types.specs.Faults.{least, lesser}
 use Rattle.av_section.specs.BlockStates.{when}
@@ -16,10 +15,3 @@ no_parts (x ∷ xs) ys h = absurd (let e : x ∷ (xs ++ ys) ≡ [] = h in cc)
 pub when_not : (b : Bool) (n : ℕ) → when b n ≡ [] → b ≡ false
 when_not true n h = absurd (let e : n ∷ [] ≡ [] = h in cc)
 when_not false n h = refl
-
-pub or_parts : (a b : Bool) → (a || b) ≡ false → (a ≡ false) × (b ≡ false)
-or_parts true b h = absurd (true≢false h)
-or_parts false b h = (refl, h)
-
-pub or_from : (a b : Bool) → a ≡ false → b ≡ false → (a || b) ≡ false
-or_from a b h k = ap (λ v. v || b) h ∙ k

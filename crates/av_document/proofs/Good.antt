@@ -7,7 +7,8 @@ use Rattle.std.proofs.lemmas.Option.{none-some, same_Some}
 use Rattle.av_tags.specs.declared.tag.TagType.TheVariants as tag_type
 use Rattle.av_tags.specs.TagTypes.{type_number}
 use Rattle.av_tags.specs.Nbt.{Nbt, byte, int, byte_array, text, list, compound, long_array, Items, no_items, item, Members, no_members, member, NamedTag, tag_type_of, items_of, members_of, item_count, HaveDistinctNames, AreOf, depth, items_depth, members_depth}
-use Rattle.av_tags.specs.Shape.{members_in, items_in, ◌>>=◌, compound_of, compounds_of, each}
+use Rattle.av_types.specs.Options.{◌>>=◌}
+use Rattle.av_tags.specs.Shape.{members_in, items_in, compound_of, compounds_of, each}
 use Rattle.av_nbt.specs.Spelling.{Spells, SpellsItems, SpellsMembers, SpellsNumber, SpellsNumbers}
 use Rattle.av_document.specs.Layout.{compound_with, compounds}
 

@@ -18,7 +18,8 @@ use Rattle.av_types.specs.declared.tick.Entry.{Entry}
 use Rattle.av_types.proofs.SamePlaces.{same_pos-refl}
 use Rattle.av_tags.specs.Nbt.{Nbt, compound, list, Items, no_items, item, Members, no_members, member, NamedTag}
 use Rattle.av_tags.specs.Place.{tag_of}
-use Rattle.av_tags.specs.Shape.{members_in, items_in, ◌>>=◌, compound_of, compounds_of, each}
+use Rattle.av_types.specs.Options.{◌>>=◌}
+use Rattle.av_tags.specs.Shape.{members_in, items_in, compound_of, compounds_of, each}
 use Rattle.av_nbt.specs.Spelling.{Spells, SpellsItems, SpellsMembers}
 use Rattle.av_ticks.specs.Entries.{same_pos, is_pending, are_apart}
 use Rattle.av_document.specs.Ticks.{lies_in, water_entry, foreign}

@@ -5,7 +5,7 @@ use Rattle.std.specs.List.{AllByRecursion, IsDistinct, list_all, range_with_len}
 use Rattle.std.specs.Str.{bytes_eq}
 use Rattle.std.proofs.Math.Facts.{sfits_to_z}
 use Rattle.std.proofs.Math.Nat.{div-le_self, mul-le-mul_left, mul-div-le, pow-le-pow_right}
-use Rattle.std.proofs.lemmas.Bool.{and_parts}
+use Rattle.std.proofs.lemmas.Bool.{and_parts, ltb-true}
 use Rattle.std.proofs.lemmas.List.{length-take, length-map}
 use Rattle.std.proofs.lemmas.List.Elements.{All-take, All-drop}
 use Rattle.av_types.specs.declared.tick.Entry.{Entry}
@@ -19,13 +19,12 @@ use Rattle.av_document.specs.Layout.{compound_with, compounds, fluid_name, entry
 use Rattle.av_document.specs.Law.{IsMeant, HasInts}
 use Rattle.av_document.proofs.Good.{IsGood, IsGoodNamed, AreGood, text_good, int_good, compound_good, compounds_good}
 use Rattle.av_document.proofs.GoodNames.{differs, distinct_from}
-use Rattle.av_document.proofs.Numbers.{below_from}
 use Rattle.av_document.proofs.WrittenPalette.{state_tags}
 
 -- ---- states
 
 short_text : (s : List ℕ) → is_short s ≡ true → length s < 2 ^ 16
-short_text s h = below_from (length s) 65536 h
+short_text s h = ltb-true (length s) 65536 h
 
 property_tags_good : (k : ℕ) (ps : List Property) → list_all is_short_property ps ≡ true → AllByRecursion (IsGoodNamed k) (map property_tag ps)
 property_tags_good k [] h = tt

@@ -16,11 +16,11 @@ use Rattle.av_document.specs.Law.{LooksInside}
 use Rattle.av_document.specs.Layout.{section_at, section_layout, states_layout, states_of, section_numbers, all_of, compounds, entry_layout, block_at}
 use Rattle.av_document.proofs.Positions.{lies_in-block_at}
 
-pub map_range : {X : Type 0} (f g : ℕ → X) (a n : ℕ) → ((i : ℕ) → i < a + n → f i ≡ g i) → map f (range_with_len a n) ≡ map g (range_with_len a n)
-map_range f g a zero h = refl
-map_range f g a (suc n) h =
+pub map_range_agree : {X : Type 0} (f g : ℕ → X) (a n : ℕ) → ((i : ℕ) → i < a + n → f i ≡ g i) → map f (range_with_len a n) ≡ map g (range_with_len a n)
+map_range_agree f g a zero h = refl
+map_range_agree f g a (suc n) h =
     let first = h a (omega arith) in
-    let rest = map_range f g (a + 1) n (λ i less. h i (omega arith)) in
+    let rest = map_range_agree f g (a + 1) n (λ i less. h i (omega arith)) in
     λ i. first i ∷ rest i
 
 pub map_same : {X Y : Type 0} (f g : X → Y) (xs : List X) → AllByRecursion (λ x. f x ≡ g x) xs → map f xs ≡ map g xs
@@ -35,7 +35,7 @@ entries_same a b n (e ∷ es) h =
     λ i. entry_layout (first i) n e ∷ rest i
 
 states_same : (f g : ℕ → BlockState) → ((i : ℕ) → i < 4096 → f i ≡ g i) → states_of f ≡ states_of g
-states_same f g h = map_range f g 0 4096 (λ i less. h i (omega (arith, less)))
+states_same f g h = map_range_agree f g 0 4096 (λ i less. h i (omega (arith, less)))
 
 section_same : (c : ChunkPos) (h : Height) (f g : Pos → BlockState) (r : RestOfChunk) (l m : ℤ → List ℕ) (y : ℤ) → ((p : Pos) → lies_in c h p ≡ true → f p ≡ g p) → (is_section_of h y ≡ true → l y ≡ m y)
     → section_at c h f r l y ≡ section_at c h g r m y

@@ -11,7 +11,8 @@ use Rattle.av_types.specs.declared.place.Height.{Height}
 use Rattle.av_types.specs.declared.tick.Entry.{Entry}
 use Rattle.av_tags.specs.Nbt.{Nbt, int, NamedTag, Document}
 use Rattle.av_tags.specs.Place.{tag_of}
-use Rattle.av_tags.specs.Shape.{◌>>=◌, int_of, compounds_of, or_else}
+use Rattle.av_types.specs.Options.{◌>>=◌}
+use Rattle.av_tags.specs.Shape.{int_of, compounds_of, or_else}
 use Rattle.av_nbt.specs.Writing.{IsWellFormed}
 use Rattle.av_state.specs.BlockState.{BlockState}
 use Rattle.av_ticks.specs.Entries.{is_pending}

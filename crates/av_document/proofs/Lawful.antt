@@ -1,29 +1,27 @@
 -- The cells and water entries that are read are such as a loaded chunk can have.
-use Rattle.std.proofs.Common.{◌≡◌, ℕ, zero, suc, ◌<◌, List, [], ◌∷◌, ◌++◌, Bool, true, false, ◌&&◌, not, length, Some, None, Option, cond, get_or, nat_lt, refl, sym, ap, ◌∙◌, subst, arith}
+use Rattle.std.proofs.Common.{◌≡◌, ℕ, zero, suc, ◌<◌, List, [], ◌∷◌, ◌++◌, Bool, true, false, ◌&&◌, length, Some, None, Option, cond, get_or, nat_lt, refl, sym, ap, ◌∙◌, subst, arith}
 use Rattle.std.specs.Prelude.{option_map, slice_index}
 use Rattle.std.specs.List.{AllByRecursion, list_any}
 use Rattle.std.specs.Str.{bytes_eq}
-use Rattle.std.proofs.lemmas.Bool.{false≢true, true≢false}
+use Rattle.std.proofs.lemmas.Bool.{not-false, or_parts, ltb-true}
 use Rattle.std.proofs.lemmas.Option.{none-some, same_Some}
+use Rattle.av_ticks.proofs.Lookup.{are_apart-push}
 use Rattle.av_types.specs.Division.{divided}
 use Rattle.av_types.specs.Places.{place_of}
 use Rattle.av_types.specs.declared.place.Pos.{Pos}
 use Rattle.av_types.specs.declared.place.ChunkPos.{ChunkPos}
 use Rattle.av_types.specs.declared.place.Height.{Height}
 use Rattle.av_types.specs.declared.tick.Entry.{Entry}
-use Rattle.av_types.proofs.SamePlaces.{same_pos-turned}
 use Rattle.av_tags.specs.Nbt.{Nbt, NamedTag, Document}
-use Rattle.av_tags.specs.Shape.{◌>>=◌, compound_of, items_of_list, each, lacks, or_else}
+use Rattle.av_types.specs.Options.{◌>>=◌}
+use Rattle.av_tags.specs.Shape.{compound_of, items_of_list, each, lacks, or_else}
 use Rattle.av_state.specs.BlockState.{BlockState, air, air_name, water, water_name, level_texts, index_in, capped_level, water_level, level_key, value_of, level_of, meant, is_storable, storable}
 use Rattle.av_section.specs.Palette.{described_state, written_state, state_in, states_if, palette_of}
 use Rattle.av_section.specs.BlockStates.{read_states, read_indices}
-use Rattle.av_ticks.specs.Entries.{same_pos, is_pending, are_apart}
+use Rattle.av_ticks.specs.Entries.{is_pending, are_apart}
 use Rattle.av_document.specs.Ticks.{lies_in, fluid_of, water_entry, is_outside, is_bad_tick, with_entry, with_water}
 use Rattle.av_document.specs.Chunk.{root_tags, ticks, tags_at, block_states_of, palette_tag_of, data_tag_of, block_cell, RestOfChunk, DenotesChunk}
 use Rattle.av_document.specs.Law.{IsMeant, IsLawful}
-use Rattle.av_document.proofs.Faults.{or_parts}
-use Rattle.av_document.proofs.Numbers.{below_from}
-use Rattle.av_document.proofs.WrittenTicks.{pending-push}
 use Rattle.av_document.proofs.Written.{good_from}
 
 -- ---- one state
@@ -46,7 +44,7 @@ water_meant (suc (suc (suc (suc (suc (suc (suc (suc (suc n))))))))) h = absurd (
 capped : (n : ℕ) → capped_level n < 9
 capped n = by (nat_lt n 8) refl where
   by : (b : Bool) → nat_lt n 8 ≡ b → cond b n 8 < 9
-  by true e = omega (arith, below_from n 8 e)
+  by true e = omega (arith, ltb-true n 8 e)
   by false e = omega arith
 
 level_low : (o : Option (List ℕ)) (n : ℕ) → water_level o ≡ Some n → n < 9
@@ -140,10 +138,6 @@ cell_meant (Some states) place = at_meant (read_states (palette_tag_of states)) 
 
 -- ---- water entries
 
-inside_from : (b : Bool) → not b ≡ false → b ≡ true
-inside_from true h = refl
-inside_from false h = absurd (true≢false h)
-
 push_inside : (c : ChunkPos) (h : Height) (found : List Entry) (e : Entry) → AllByRecursion (λ e. lies_in c h e.pos ≡ true) found → lies_in c h e.pos ≡ true → AllByRecursion (λ e. lies_in c h e.pos ≡ true) (found ++ e ∷ [])
 push_inside c h [] e all new = (new, tt)
 push_inside c h (x ∷ found) e all new = (all.0, push_inside c h found e all.1 new)
@@ -153,7 +147,7 @@ entry_inside c h found None all out = all
 entry_inside c h found (Some e) all out = by (is_pending e.pos found) where
   by : (b : Bool) → AllByRecursion (λ e. lies_in c h e.pos ≡ true) (cond b found (found ++ e ∷ []))
   by true = all
-  by false = push_inside c h found e all (inside_from (lies_in c h e.pos) out)
+  by false = push_inside c h found e all (not-false (lies_in c h e.pos) out)
 
 water_inside : (c : ChunkPos) (h : Height) (found : List Entry) (ts : List (List NamedTag)) → AllByRecursion (λ e. lies_in c h e.pos ≡ true) found → list_any (is_bad_tick c h) ts ≡ false
     → AllByRecursion (λ e. lies_in c h e.pos ≡ true) (with_water found ts)
@@ -163,22 +157,12 @@ water_inside c h found (ms ∷ ts) all good =
     let (named, inside) = or_parts (lacks (fluid_of ms)) (is_outside c h (water_entry ms)) first in
     water_inside c h (with_entry found (water_entry ms)) ts (entry_inside c h found (water_entry ms) all inside) more
 
-push_apart : (found : List Entry) (e : Entry) → are_apart found ≡ true → is_pending e.pos found ≡ false → are_apart (found ++ e ∷ []) ≡ true
-push_apart [] e h new = refl
-push_apart (x ∷ found) e h new = by (same_pos e.pos x.pos) refl new (is_pending x.pos found) refl h (push_apart found e) where
-  by : (b : Bool) → same_pos e.pos x.pos ≡ b → cond b true (is_pending e.pos found) ≡ false → (p : Bool) → is_pending x.pos found ≡ p → cond p false (are_apart found) ≡ true
-      → (are_apart found ≡ true → is_pending e.pos found ≡ false → are_apart (found ++ e ∷ []) ≡ true) → are_apart (x ∷ found ++ e ∷ []) ≡ true
-  by true f k p g l more = absurd (true≢false k)
-  by false f k true g l more = absurd (false≢true l)
-  by false f k false g l more =
-      ap (λ b. cond b false (are_apart (found ++ e ∷ []))) (pending-push x.pos found e g (same_pos-turned x.pos e.pos ∙ f)) ∙ more l k
-
 entry_apart : (found : List Entry) (o : Option Entry) → are_apart found ≡ true → are_apart (with_entry found o) ≡ true
 entry_apart found None h = h
 entry_apart found (Some e) h = by (is_pending e.pos found) refl where
   by : (b : Bool) → is_pending e.pos found ≡ b → are_apart (cond b found (found ++ e ∷ [])) ≡ true
   by true f = h
-  by false f = push_apart found e h f
+  by false f = are_apart-push found e h f
 
 water_apart : (found : List Entry) (ts : List (List NamedTag)) → are_apart found ≡ true → are_apart (with_water found ts) ≡ true
 water_apart found [] h = h

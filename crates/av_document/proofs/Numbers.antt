@@ -1,60 +1,51 @@
 -- The numbers that sections can have.
-use Rattle.std.proofs.Common.{◌≡◌, inl, inr, ℕ, zero, suc, ◌+◌, ◌<◌, ◌≤◌, List, [], ◌∷◌, ◌++◌, ℤ, pos, negsuc, ◌+ℤ◌, ◌<ℤ◌, ◌≤ℤ◌, Bool, true, false, ◌&&◌, ◌||◌, map, nat_lt, refl, sym, ap, ◌∙◌, subst, arith}
+use Rattle.std.proofs.Common.{◌≡◌, inl, inr, ℕ, zero, suc, ◌+◌, ◌<◌, ◌≤◌, List, [], ◌∷◌, ℤ, pos, negsuc, ◌+ℤ◌, ◌<ℤ◌, ◌≤ℤ◌, Bool, true, false, ◌&&◌, ◌||◌, map, refl, sym, ap, ◌∙◌, subst, arith}
 use Rattle.std.specs.Prelude.{int_lt, int_le, FitsSigned}
 use Rattle.std.specs.Int.{w8}
 use Rattle.std.specs.List.{list_any, range_with_len}
 use Rattle.std.specs.Ordering.{int_eq}
 use Rattle.std.proofs.lemmas.Int.{ints}
 use Rattle.std.proofs.lemmas.Bool.{cases_eq, and_parts}
-use Rattle.std.proofs.lemmas.Bool.Decides.{Decides-int_eq, nat_tests}
+use Rattle.std.proofs.lemmas.Bool.Decides.{Decides-int_eq}
+use Rattle.std.proofs.Math.Bool.{or-true}
+use Rattle.std.proofs.lemmas.List.Folds.{list_any-append}
 use Rattle.av_types.specs.declared.place.Height.{Height}
 use Rattle.av_types.specs.Places.{is_section_of}
 use Rattle.av_document.specs.Layout.{below_zero, section_numbers}
 use Rattle.av_document.proofs.Rows.{int_eq-refl}
 
-pub any-append : (p : ℤ → Bool) (xs ys : List ℤ) → list_any p (xs ++ ys) ≡ (list_any p xs || list_any p ys)
-any-append p [] ys = refl
-any-append p (x ∷ xs) ys = by (p x) (any-append p xs ys) where
-  by : (b : Bool) → list_any p (xs ++ ys) ≡ (list_any p xs || list_any p ys) → (b || list_any p (xs ++ ys)) ≡ ((b || list_any p xs) || list_any p ys)
-  by true e = refl
-  by false e = e
-
-or_right : (a : Bool) → (a || true) ≡ true
-or_right true = refl
-or_right false = refl
-
 any_below_zero : (n k : ℕ) → n < k → list_any (int_eq (negsuc n)) (below_zero k) ≡ true
 any_below_zero n zero h = absurd (omega arith)
 any_below_zero n (suc k) h = elim (cases_eq n k) [
   | inl e ↦ ap (λ b. b || list_any (int_eq (negsuc n)) (below_zero k)) (ap (λ m. int_eq (negsuc n) (negsuc m)) (sym e) ∙ int_eq-refl (negsuc n))
-  | inr ne ↦ ap (λ b. int_eq (negsuc n) (negsuc k) || b) (any_below_zero n k (omega arith)) ∙ or_right (int_eq (negsuc n) (negsuc k))
+  | inr ne ↦ ap (λ b. int_eq (negsuc n) (negsuc k) || b) (any_below_zero n k (omega arith)) ∙ or-true (int_eq (negsuc n) (negsuc k))
 ]
 
 any_range : (n a k : ℕ) → a ≤ n → n < a + k → list_any (int_eq (pos n)) (map pos (range_with_len a k)) ≡ true
 any_range n a zero low high = absurd (omega arith)
 any_range n a (suc k) low high = elim (cases_eq n a) [
   | inl e ↦ ap (λ b. b || list_any (int_eq (pos n)) (map pos (range_with_len (a + 1) k))) (ap (λ m. int_eq (pos n) (pos m)) (sym e) ∙ int_eq-refl (pos n))
-  | inr ne ↦ ap (λ b. int_eq (pos n) (pos a) || b) (any_range n (a + 1) k (omega arith) (omega arith)) ∙ or_right (int_eq (pos n) (pos a))
+  | inr ne ↦ ap (λ b. int_eq (pos n) (pos a) || b) (any_range n (a + 1) k (omega arith) (omega arith)) ∙ or-true (int_eq (pos n) (pos a))
 ]
 
 -- a number of one byte is one that a section can have
 pub byte_number : (y : ℤ) → FitsSigned w8 y → list_any (int_eq y) section_numbers ≡ true
 byte_number (pos n) fits =
-    any-append (int_eq (pos n)) (below_zero 128) (map pos (range_with_len 0 128))
+    list_any-append (int_eq (pos n)) (below_zero 128) (map pos (range_with_len 0 128))
     ∙ ap (λ b. list_any (int_eq (pos n)) (below_zero 128) || b) (any_range n 0 128 (omega arith) (omega (arith, fits.sfits)))
-    ∙ or_right (list_any (int_eq (pos n)) (below_zero 128))
+    ∙ or-true (list_any (int_eq (pos n)) (below_zero 128))
 byte_number (negsuc n) fits =
-    any-append (int_eq (negsuc n)) (below_zero 128) (map pos (range_with_len 0 128))
+    list_any-append (int_eq (negsuc n)) (below_zero 128) (map pos (range_with_len 0 128))
     ∙ ap (λ b. b || list_any (int_eq (negsuc n)) (map pos (range_with_len 0 128))) (any_below_zero n 128 (omega (arith, fits.sfits)))
-
-pub below_from : (n m : ℕ) → nat_lt n m ≡ true → n < m
-below_from n m h = grind (arith, nat_tests)
 
 pub lt_from : (a b : ℤ) → int_lt a b ≡ true → a <ℤ b
 lt_from a b h = grind (arith, ints)
 
 pub le_from : (a b : ℤ) → int_le a b ≡ true → a ≤ℤ b
 le_from a b h = grind (arith, ints)
+
+pub le_and_lt_from : (a b c d : ℤ) → int_le a b && int_lt c d ≡ true → (a ≤ℤ b) × (c <ℤ d)
+le_and_lt_from a b c d h = grind (arith, ints)
 
 fits_byte : (y : ℤ) → negsuc 127 ≤ℤ y → y ≤ℤ pos 127 → FitsSigned w8 y
 fits_byte (pos n) low high = record { sfits = omega (arith, ints) }

@@ -52,6 +52,24 @@ place-z y z x hy hz hx = omega arith
 pub place-parts : (i : ℕ) → i < 4096 → 256 * (i / 256) + 16 * (i / 16 % 16) + i % 16 ≡ i
 place-parts i h = omega arith
 
+-- where a block of a section lies
+pub section-of_block : (c : ChunkPos) (y : ℤ) (i : ℕ) → i < 4096 → divided (block_at c y i).y 16 ≡ y
+section-of_block c y i h = divided-coordinate y (i / 256) (omega arith)
+
+pub place-of_block : (c : ChunkPos) (y : ℤ) (i : ℕ) → i < 4096 → place_of (block_at c y i) ≡ i
+place-of_block c y i h =
+    let ry : remainder (coordinate y (i / 256)) 16 ≡ i / 256 = remainder-coordinate y (i / 256) (omega arith) in
+    let rz : remainder (coordinate c.z (i / 16 % 16)) 16 ≡ i / 16 % 16 = remainder-coordinate c.z (i / 16 % 16) (omega arith) in
+    let rx : remainder (coordinate c.x (i % 16)) 16 ≡ i % 16 = remainder-coordinate c.x (i % 16) (omega arith) in
+    ap (λ r. 256 * r + 16 * remainder (coordinate c.z (i / 16 % 16)) 16 + remainder (coordinate c.x (i % 16)) 16) ry
+    ∙ ap (λ r. 256 * (i / 256) + 16 * r + remainder (coordinate c.x (i % 16)) 16) rz
+    ∙ ap (λ r. 256 * (i / 256) + 16 * (i / 16 % 16) + r) rx
+    ∙ place-parts i h
+
+-- a section of a height
+pub section_inside : (h : Height) (k : ℕ) → k < h.sections → is_section_of h (h.min_section +ℤ pos k) ≡ true
+section_inside h k low = grind (arith, ints)
+
 -- what lies in a chunk
 pub record IsWithin (c : ChunkPos) (h : Height) (p : Pos) : Type 0 where
   pub column_x : divided p.x 16 ≡ c.x

@@ -5,7 +5,8 @@ use Rattle.std.specs.Ordering.{int_eq}
 use Rattle.std.proofs.lemmas.Bool.Decides.{Decides-int_eq}
 use Rattle.std.proofs.lemmas.Option.{none-some, same_Some}
 use Rattle.av_tags.specs.Nbt.{NamedTag}
-use Rattle.av_tags.specs.Shape.{compound_of, compounds_of, each, ◌>>=◌}
+use Rattle.av_types.specs.Options.{◌>>=◌}
+use Rattle.av_tags.specs.Shape.{compound_of, compounds_of, each}
 use Rattle.av_tags.proofs.Trees.{items_in_of, members_in_of}
 use Rattle.av_document.specs.Chunk.{section_number, numbered, is_number}
 use Rattle.av_document.specs.Layout.{compound_with, compounds, kept_section, all_of}

@@ -7,7 +7,8 @@ use Rattle.std.proofs.lemmas.Bool.{lt-ltb}
 use Rattle.std.proofs.lemmas.Option.{none-some, same_Some, cond_some}
 use Rattle.std.proofs.lemmas.Slice.Eq.{bytes_eq-Decides}
 use Rattle.av_tags.specs.Nbt.{Nbt, byte, int16, int, int64, bits32, bits64, byte_array, text, list, compound, int_array, long_array, Members, no_members, member, NamedTag, LacksMember, HaveDistinctNames}
-use Rattle.av_tags.specs.Shape.{◌>>=◌, members_in, text_of, each}
+use Rattle.av_types.specs.Options.{◌>>=◌}
+use Rattle.av_tags.specs.Shape.{members_in, text_of, each}
 use Rattle.av_tags.specs.Place.{tag_of}
 use Rattle.av_nbt.specs.Spelling.{Spells, SpellsMembers}
 use Rattle.av_state.specs.BlockState.{BlockState, Property, in_order, is_short, is_short_property, keys_rise, is_storable, storable}

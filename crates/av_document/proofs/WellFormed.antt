@@ -15,7 +15,8 @@ use Rattle.av_tags.specs.Nbt.{Nbt, byte, byte_array, list, compound, long_array,
 use Rattle.av_tags.specs.declared.tag.TagType.TheVariants as tag_type
 use Rattle.av_tags.specs.TagTypes.{type_number}
 use Rattle.av_tags.specs.Place.{tag_of, with_tag, without, blank, emptied}
-use Rattle.av_tags.specs.Shape.{◌>>=◌, compound_of, compounds_of, lacks, or_else}
+use Rattle.av_types.specs.Options.{◌>>=◌}
+use Rattle.av_tags.specs.Shape.{compound_of, compounds_of, lacks, or_else}
 use Rattle.av_nbt.specs.Spelling.{SpellsDocument}
 use Rattle.av_nbt.specs.Writing.{IsWellFormed}
 use Rattle.av_state.specs.BlockState.{BlockState}

@@ -4,7 +4,7 @@ use Rattle.std.specs.Prelude.{codes, is_some}
 use Rattle.std.specs.List.{flat_map, list_any}
 use Rattle.std.specs.Ordering.{int_eq}
 use Rattle.std.specs.Str.{bytes_eq}
-use Rattle.std.proofs.lemmas.Bool.{true≢false}
+use Rattle.std.proofs.lemmas.Bool.{true≢false, or_parts, or_from}
 use Rattle.std.proofs.lemmas.Option.{same_Some}
 use Rattle.av_types.specs.Division.{divided}
 use Rattle.av_types.specs.Places.{is_section_of, place_of}
@@ -15,7 +15,8 @@ use Rattle.av_types.specs.declared.place.Height.{Height}
 use Rattle.av_types.specs.declared.tick.Entry.{Entry}
 use Rattle.av_tags.specs.Nbt.{Nbt, byte, NamedTag, Document}
 use Rattle.av_tags.specs.Place.{tag_of, with_tag, blank, emptied}
-use Rattle.av_tags.specs.Shape.{◌>>=◌, text_of, int_of, compound_of, compounds_of, lacks, or_else}
+use Rattle.av_types.specs.Options.{◌>>=◌}
+use Rattle.av_tags.specs.Shape.{text_of, int_of, compound_of, compounds_of, lacks, or_else}
 use Rattle.av_nbt.specs.Writing.{IsWellFormed}
 use Rattle.av_tags.proofs.Trees.{members_in_of}
 use Rattle.av_state.specs.BlockState.{BlockState}
@@ -33,7 +34,7 @@ use Rattle.av_document.proofs.Positions.{within_from, lies_in-block_at, block_at
 use Rattle.av_document.proofs.WrittenTicks.{no_bad_ticks, with_water-ticks, foreign-ticks, entry_tags}
 use Rattle.av_document.proofs.WrittenSection.{section_number-row, shaped-row, section_rest-row, block_faults-row, block_cell-row}
 use Rattle.av_document.proofs.Spelled.{number_fits}
-use Rattle.av_document.proofs.Faults.{least_none, no_parts, when_not, or_parts, or_from}
+use Rattle.av_document.proofs.Faults.{least_none, no_parts, when_not}
 
 abbrev ticks_key : List ℕ
 ticks_key = codes "fluid_ticks"

@@ -6,9 +6,11 @@ use Rattle.std.proofs.lemmas.Bool.Decides.{nat_tests}
 use Rattle.std.proofs.lemmas.Option.{none-some, same_Some}
 use Rattle.std.proofs.lemmas.List.{length-map, length-append, get_or-map}
 use Rattle.std.proofs.lemmas.List.Elements.{All-nil, All-cons}
+use Rattle.std.proofs.lemmas.Bool.{lt-ltb, eq-eqb}
 use Rattle.av_tags.specs.Nbt.{Nbt, text, long_array, NamedTag}
 use Rattle.av_tags.specs.Place.{tag_of}
-use Rattle.av_tags.specs.Shape.{◌>>=◌, each, lacks, or_else}
+use Rattle.av_types.specs.Options.{◌>>=◌}
+use Rattle.av_tags.specs.Shape.{each, lacks, or_else}
 use Rattle.av_tags.proofs.Trees.{items_in_of, members_in_of}
 use Rattle.av_state.specs.BlockState.{BlockState, Property, air, meant, in_order, is_in_order, is_storable, storable}
 use Rattle.av_state.specs.StateList.{same_state, number_in, with_state, with_states}
@@ -145,10 +147,7 @@ indices palette states = map (index_of palette) states
 indices_below : (palette states : List BlockState) → AllByRecursion (HasNumber palette) states → are_below (length palette) (indices palette states) ≡ true
 indices_below palette [] h = refl
 indices_below palette (s ∷ states) h =
-    ap (λ b. b && are_below (length palette) (indices palette states)) (test (index_of palette s) (length palette) (index_lt palette s h.0)) ∙ indices_below palette states h.1
-  where
-    test : (k n : ℕ) → k < n → nat_lt k n ≡ true
-    test k n lt = grind (arith, nat_tests)
+    ap (λ b. b && are_below (length palette) (indices palette states)) (lt-ltb (index_of palette s) (length palette) (index_lt palette s h.0)) ∙ indices_below palette states h.1
 
 indices_zero : (palette states : List BlockState) → AllByRecursion (HasNumber palette) states → length palette ≡ 1 → indices palette states ≡ replicate (length states) 0
 indices_zero palette [] h one = refl
@@ -192,9 +191,6 @@ is_filled states count meant_all = record {
     nonempty [] e h = absurd (omega arith)
     nonempty (x ∷ xs) e h = omega (arith, index_lt (palette_states states) x h.0)
 
-nat_eq-same : (m n : ℕ) → m ≡ n → nat_eq m n ≡ true
-nat_eq-same m n e = grind (arith, nat_tests)
-
 module _ (states palette : List BlockState) (filled : AreOfPalette states palette) where
   longs_back : unpacked (bits_for (length palette)) (packed (bits_for (length palette)) (indices palette states)) ≡ indices palette states
   longs_back =
@@ -214,14 +210,14 @@ module _ (states palette : List BlockState) (filled : AreOfPalette states palett
   many =
       indices_in-longs (length palette) (packed (bits_for (length palette)) (indices palette states)) some_longs
       ∙ ap (λ b. indices_if (b && are_below (length palette) (unpacked (bits_for (length palette)) (packed (bits_for (length palette)) (indices palette states)))) (unpacked (bits_for (length palette)) (packed (bits_for (length palette)) (indices palette states))))
-      (nat_eq-same (length (packed (bits_for (length palette)) (indices palette states))) (longs_for (bits_for (length palette))) (length-packed (bits_for (length palette)) (indices palette states)))
+      (eq-eqb (length (packed (bits_for (length palette)) (indices palette states))) (longs_for (bits_for (length palette))) (length-packed (bits_for (length palette)) (indices palette states)))
       ∙ ap (λ is. indices_if (are_below (length palette) is) is) longs_back
       ∙ ap (λ b. indices_if b (indices palette states)) (indices_below palette states filled.numbered)
 
   one : length palette ≡ 1 → indices_in (length palette) [] ≡ Some (indices palette states)
   unfolding all_zero
   one e =
-      ap (λ b. indices_if b (replicate 4096 0)) (nat_eq-same (length palette) 1 e)
+      ap (λ b. indices_if b (replicate 4096 0)) (eq-eqb (length palette) 1 e)
       ∙ ap Some (ap (λ n. replicate n 0) (sym filled.count) ∙ sym (indices_zero palette states filled.numbered e))
 
   pub indices_back : indices_of (length palette) (cond (nat_lt 1 (length palette)) (Some (long_array (packed (bits_for (length palette)) (indices palette states)))) None) ≡ Some (indices palette states)

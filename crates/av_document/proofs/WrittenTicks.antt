@@ -3,6 +3,7 @@ use Rattle.std.proofs.Common.{◌≡◌, ℕ, List, [], ◌∷◌, ◌++◌, Boo
 use Rattle.std.specs.List.{list_any, AllByRecursion}
 use Rattle.std.proofs.lemmas.Bool.{false≢true, true≢false}
 use Rattle.std.proofs.lemmas.List.{append_assoc, append-nil}
+use Rattle.av_ticks.proofs.Lookup.{is_pending-push}
 use Rattle.av_types.specs.declared.place.Pos.{Pos}
 use Rattle.av_types.specs.declared.place.ChunkPos.{ChunkPos}
 use Rattle.av_types.specs.declared.place.Height.{Height}
@@ -50,13 +51,6 @@ foreign-foreign (ms ∷ ts) = by (lacks (water_entry ms)) refl (foreign-foreign 
   by false e more = more
 
 -- ---- positions
-
-pub pending-push : (p : Pos) (found : List Entry) (e : Entry) → is_pending p found ≡ false → same_pos p e.pos ≡ false → is_pending p (found ++ e ∷ []) ≡ false
-pending-push p [] e h g = ap (λ b. cond b true false) g
-pending-push p (x ∷ found) e h g = by (same_pos p x.pos) refl h (λ k. pending-push p found e k g) where
-  by : (b : Bool) → same_pos p x.pos ≡ b → cond b true (is_pending p found) ≡ false → (is_pending p found ≡ false → is_pending p (found ++ e ∷ []) ≡ false) → cond b true (is_pending p (found ++ e ∷ [])) ≡ false
-  by true i k more = absurd (true≢false k)
-  by false i k more = more k
 
 module _ (sources : Pos → Bool) (n : ℕ) where
   abbrev pub entry_tags : Entry → List NamedTag
@@ -107,7 +101,7 @@ module _ (sources : Pos → Bool) (n : ℕ) where
   not_pending-more found e (x ∷ es) h new = by (same_pos e.pos x.pos) refl new (not_pending-more found e es h.1) where
     by : (b : Bool) → same_pos e.pos x.pos ≡ b → cond b true (is_pending e.pos es) ≡ false → (is_pending e.pos es ≡ false → NotPending (found ++ sooner n e ∷ []) es) → NotPending (found ++ sooner n e ∷ []) (x ∷ es)
     by true i k more = absurd (true≢false k)
-    by false i k more = (pending-push x.pos found (sooner n e) h.0 (same_pos-turned x.pos e.pos ∙ i), more k)
+    by false i k more = (is_pending-push x.pos found (sooner n e) h.0 (same_pos-turned x.pos e.pos ∙ i), more k)
 
   with_water-written : (found es : List Entry) → NotPending found es → are_apart es ≡ true → with_water found (map entry_tags es) ≡ found ++ map (sooner n) es
   with_water-written found [] h apart = sym (append-nil found)

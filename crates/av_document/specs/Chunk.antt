@@ -12,7 +12,8 @@ use Rattle.av_types.specs.declared.place.Height.{Height}
 use Rattle.av_types.specs.declared.tick.Entry.{Entry}
 use Rattle.av_tags.specs.Nbt.{Nbt, byte, NamedTag, Document}
 use Rattle.av_tags.specs.Place.{tag_of, without, emptied}
-use Rattle.av_tags.specs.Shape.{◌>>=◌, members_in, text_of, byte_of, compound_of, compounds_of, lacks, or_else}
+use Rattle.av_types.specs.Options.{◌>>=◌}
+use Rattle.av_tags.specs.Shape.{members_in, text_of, byte_of, compound_of, compounds_of, lacks, or_else}
 use Rattle.av_state.specs.BlockState.{BlockState, air}
 use Rattle.av_state.specs.StateList.{with_states, most_states}
 use Rattle.av_section.specs.BlockStates.{when, states_faults, read_states, state_at}

@@ -1,7 +1,6 @@
 -- Fronts one step on.
-use Rattle.std.proofs.Common.{◌≡◌, ℕ, zero, suc, ◌+◌, ◌-◌, ◌<◌, ◌≤◌, ◌&&◌, ◌||◌, List, Bool, true, false, nat_eq, nat_lt, length, set, refl, sym, ap, ◌∙◌, subst, arith}
-use Rattle.std.proofs.lemmas.Bool.{and_parts, true≢false}
-use Rattle.std.proofs.lemmas.Bool.Decides.{nat_tests}
+use Rattle.std.proofs.Common.{◌≡◌, ℕ, zero, suc, ◌+◌, ◌-◌, ◌<◌, ◌&&◌, ◌||◌, Bool, true, false, nat_eq, refl, sym, ap, ◌∙◌, subst, arith}
+use Rattle.std.proofs.lemmas.Bool.{and_parts, true≢false, and_from, eqb-true, eq-eqb}
 use Rattle.av_types.specs.declared.place.Pos.{Pos}
 use Rattle.av_types.specs.declared.water.Direction.{Direction}
 use Rattle.av_types.specs.declared.water.Direction.TheVariants.{North, South, West, East}
@@ -13,7 +12,7 @@ use Rattle.av_drop.specs.declared.board.Board.{Board}
 use Rattle.av_drop.specs.Board.{spot, is_on, side_place, IsWithin, toward}
 use Rattle.av_drop.specs.Fronts.{Leads, IsFront, IsNext}
 use Rattle.av_drop.proofs.Spots.{side_spot, side_within, IsBeside, beside}
-use Rattle.av_drop.proofs.Walks.{or_cases, side_holds, both}
+use Rattle.av_drop.proofs.Walks.{or_cases, side_holds}
 
 pub drop_passes : (k : ℕ → Kind) (w : World) (m : ℕ) (q : Pos) → can_drop k w m q ≡ true → can_pass k w q ≡ true
 unfolding can_drop
@@ -24,7 +23,7 @@ drop_passes k w (suc m) q h = (and_parts (can_pass k w q) (can_drop k w m (step 
 drops_by_side : (k : ℕ → Kind) (w : World) (m : ℕ) (q : Pos) (d : Direction) → can_pass k w q ≡ true → can_drop k w m (step q d) ≡ true → can_drop k w (suc m) q ≡ true
 unfolding can_drop
 drops_by_side k w m q d pass h =
-    both (can_pass k w q) (can_drop k w m (step q North) || can_drop k w m (step q South) || can_drop k w m (step q West) || can_drop k w m (step q East)) pass
+    and_from (can_pass k w q) (can_drop k w m (step q North) || can_drop k w m (step q South) || can_drop k w m (step q West) || can_drop k w m (step q East)) pass
     (side_holds (λ e. can_drop k w m (step q e)) d h)
 
 -- a side from which a walk goes on
@@ -77,7 +76,7 @@ goes_on k w p s n r old new drops i m d few front next h drop =
     let here : can_drop k w m (spot p (toward i d)) ≡ true = subst (λ q. can_drop k w m q ≡ true) (sym b.there) drop in
     record {
       place = toward i d;
-      marked = next.inside (toward i d) ∙ both (is_on next.beside (toward i d)) (can_pass k w (spot p (toward i d))) (next.are_beside.to i d b.low b.high h) (drop_passes k w m (spot p (toward i d)) here);
+      marked = next.inside (toward i d) ∙ and_from (is_on next.beside (toward i d)) (can_pass k w (spot p (toward i d))) (next.are_beside.to i d b.low b.high h) (drop_passes k w m (spot p (toward i d)) here);
       drops = here;
     }
 
@@ -114,9 +113,7 @@ drops_is k w p s n old new false front next = by (can_drop k w n s) refl where
       absurd (true≢false (sym on.drops ∙ next.missed refl on.place on.marked))
 
 eq_place : (i j : ℕ) (b : Bool) (on : Bool) → on ≡ (nat_eq i j && b) → on ≡ true → (i ≡ j) × (b ≡ true)
-eq_place i j b on e h = let parts = and_parts (nat_eq i j) b (sym e ∙ h) in (is_eq i j parts.0, parts.1) where
-  is_eq : (i j : ℕ) → nat_eq i j ≡ true → i ≡ j
-  is_eq i j h = grind (arith, nat_tests)
+eq_place i j b on e h = let parts = and_parts (nat_eq i j) b (sym e ∙ h) in (eqb-true i j parts.0, parts.1)
 
 -- the front of no steps is the side itself, where a walk may pass that
 pub first_is_front : (k : ℕ → Kind) (w : World) (p : Pos) (d : Direction) (b : Bool) (board : Board) → ((i : ℕ) → is_on board i ≡ (nat_eq i (side_place d) && b)) → b ≡ can_pass k w (step p d)
@@ -134,10 +131,7 @@ first_is_front k w p d b board marks pass =
           let drop : can_drop k w m (step p d) ≡ true = subst (λ n. can_drop k w n (step p d) ≡ true) (let e : 0 + m ≡ m = omega arith in e) h in
           record {
             place = side_place d;
-            marked = marks (side_place d) ∙ both (nat_eq (side_place d) (side_place d)) b (same (side_place d)) (pass ∙ drop_passes k w m (step p d) drop);
+            marked = marks (side_place d) ∙ and_from (nat_eq (side_place d) (side_place d)) b (eq-eqb (side_place d) (side_place d) refl) (pass ∙ drop_passes k w m (step p d) drop);
             drops = subst (λ q. can_drop k w m q ≡ true) (sym (side_spot p d)) drop;
           };
     }
-  where
-    same : (i : ℕ) → nat_eq i i ≡ true
-    same i = grind (arith, nat_tests)

@@ -1,11 +1,10 @@
 -- The bits of a board.
-use Rattle.std.proofs.Common.{◌≡◌, ◌≢◌, ℕ, zero, suc, ◌+◌, ◌-◌, ◌*◌, ◌/◌, ◌%◌, ◌^◌, ◌<◌, ◌≤◌, ◌==◌, ◌&&◌, ◌||◌, Bool, true, false, not, nat_eq, min, max, refl, sym, ap, subst, ◌∙◌, arith, eq-eqb, ◌⊎◌, inl, inr}
+use Rattle.std.proofs.Common.{◌≡◌, ◌≢◌, ℕ, zero, suc, ◌-◌, ◌^◌, ◌<◌, ◌≤◌, ◌==◌, ◌&&◌, Bool, true, false, not, min, refl, sym, ap, ◌∙◌, arith, eq-eqb}
 use Rattle.std.specs.Int.{bit_at, w128}
 use Rattle.std.specs.Int.Bits.{bit_and}
-use Rattle.std.specs.Int.RustNames.{bit_or}
-use Rattle.std.proofs.lemmas.Bool.{true≢false, and_parts}
+use Rattle.std.proofs.lemmas.Bool.{eqb-false}
 use Rattle.std.proofs.lemmas.Bool.Decides.{nat_tests}
-use Rattle.std.proofs.lemmas.Nat.Bits.{bit_at-zero, bit_at-lt, bit_at_and, bit_at_or, bit_at_above, bit_at_not, bit_at_cat_low, bit_at_cat_high}
+use Rattle.std.proofs.lemmas.Nat.Bits.{bit_at-zero, bit_at-lt, bit_at_and, bit_at_not}
 use Rattle.av_drop.specs.declared.board.Board.{Board}
 use Rattle.av_drop.specs.Board.{is_on, HasMark}
 
@@ -24,12 +23,7 @@ on_one b i e = grind (arith, nat_tests)
 
 pub off_zero : (b : Board) (i : ℕ) → is_on b i ≡ false → bit_at b.bits i ≡ 0
 unfolding is_on
-off_zero b i e = let l = bit_at-lt b.bits i in let h = not_one (bit_at b.bits i) e in omega (arith, l, h) where
-  not_one : (n : ℕ) → (n == 1) ≡ false → n ≢ 1
-  not_one n e = grind (arith, nat_tests)
-
-pub is_other : (i j : ℕ) → nat_eq i j ≡ false → i ≢ j
-is_other i j e = grind (arith, nat_tests)
+off_zero b i e = let l = bit_at-lt b.bits i in let h : bit_at b.bits i ≢ 1 = eqb-false (bit_at b.bits i) 1 e in omega (arith, l, h)
 
 -- the same bit is the same mark
 pub same_on : (a b : Board) (i j : ℕ) → bit_at a.bits i ≡ bit_at b.bits j → is_on a i ≡ is_on b j

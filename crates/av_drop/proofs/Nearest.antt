@@ -1,6 +1,6 @@
 -- The sides from which the fewest steps come to a drop are the chosen ones.
 use Rattle.std.proofs.Common.{◌≡◌, ℕ, zero, suc, ◌+◌, ◌-◌, ◌<◌, ◌≤◌, ◌&&◌, ◌||◌, min, Option, Some, None, refl, sym, ap, subst, ◌∙◌, arith, Bool, true, false, cond, nat_lt, nat_eq, not}
-use Rattle.std.proofs.lemmas.Bool.{true≢false}
+use Rattle.std.proofs.lemmas.Bool.{true≢false, cond-false}
 use Rattle.std.proofs.lemmas.Bool.Decides.{nat_tests}
 use Rattle.av_types.specs.declared.place.Pos.{Pos}
 use Rattle.av_types.specs.declared.water.Direction.{Direction}
@@ -169,16 +169,12 @@ none_is_on s South h = (none_of_four s.north s.south s.west s.east h).1
 none_is_on s West h = (none_of_four s.north s.south s.west s.east h).2
 none_is_on s East h = (none_of_four s.north s.south s.west s.east h).3
 
-shut_rank : (b : Bool) (n : ℕ) → b ≡ false → cond b n 6 ≡ 6
-shut_rank true n h = absurd (true≢false h)
-shut_rank false n h = refl
-
 six_not_chosen : (r l : ℕ) → r ≡ 6 → (nat_lt r 6 && nat_eq r l) ≡ false
 six_not_chosen r l h = grind (arith, nat_tests)
 
 shut_not_chosen : (k : ℕ → Kind) (w : World) (p : Pos) (d : Direction) → can_enter k w (step p d) ≡ false → is_chosen k w p d ≡ false
 unfolding rank_at is_chosen
-shut_not_chosen k w p d h = six_not_chosen (rank_at k w p d) (least_rank k w p) (shut_rank (can_enter k w (step p d)) (rank_of (drop_of k w (step p d))) h)
+shut_not_chosen k w p d h = six_not_chosen (rank_at k w p d) (least_rank k w p) (cond-false (can_enter k w (step p d)) (rank_of (drop_of k w (step p d))) 6 h)
 
 -- where no side can be entered, none is chosen
 pub none_are_chosen : (k : ℕ → Kind) (w : World) (p : Pos) (ways : Sides) → AreWays k w p ways → (ways.north || ways.south || ways.west || ways.east) ≡ false → AreChosen k w p ways

@@ -1,6 +1,6 @@
 -- Walks to a drop, and the test that computes whether there is one.
-use Rattle.std.proofs.Common.{◌≡◌, ℕ, zero, suc, ◌<◌, ◌≤◌, ◌&&◌, ◌||◌, true, false, Bool, List, [], ◌∷◌, length, Option, Some, None, refl, sym, ap, ◌∙◌, subst, arith}
-use Rattle.std.proofs.lemmas.Bool.{and_parts, true≢false}
+use Rattle.std.proofs.Common.{◌≡◌, ℕ, zero, suc, ◌<◌, ◌≤◌, ◌||◌, true, false, Bool, List, [], ◌∷◌, length, Option, Some, None, refl, sym, ap, ◌∙◌, subst, arith}
+use Rattle.std.proofs.lemmas.Bool.{and_parts, true≢false, and_from}
 use Rattle.av_types.specs.declared.place.Pos.{Pos}
 use Rattle.av_types.specs.declared.water.Direction.{Direction}
 use Rattle.av_types.specs.declared.water.Direction.TheVariants.{North, South, West, East}
@@ -59,20 +59,15 @@ side_holds f East h = east (f North) (f South) (f West) (f East) h where
   east false false false true h = refl
   east false false false false h = absurd (true≢false (sym h))
 
-pub both : (a b : Bool) → a ≡ true → b ≡ true → (a && b) ≡ true
-both true true g h = refl
-both true false g h = h
-both false b g h = g
-
 drop_along : (k : ℕ → Kind) (w : World) (n : ℕ) (p : Pos) (blocks : List Pos) → IsWalk k w p n blocks → can_drop k w n p ≡ true
 unfolding can_drop
-drop_along k w zero p [] walk = both (can_pass k w p) (has_hole k w p) walk.passes walk.drops
+drop_along k w zero p [] walk = and_from (can_pass k w p) (has_hole k w p) walk.passes walk.drops
 drop_along k w zero p (q ∷ qs) walk = let l = walk.long in absurd (omega arith)
 drop_along k w (suc n) p [] walk = let l = walk.long in absurd (omega arith)
 drop_along k w (suc n) p (q ∷ qs) walk =
     let d : Direction = walk.beside.0.0 in
     let rest : IsWalk k w q n qs = record { long = let l : suc (length qs) ≡ suc n = walk.long in omega arith; beside = walk.beside.1; passes = walk.passes.1; drops = walk.drops } in
-    both (can_pass k w p) (can_drop k w n (step p North) || can_drop k w n (step p South) || can_drop k w n (step p West) || can_drop k w n (step p East)) walk.passes.0
+    and_from (can_pass k w p) (can_drop k w n (step p North) || can_drop k w n (step p South) || can_drop k w n (step p West) || can_drop k w n (step p East)) walk.passes.0
     (side_holds (λ e. can_drop k w n (step p e)) d (subst (λ r. can_drop k w n r ≡ true) walk.beside.0.1 (drop_along k w n q qs rest)))
 
 pub drop_of_walk : (k : ℕ → Kind) (w : World) (n : ℕ) (p : Pos) → HasWalk k w p n → can_drop k w n p ≡ true

@@ -5,12 +5,10 @@ use Rattle.std.proofs.lemmas.List.{length-append}
 use Rattle.std.specs.Option.{option_map}
 use Rattle.std.specs.List.{list_any}
 use Rattle.std.specs.Str.{bytes_eq}
+use Rattle.std.proofs.lemmas.Option.{same_Some}
 use Rattle.av_state.specs.BlockState.{BlockState, air, water, air_name, water_name, level_of, water_level, value_of, level_key, capped_level, level_texts, index_in, index_where, meant}
 use Rattle.av_edits.specs.Edits.{Grows}
 use Rattle.av_state.specs.StateList.{with_state, number_in, same_state, most_states, IsOneTooMany}
-
-pub some_is : {A : Type 0} (x y : A) → Some x ≡ Some y → x ≡ y
-some_is x y h = cc
 
 few : (n : ℕ) → n ≤ 8 → meant (water n) ≡ Some (water n)
 few zero h = refl
@@ -32,18 +30,18 @@ capped n = by (nat_lt n 8) refl where
 
 of_index : (o : Option ℕ) (t : BlockState) → option_map water (option_map capped_level o) ≡ Some t → meant t ≡ Some t
 of_index None t h = cc
-of_index (Some n) t h = subst (λ t. meant t ≡ Some t) (some_is (water (capped_level n)) t h) (few (capped_level n) (capped n))
+of_index (Some n) t h = subst (λ t. meant t ≡ Some t) (same_Some (water (capped_level n)) t h) (few (capped_level n) (capped n))
 
 of_value : (o : Option (List ℕ)) (t : BlockState) → option_map water (water_level o) ≡ Some t → meant t ≡ Some t
-of_value None t h = subst (λ t. meant t ≡ Some t) (some_is (water 0) t h) refl
+of_value None t h = subst (λ t. meant t ≡ Some t) (same_Some (water 0) t h) refl
 of_value (Some v) t h = of_index (index_in v level_texts) t h
 
 pub meant_again : (s t : BlockState) → meant s ≡ Some t → meant t ≡ Some t
 meant_again s t h = by (bytes_eq s.name air_name) refl (bytes_eq s.name water_name) refl h where
   by : (a : Bool) → bytes_eq s.name air_name ≡ a → (b : Bool) → bytes_eq s.name water_name ≡ b → cond a (Some air) (cond b (option_map water (level_of s)) (Some s)) ≡ Some t → meant t ≡ Some t
-  by true e b f h = subst (λ t. meant t ≡ Some t) (some_is air t h) refl
+  by true e b f h = subst (λ t. meant t ≡ Some t) (same_Some air t h) refl
   by false e true f h = of_value (value_of level_key s.properties) t h
-  by false e false f h = subst (λ t. meant t ≡ Some t) (some_is s t h) (rw (e, f) refl)
+  by false e false f h = subst (λ t. meant t ≡ Some t) (same_Some s t h) (rw (e, f) refl)
 
 -- ---- tables that grow
 
@@ -71,8 +69,9 @@ none_any p (x ∷ xs) h = by (p x) refl (index_where p xs) refl (λ q. none_any 
 
 pub too_many : (old : List BlockState) (s : BlockState) → meant s ≡ Some s → IsOneTooMany old s → nat_lt most_states (length (with_state old s)) ≡ true
 too_many old s m t =
-    let same : t.form ≡ s = some_is t.form s (sym t.is_meant ∙ m) in
-    let none : list_any (same_state s) old ≡ false = none_any (same_state s) old (ap (number_in old) (sym same) ∙ t.is_new) in
+    let new = t.is_new in
+    let same : new.form ≡ s = same_Some new.form s (sym new.is_meant ∙ m) in
+    let none : list_any (same_state s) old ≡ false = none_any (same_state s) old (ap (number_in old) (sym same) ∙ new.no_number) in
     let with : with_state old s ≡ old ++ s ∷ [] = ap (λ b. cond b old (old ++ s ∷ [])) none in
     let long : length (with_state old s) ≡ length old + 1 = ap length with ∙ length-append old (s ∷ []) in
     lt-ltb most_states (length (with_state old s)) (omega (arith, long, t.is_full))

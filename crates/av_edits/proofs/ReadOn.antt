@@ -1,8 +1,8 @@
 -- One line more.
-use Rattle.std.proofs.Common.{◌≡◌, ℕ, zero, suc, ◌<◌, ◌≤◌, ◌+◌, Bool, List, [], ◌∷◌, ◌++◌, length, get_or, drop, map, slice_get, Option, Some, None, refl, sym, ap, ◌∙◌, arith}
+use Rattle.std.proofs.Common.{◌≡◌, ℕ, zero, suc, ◌<◌, ◌+◌, Bool, List, [], ◌∷◌, ◌++◌, length, get_or, drop, map, slice_get, Option, Some, None, refl, sym, ap, ◌∙◌, arith}
 use Rattle.std.specs.Option.{option_map}
 use Rattle.std.specs.List.{flat_map}
-use Rattle.std.proofs.lemmas.List.{map-append}
+use Rattle.std.proofs.lemmas.List.{map-append, append_assoc}
 use Rattle.av_types.specs.declared.place.Pos.{Pos}
 use Rattle.av_types.specs.declared.fault.Fault.{Fault}
 use Rattle.av_state.specs.BlockState.{BlockState}
@@ -50,17 +50,13 @@ grown t t' (e ∷ es) (y ∷ ys) g h =
     let b : map (stated_in t) es ≡ map Some ys = cc in
     ap (λ z. z ∷ map (stated_in t') es) (grown_one t t' e y g a) ∙ ap (λ zs. Some y ∷ zs) (grown t t' es ys g b)
 
-assoc : {X : Type 0} (xs ys zs : List X) → (xs ++ ys) ++ zs ≡ xs ++ (ys ++ zs)
-assoc [] ys zs = refl
-assoc (x ∷ xs) ys zs = ap (λ l. x ∷ l) (assoc xs ys zs)
-
 pub read_next : (t t' : List BlockState) (es es' : List Edit) (o : Option Edit) (x : List ℕ) (all rest whole : List (List ℕ)) → all ≡ x ∷ rest → Grows t t' → es' ≡ es ++ option_list o → map (stated_in t') (option_list o) ≡ map Some (edits_in x)
     → AreEditsRead t es all whole → AreEditsRead t' es' rest whole
 read_next t t' es es' o x all rest whole e g more one a = record {
   taken = a.taken ++ edits_in x;
   are = ap (map (stated_in t')) more ∙ (map-append (stated_in t') es (option_list o) ∙ (ap (λ l. l ++ map (stated_in t') (option_list o)) (grown t t' es a.taken g a.are)
       ∙ (ap (λ l. map Some a.taken ++ l) one ∙ sym (map-append Some a.taken (edits_in x)))));
-  all = assoc a.taken (edits_in x) (flat_map edits_in rest) ∙ (ap (λ l. a.taken ++ flat_map edits_in l) (sym e) ∙ a.all);
+  all = append_assoc a.taken (edits_in x) (flat_map edits_in rest) ∙ (ap (λ l. a.taken ++ flat_map edits_in l) (sym e) ∙ a.all);
 }
 
 pub lines_next : (es es' : List Edit) (o : Option Edit) (n m : ℕ) (x : List ℕ) (all rest : List (List ℕ)) (whole : List ℕ) → all ≡ x ∷ rest → es' ≡ es ++ option_list o → map (λ (e : Edit). e.line) (option_list o) ≡ map (λ (e : Set BlockState). n) (edits_in x) → m ≡ suc n
@@ -69,7 +65,7 @@ lines_next es es' o n m x all rest whole e more one num h =
     let line : Edit → ℕ = λ (e : Edit). e.line in
     let now : List ℕ = map (λ (e : Set BlockState). n) (edits_in x) in
     ap (λ (l : List Edit). map line l ++ edit_lines m rest) more ∙ (ap (λ (l : List ℕ). l ++ edit_lines m rest) (map-append line es (option_list o))
-    ∙ (ap (λ (l : List ℕ). (map line es ++ l) ++ edit_lines m rest) one ∙ (assoc (map line es) now (edit_lines m rest)
+    ∙ (ap (λ (l : List ℕ). (map line es ++ l) ++ edit_lines m rest) one ∙ (append_assoc (map line es) now (edit_lines m rest)
     ∙ (ap (λ (k : ℕ). map line es ++ (now ++ edit_lines k rest)) num ∙ (ap (λ (l : List (List ℕ)). map line es ++ edit_lines n l) (sym e) ∙ h)))))
 
 pub grows_on : (t u v : List BlockState) → Grows t u → Grows u v → Grows t v

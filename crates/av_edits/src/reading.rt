@@ -42,7 +42,7 @@ fn number(state: &State, table: &mut StateTable) -> Result<u16, Fault>
     ensures ok { IfOk result (λ n. slice_get (states table.new) n ≡ Some (state_of state.now)) }
     ensures after { OnOk result (states table.new ≡ with_state (states table.old) (state_of state.now)) }
     ensures few { OnOk result (nat_lt most_states (length (with_state (states table.old) (state_of state.now))) ≡ false) }
-    ensures fault { IfErr result (λ e. e ≢ OutOfMemory → (e ≡ TooManyStates) × (nat_lt most_states (length (with_state (states table.old) (state_of state.now))) ≡ true)) }
+    ensures err { IfErr result (λ e. e ≢ OutOfMemory → (e ≡ TooManyStates) × (nat_lt most_states (length (with_state (states table.old) (state_of state.now))) ≡ true)) }
     ensures grows { Grows (states table.old) (states table.new) }
 {
     match table.intern(state) {
@@ -65,7 +65,7 @@ fn judge<C: Cells>(
     ensures line { IfOk result (λ e. e.line ≡ line) }
     ensures after { OnOk result (states table.new ≡ with_state (states table.old) (state_of statement.now.state)) }
     ensures none { OnOk result (edit_fault (C.world cells.now).loaded ticks (states table.old) line (set_of statement.now) ≡ None) }
-    ensures fault { IfErr result (λ e. e ≢ OutOfMemory → edit_fault (C.world cells.now).loaded ticks (states table.old) line (set_of statement.now) ≡ Some e) }
+    ensures err { IfErr result (λ e. e ≢ OutOfMemory → edit_fault (C.world cells.now).loaded ticks (states table.old) line (set_of statement.now) ≡ Some e) }
     ensures grows { Grows (states table.old) (states table.new) }
 {
     if 1 <= statement.tick && statement.tick <= u64::from(ticks) {
@@ -98,7 +98,7 @@ fn read_line<C: Cells>(
     ensures lines { IfOk result (λ e. map (λ e. e.line) (option_list e) ≡ map (λ e. number) (edits_in line.now)) }
     ensures after { OnOk result (states table.new ≡ table_of (states table.old) line.now) }
     ensures none { OnOk result (fault_of (C.world cells.now).loaded ticks (states table.old) number line.now ≡ None) }
-    ensures fault { IfErr result (λ e. e ≢ OutOfMemory → fault_of (C.world cells.now).loaded ticks (states table.old) number line.now ≡ Some e) }
+    ensures err { IfErr result (λ e. e ≢ OutOfMemory → fault_of (C.world cells.now).loaded ticks (states table.old) number line.now ≡ Some e) }
     ensures grows { Grows (states table.old) (states table.new) }
 {
     if is_skipped(line) {
@@ -132,7 +132,7 @@ fn read_lines<C: Cells>(
     ensures lines { IfOk result (λ es. map (λ e. e.line) es.items ≡ edit_lines 1 (map strip_carriage_return (map (λ x. x.now) lines.now))) }
     ensures after { OnOk result (states table.new ≡ table_after_lines (states table.old) (map strip_carriage_return (map (λ x. x.now) lines.now))) }
     ensures none { OnOk result (first_in_lines (C.world cells.now).loaded ticks (states table.old) 1 (map strip_carriage_return (map (λ x. x.now) lines.now)) ≡ None) }
-    ensures fault { IfErr result (λ e. e ≢ OutOfMemory → first_in_lines (C.world cells.now).loaded ticks (states table.old) 1 (map strip_carriage_return (map (λ x. x.now) lines.now)) ≡ Some e) }
+    ensures err { IfErr result (λ e. e ≢ OutOfMemory → first_in_lines (C.world cells.now).loaded ticks (states table.old) 1 (map strip_carriage_return (map (λ x. x.now) lines.now)) ≡ Some e) }
     ensures grows { Grows (states table.old) (states table.new) }
 {
     let mut edits = Vec::new(alloc);
@@ -171,7 +171,7 @@ pub fn read<C: Cells>(
     ensures lines { IfOk result (λ es. map (λ e. e.line) es.items ≡ lines_of_edits text.now) }
     ensures after { OnOk result (states table.new ≡ table_after_lines (states table.old) (lines_of text.now)) }
     ensures none { OnOk result (first_in_edits (C.world cells.now).loaded ticks (states table.old) text.now ≡ None) }
-    ensures fault { IfErr result (λ e. e ≢ OutOfMemory → first_in_edits (C.world cells.now).loaded ticks (states table.old) text.now ≡ Some e) }
+    ensures err { IfErr result (λ e. e ≢ OutOfMemory → first_in_edits (C.world cells.now).loaded ticks (states table.old) text.now ≡ Some e) }
     ensures grows { Grows (states table.old) (states table.new) }
 {
     let lines = parts(alloc, text, b'\n')?;

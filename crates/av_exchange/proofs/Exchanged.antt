@@ -4,6 +4,7 @@ use Rattle.std.specs.List.{AllByRecursion}
 use Rattle.std.specs.Option.{option_or}
 use Rattle.std.proofs.lemmas.Bool.{cases_Bool, cond-true, cond-false, true≢false}
 use Rattle.std.proofs.lemmas.Option.{none-some}
+use Rattle.std.proofs.lemmas.Slice.Eq.{bytes_eq-Decides}
 use mathlib.Core.Logic.{◌⊎◌, inl, inr}
 use Rattle.av_sink.specs.Account.{NamedFile}
 use Rattle.av_exchange.specs.Names.{part, new_journal, IsRegionName, is_own, journal_name, journal_of, new_journal_name, part_of}
@@ -12,7 +13,6 @@ use Rattle.av_exchange.specs.Exchange.{IsStepBeside, IsJournaled, StandsFor, byt
 use Rattle.av_exchange.proofs.Own.{apart}
 use Rattle.av_exchange.proofs.Crash.{after_both, after_phase, one_or_none, some_all}
 use Rattle.av_exchange.proofs.Beside.{beside_keeps, plain_stands, quiet, other_name}
-use Rattle.av_exchange.proofs.Placed.{same_bytes}
 use Rattle.av_exchange.proofs.Repaired.{finishing_keeps, forgotten, forgotten_stands, after_finishing}
 
 AreRegions : List NamedFile → Type 0
@@ -58,7 +58,7 @@ listed_region : (files : List NamedFile) (m : List ℕ) → AreRegions files →
 unfolding AreRegions
 listed_region [] m are listed = absurd (true≢false (sym listed))
 listed_region (f ∷ files) m are listed = elim (cases_Bool (bytes_eq m f.name)) [
-  | inl same ↦ subst IsRegionName (sym (same_bytes m f.name same)) are.0
+  | inl same ↦ subst IsRegionName (sym ((bytes_eq-Decides m f.name).0 same)) are.0
   | inr other ↦ listed_region files m are.1 (subst (λ (b : Bool). (b || is_listed (map (λ f. f.name) files) m) ≡ true) other listed)
 ]
 

@@ -1,11 +1,6 @@
 -- Histories of folders.
-use Rattle.std.proofs.Common.{◌≡◌, ◌∙◌, ap, sym, refl, List, [], ◌++◌, append_assoc, append-nil, Option, Some, None, Result, Ok, Err, OnErr}
+use Rattle.std.proofs.Common.{◌≡◌, ◌∙◌, ap, sym, refl, List, [], ◌++◌, append_assoc, append-nil, Option, Some, None}
 use Rattle.av_exchange.specs.Steps.{History, Step, with_steps}
-
--- what holds whatever the error
-pub left_by : {T E P : Type 0} (r : Result T E) → P → OnErr r P
-left_by (Ok x) p = tt
-left_by (Err e) p = p
 
 pub no_steps : (t : Option History) → t ≡ with_steps t []
 no_steps None = refl

@@ -2,7 +2,7 @@
 use Rattle.std.proofs.Common.{◌≡◌, ◌∙◌, ap, ap₂, sym, subst, refl, ℕ, List, [], ◌∷◌, Bool, true, false, ◌||◌, cond, bytes_eq, Option, Some, None, map}
 use Rattle.std.specs.List.{AllByRecursion}
 use Rattle.std.specs.Option.{option_or}
-use Rattle.std.proofs.lemmas.Bool.{cases_Bool, cond-true, cond-false, true≢false}
+use Rattle.std.proofs.lemmas.Bool.{cases_Bool, cond-true, cond-false, true≢false, or_right}
 use Rattle.std.proofs.lemmas.Slice.Eq.{bytes_eq-Decides}
 use mathlib.Core.Logic.{inl, inr}
 use Rattle.av_exchange.specs.Names.{IsRegionName, is_own, journal_name, part_of}
@@ -10,12 +10,6 @@ use Rattle.av_exchange.specs.Steps.{Holdings, Step, after, after_all, moved, Are
 use Rattle.av_exchange.specs.Exchange.{counted, is_listed, placed}
 use Rattle.av_exchange.proofs.Own.{apart, apart_too, journal_no_part, own_part, region_not_own}
 use Rattle.av_exchange.proofs.Crash.{some_all}
-
-pub same_bytes : (m n : List ℕ) → bytes_eq m n ≡ true → m ≡ n
-same_bytes m n = (bytes_eq-Decides m n).0
-
-itself : (n : List ℕ) → bytes_eq n n ≡ true
-itself n = (bytes_eq-Decides n n).1 refl
 
 -- the new file of a name that is listed takes its place
 pub data IsPlacing (names : List (List ℕ)) (s : Step) : Type 0 where
@@ -45,7 +39,7 @@ module _ (h : Holdings) (n : List ℕ) (r : IsRegionName n) where
   part_goes None is = sym is
   part_goes (Some b) is =
       cond-false (bytes_eq (part_of n) n) (Some b) _ (apart_too (part_of n) n (own_part n) foreign)
-      ∙ cond-true (bytes_eq (part_of n) (part_of n)) None _ (itself n)
+      ∙ cond-true (bytes_eq (part_of n) (part_of n)) None _ ((bytes_eq-Decides n n).1 refl)
 
   file_stays : (o : Option (List ℕ)) (m : List ℕ) → is_own m ≡ false → bytes_eq m n ≡ false → moved h (part_of n) n o m ≡ h m
   file_stays None m own other = refl
@@ -57,14 +51,14 @@ module _ (h : Holdings) (n : List ℕ) (r : IsRegionName n) where
       → option_or (moved h (part_of n) n o (part_of n)) (moved h (part_of n) n o n) ≡ option_or (h (part_of n)) (h n)
   file_counts None is = refl
   file_counts (Some b) is =
-      ap₂ option_or (part_goes (Some b) is) (cond-true (bytes_eq n n) (Some b) _ (itself n))
+      ap₂ option_or (part_goes (Some b) is) (cond-true (bytes_eq n n) (Some b) _ ((bytes_eq-Decides n n).1 refl))
       ∙ ap (λ (o : Option (List ℕ)). option_or o (h n)) is
 
   counts_on : (names : List (List ℕ)) (o : Option (List ℕ)) (m : List ℕ) → o ≡ h (part_of n) → is_listed names n ≡ true → is_own m ≡ false
       → counted (Some names) (moved h (part_of n) n o) m ≡ counted (Some names) h m
   counts_on names o m is listed own = elim (cases_Bool (bytes_eq m n)) [
     | inl same ↦
-        let at = same_bytes m n same in
+        let at = (bytes_eq-Decides m n).0 same in
         subst (λ (x : List ℕ). counted (Some names) (moved h (part_of n) n o) x ≡ counted (Some names) h x) (sym at)
         (cond-true (is_listed names n) _ _ listed ∙ (file_counts o is ∙ sym (cond-true (is_listed names n) _ _ listed)))
     | inr other ↦
@@ -93,7 +87,7 @@ placing_keeps_counts names h (s ∷ steps) m are own = placing_keeps_counts name
 -- what was gone stays gone
 part_stays_gone : (h : Holdings) (n m : List ℕ) → IsRegionName n → h (part_of m) ≡ None → after h (placed n) (part_of m) ≡ None
 part_stays_gone h n m r gone = elim (cases_Bool (bytes_eq m n)) [
-  | inl same ↦ subst (λ (x : List ℕ). after h (placed n) (part_of x) ≡ None) (sym (same_bytes m n same)) (part_goes h n r (h (part_of n)) refl)
+  | inl same ↦ subst (λ (x : List ℕ). after h (placed n) (part_of x) ≡ None) (sym ((bytes_eq-Decides m n).0 same)) (part_goes h n r (h (part_of n)) refl)
   | inr other ↦ part_stays h n r (h (part_of n)) m other ∙ gone
 ]
 
@@ -109,21 +103,17 @@ all_go h [] m are listed = absurd (true≢false (sym listed))
 all_go h (n ∷ names) m are listed = elim (cases_Bool (bytes_eq m n)) [
   | inl same ↦
       all_stay_gone (after h (placed n)) names m are.1
-      (subst (λ (x : List ℕ). after h (placed n) (part_of x) ≡ None) (sym (same_bytes m n same)) (part_goes h n are.0 (h (part_of n)) refl))
+      (subst (λ (x : List ℕ). after h (placed n) (part_of x) ≡ None) (sym ((bytes_eq-Decides m n).0 same)) (part_goes h n are.0 (h (part_of n)) refl))
   | inr other ↦ all_go (after h (placed n)) names m are.1 (subst (λ (b : Bool). (b || is_listed names m) ≡ true) other listed)
 ]
 
 -- ---- a journal's own
 
-or_right : (a b : Bool) → b ≡ true → (a || b) ≡ true
-or_right true b is = refl
-or_right false b is = is
-
 each_placing : (all names : List (List ℕ)) → ((m : List ℕ) → is_listed names m ≡ true → is_listed all m ≡ true) → AllByRecursion IsRegionName names
     → AllByRecursion (IsPlacing all) (map placed names)
 each_placing all [] among are = tt
 each_placing all (n ∷ names) among are = (
-  placing n are.0 (among n (ap (λ (b : Bool). b || is_listed names n) (itself n))) refl,
+  placing n are.0 (among n (ap (λ (b : Bool). b || is_listed names n) ((bytes_eq-Decides n n).1 refl))) refl,
   each_placing all names (λ m listed. among m (or_right (bytes_eq m n) _ listed)) are.1,
 )
 

@@ -139,10 +139,6 @@ pub told_journal : (t : Option History) (text : Option (String Global)) (s : Str
 told_journal None text s bytes names is same journal all told = tt
 told_journal (Some t) text s bytes names is same journal all told = (told ∙ (ap (option_map string_bytes) is ∙ ap Some (sym same ∙ journal)), all)
 
-pub as_many : {X Y : Type 0} (f : X → Y) (xs : List X) → length (map f xs) ≡ length xs
-as_many f [] = refl
-as_many f (x ∷ xs) = ap suc (as_many f xs)
-
 -- one line more of a journal
 pub text_more : (names : List (String Global)) (i : ℕ) (m : String Global) (old mid new : List ℕ) → i < length names → m ≡ get_or names i m
     → old ≡ head_line ++ name_lines (map string_bytes (take i names)) → mid ≡ old ++ string_bytes m → new ≡ mid ++ (10 ∷ [])

@@ -1,9 +1,11 @@
 -- A sweep leaves no file beside.
-use Rattle.std.proofs.Common.{◌≡◌, ◌∙◌, ap, sym, subst, refl, arith, ℕ, zero, suc, List, [], ◌∷◌, ◌++◌, append-nil, append_assoc, Bool, true, false, ◌||◌, bytes_eq, nat_eq, length, Option, Some, None, map, string_bytes, String, Global}
+use Rattle.std.proofs.Common.{◌≡◌, ◌∙◌, ap, sym, subst, refl, arith, ℕ, List, [], ◌∷◌, ◌++◌, append-nil, append_assoc, Bool, true, false, ◌||◌, bytes_eq, nat_eq, length, Option, Some, None, map, string_bytes, String, Global}
 use Rattle.std.specs.List.{AllByRecursion, Contains}
 use Rattle.std.proofs.lemmas.Bool.{cases_Bool, cond-true, cond-false, eqb-true, or_left, or_right, true≢false}
 use Rattle.std.proofs.lemmas.Slice.Eq.{bytes_eq-Decides}
 use Rattle.std.proofs.lemmas.List.{map-append}
+use Rattle.std.proofs.lemmas.List.Elements.{All-contains, All-from_recursion}
+use Rattle.av_types.proofs.Each.{each_then}
 use mathlib.Core.Logic.{inl, inr}
 use Rattle.av_exchange.specs.Exchange.{is_listed}
 use Rattle.av_exchange.specs.Names.{IsBeside}
@@ -14,19 +16,11 @@ use Rattle.av_exchange.proofs.History.{no_steps, then_steps}
 
 -- ---- names that a loop has seen, and those that are left
 
-same_name : (n : List ℕ) → bytes_eq n n ≡ true
-same_name n = (bytes_eq-Decides n n).1 refl
-
-weaker : (P Q : List ℕ → Type 0) (xs : List (List ℕ)) → ((x : List ℕ) → P x → Q x) → AllByRecursion P xs → AllByRecursion Q xs
-weaker P Q [] by all = tt
-weaker P Q (x ∷ xs) by all = (by x all.0, weaker P Q xs by all.1)
-
 all_themselves : (names : List (List ℕ)) → AreAllBeside names names
 all_themselves [] = tt
 all_themselves (n ∷ names) = (
-  (λ b. or_left (bytes_eq n n) (is_listed names n) (same_name n)),
-  weaker (λ x. IsBeside x → is_listed names x ≡ true) (λ x. IsBeside x → is_listed (n ∷ names) x ≡ true) names
-      (λ x is b. or_right (bytes_eq x n) (is_listed names x) (is b)) (all_themselves names),
+  (λ b. or_left (bytes_eq n n) (is_listed names n) ((bytes_eq-Decides n n).1 refl)),
+  each_then (λ x. IsBeside x → is_listed names x ≡ true) (λ x. IsBeside x → is_listed (n ∷ names) x ≡ true) (λ x is b. or_right (bytes_eq x n) (is_listed names x) (is b)) names (all_themselves names),
 )
 
 without : (a b : List (List ℕ)) (n x : List ℕ) → bytes_eq x n ≡ false → is_listed (a ++ n ∷ b) x ≡ is_listed (a ++ b) x
@@ -36,11 +30,10 @@ without (y ∷ a) b n x other = ap (λ (t : Bool). bytes_eq x y || t) (without a
 -- one that is not beside may be left out
 all_without : (names a b : List (List ℕ)) (n : List ℕ) → (IsBeside n → ⊥) → AreAllBeside names (a ++ n ∷ b) → AreAllBeside names (a ++ b)
 all_without names a b n never all =
-    weaker (λ x. IsBeside x → is_listed (a ++ n ∷ b) x ≡ true) (λ x. IsBeside x → is_listed (a ++ b) x ≡ true) names
-    (λ x is beside. elim (cases_Bool (bytes_eq x n)) [
+    each_then (λ x. IsBeside x → is_listed (a ++ n ∷ b) x ≡ true) (λ x. IsBeside x → is_listed (a ++ b) x ≡ true) (λ x is beside. elim (cases_Bool (bytes_eq x n)) [
       | inl same ↦ absurd (never (subst IsBeside ((bytes_eq-Decides x n).0 same) beside))
       | inr other ↦ sym (without a b n x other) ∙ is beside
-    ]) all
+    ]) names all
 
 all_in_front : (names a b : List (List ℕ)) (n : List ℕ) → AreAllBeside names (a ++ n ∷ b) → AreAllBeside names ((a ++ n ∷ []) ++ b)
 all_in_front names a b n all = subst (AreAllBeside names) (sym (append_assoc a (n ∷ []) b)) all
@@ -88,16 +81,11 @@ listed_goes (m ∷ names) h n listed = elim (cases_Bool (bytes_eq n m)) [
   | inr other ↦ listed_goes names (after h (Removed m)) n (sym (ap (λ (t : Bool). t || is_listed names n) other) ∙ listed)
 ]
 
-at_name : (P : List ℕ → Type 0) (names : List (List ℕ)) (n : List ℕ) → AllByRecursion P names → Contains names n → P n
-at_name P [] n all (k, lt, is) = absurd (omega arith)
-at_name P (x ∷ xs) n all (zero, lt, is) = subst P is all.0
-at_name P (x ∷ xs) n all (suc k, lt, is) = at_name P xs n all.1 (k, omega arith, is)
-
 none_left : (h : Holdings) (names gone : List (List ℕ)) → ((n bytes : List ℕ) → h n ≡ Some bytes → Contains names n) → AreAllBeside names gone
     → (n : List ℕ) → IsBeside n → (file : Option (List ℕ)) → h n ≡ file → after_all h (map Removed gone) n ≡ None
 none_left h names gone told all n beside None is = gone_stays gone h n is
 none_left h names gone told all n beside (Some bytes) is =
-    listed_goes gone h n (at_name (λ x. IsBeside x → is_listed gone x ≡ true) names n all (told n bytes is) beside)
+    listed_goes gone h n (All-contains (λ x. IsBeside x → is_listed gone x ≡ true) names n (All-from_recursion (λ x. IsBeside x → is_listed gone x ≡ true) names all) (told n bytes is) beside)
 
 pub none_beside : (old new : Option History) (names gone : List (List ℕ)) (left : List Step)
     → IfTold old (λ h. (n bytes : List ℕ) → h n ≡ Some bytes → Contains names n) → AreAllBeside names gone

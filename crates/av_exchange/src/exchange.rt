@@ -2,9 +2,9 @@
 ghost use Rattle.std.specs.Prelude.{◌≡◌, ◌∷◌, [], IfErr, IfOk, OnErr, OnOk, map, string_bytes};
 ghost use Rattle.av_sink.specs.Account.{file_named};
 ghost use Rattle.av_exchange.specs.Exchange.{closing, finishing, placed, placing, staged};
-ghost use Rattle.av_exchange.specs.Names.{journal_name, new_journal_name};
+ghost use Rattle.av_exchange.specs.Names.{journal_name, new_journal_name, part_of};
 ghost use Rattle.av_exchange.specs.Outcomes.{HasStopped, IsBesideAlone, IsMovedInPart, IsNotPlaced, IsPlacedInPart, IsSettledInPart, IsUnstaged, name_of};
-ghost use Rattle.av_exchange.specs.Steps.{Moved, Synced, Written, all_of, with_steps};
+ghost use Rattle.av_exchange.specs.Steps.{Moved, Removed, Synced, Written, all_of, with_steps};
 
 use crate::folder::Folder;
 use crate::journal::journal_text;
@@ -25,13 +25,27 @@ pub struct NotPlaced {
 /// Writes a new file beside the one of that name, which it is to replace.
 ///
 /// # Errors
-/// What the system says, and want of memory. The old file stays, and what is left of the new one goes by a repair.
+/// What the system says, and want of memory. The old file stays. What is left of the new one goes by `unstage`, and that of a region's
+/// by a repair too.
 pub fn stage<F: Folder>(alloc: Global, folder: &mut F, name: &str, bytes: &[u8]) -> io::Result<()>
     ensures ok { OnOk result (F.history folder.new ≡ with_steps (F.history folder.old) (staged (file_named name.now bytes.now) ∷ [])) }
     ensures err { OnErr result (IsUnstaged name.now (F.history folder.old) (F.history folder.new)) }
 {
     let part = part_name(alloc, name)?;
     folder.write_new(part.as_str(), bytes, name)?;
+    Ok(())
+}
+
+/// Takes away what a call that was cut off has left of the new file of that name. No other process may write that file.
+///
+/// # Errors
+/// What the system says, and want of memory: it may still be there.
+pub fn unstage<F: Folder>(alloc: Global, folder: &mut F, name: &str) -> io::Result<()>
+    ensures ok { OnOk result (F.history folder.new ≡ with_steps (F.history folder.old) (Removed (part_of name.now) ∷ [])) }
+    ensures err { OnErr result (F.history folder.new ≡ F.history folder.old) }
+{
+    let part = part_name(alloc, name)?;
+    folder.remove(part.as_str())?;
     Ok(())
 }
 

@@ -11,7 +11,7 @@ pub mod moves;
 pub mod names;
 pub mod repairing;
 
-pub use exchange::{NotPlaced, close, place, place_alone, stage};
+pub use exchange::{NotPlaced, close, place, place_alone, stage, unstage};
 pub use folder::Folder;
 pub use names::{JOURNAL, TRIAL, is_own};
 pub use repairing::{repair, sweep};

@@ -1,6 +1,6 @@
 -- An input has one first fault at most.
-use Rattle.std.proofs.Common.{◌≡◌, ◌∙◌, ℕ, ◌+◌, ◌*◌, ◌<◌, ◌≤◌, ◌/◌, ◌⊎◌, inl, inr, List, [], ◌∷◌, Some, refl, ap, sym, subst, arith}
-use Rattle.std.proofs.lemmas.Option.{none-some}
+use Rattle.std.proofs.Common.{◌≡◌, ◌∙◌, ℕ, ◌+◌, ◌*◌, ◌<◌, ◌≤◌, ◌/◌, ◌⊎◌, inl, inr, List, [], ◌∷◌, refl, ap, sym, subst, arith}
+use Rattle.std.proofs.lemmas.Option.{none-some, same_Some}
 use Rattle.std.proofs.lemmas.Bool.{true≢false}
 use Rattle.av_types.specs.Faults.{fault_number}
 use Rattle.av_types.specs.Places.{chunk_at}
@@ -203,12 +203,9 @@ input_not h fs e states (range n is) b = n b.limits
 input_not h fs e states (repeated l s is) b = true≢false (sym s ∙ b.apart)
 input_not h fs e states (region l s x) b = files_not h first_states (in_order fs) e states x b.good
 
-same_some : {A : Type 0} (x y : A) → Some x ≡ Some y → x ≡ y
-same_some x y h = cc
-
 pub table_one : (text : List ℕ) (t u : BlockTable) (h k : Height) → IsTable text t h → IsTable text u k → h ≡ k
 table_one text t u h k a b =
-    let same : t ≡ u = same_some t u (sym a.spelled ∙ b.spelled) in
+    let same : t ≡ u = same_Some t u (sym a.spelled ∙ b.spelled) in
     height_is h k (a.low ∙ ap (λ x. x.min_section) same ∙ sym b.low) (a.count ∙ ap (λ x. x.sections) same ∙ sym b.count)
 
 -- the fault of edits does not depend on how the files were read
@@ -237,7 +234,7 @@ fault_one fs table edits n k e g (edit a t h xs w r tab read den x) (counts b is
 fault_one fs table edits n k e g (edit a t h xs w r tab read den x) (rules b bad is') = absurd (bad t h tab)
 fault_one fs table edits n k e g (edit a t h xs w r tab read den x) (file b t' h' tab' y) = absurd (input_not h' fs g xs y (subst (λ z. AreFilesRead z fs xs) (table_one table t t' h h' tab tab') read))
 fault_one fs table edits n k e g (edit a t h xs w r tab read den x) (edit b t' h' ys v s tab' read' den' y) =
-    same_some e g (sym x ∙ edit_same h h' fs xs ys w v r s n edits (table_one table t t' h h' tab tab') read read' den den' ∙ y)
+    same_Some e g (sym x ∙ edit_same h h' fs xs ys w v r s n edits (table_one table t t' h h' tab tab') read read' den den' ∙ y)
 
 fault_not : (fs : List File) (table edits : List ℕ) (n k : ℕ) (e : Fault) (t : BlockTable) (h : Height) (w : Land BlockState) (r : Rest) → IsFirstFault fs table edits n k e → IsAccepted fs table edits n k t h w r → ⊥
 fault_not fs table edits n k e t h w r (counts a is) b = a b.counts

@@ -8,7 +8,9 @@ use Rattle.std.specs.Ordering.{int_eq}
 use Rattle.std.proofs.lemmas.Int.{ints}
 use Rattle.std.proofs.lemmas.Bool.{and_parts, and_from, true≢false, false≢true}
 use Rattle.std.proofs.lemmas.Bool.Decides.{Decides-int_eq}
-use Rattle.std.proofs.lemmas.Option.{slice_get-map}
+use Rattle.std.proofs.lemmas.Option.{slice_get-map, same_Some}
+use Rattle.av_document.proofs.Numbers.{lt_from, le_from}
+use Rattle.av_types.proofs.Each.{each_then}
 use Rattle.av_types.specs.Division.{divided}
 use Rattle.av_types.specs.Places.{chunk_of, region_of, index_of, chunk_at, is_block_of, is_section_of, IsInLimits}
 use Rattle.av_types.specs.declared.place.Pos.{Pos}
@@ -43,16 +45,13 @@ state_there [] i h = absurd (omega arith)
 state_there (s ∷ states) zero h = refl
 state_there (s ∷ states) (suc i) h = state_there states i (omega arith)
 
-same_some : {A : Type 0} (x y : A) → Some x ≡ Some y → x ≡ y
-same_some x y h = cc
-
 state_is_meant : (states : List BlockState) (i : ℕ) → IsStateList states → AreStorable states → i < length states → IsMeant (slice_index_or states i air)
 state_is_meant states i list storable h =
     let there = state_there states i h in
     let s = slice_index_or states i air in
     let both : Some (meant s) ≡ Some (Some s) =
     sym (ap (option_map meant) there) ∙ sym (slice_get-map meant states i) ∙ ap (λ xs. slice_get xs i) list.each_meant ∙ slice_get-map (λ x. Some x) states i ∙ ap (option_map (λ x. Some x)) there in
-    record { same = same_some (meant s) (Some s) both; storable = storable i s there }
+    record { same = same_Some (meant s) (Some s) both; storable = storable i s there }
 
 first_is_air : (states : List BlockState) → take 10 states ≡ first_states → slice_index_or states 0 air ≡ air
 first_is_air [] h = refl
@@ -64,10 +63,6 @@ lies_where w c p same l =
     let x : divided p.x 16 ≡ c.x = sym (ap (λ d. d.x) is) in
     let z : divided p.z 16 ≡ c.z = sym (ap (λ d. d.z) is) in
     and_from _ _ (and_from _ _ ((Decides-int_eq (divided p.x 16) c.x).1 x) ((Decides-int_eq (divided p.z 16) c.z).1 z)) (and_parts (has_chunk w.chunks (chunk_of p)) (is_block_of w.height p.y) l).1
-
-all_of : {X : Type 0} (P Q : X → Type 0) (xs : List X) → ((x : X) → P x → Q x) → AllByRecursion P xs → AllByRecursion Q xs
-all_of P Q [] h ps = tt
-all_of P Q (x ∷ xs) h ps = (h x ps.0, all_of P Q xs h ps.1)
 
 pub timely_ints : (n : ℕ) (e : Entry) → IsTimely n e → HasInts n e
 timely_ints n e s = record {
@@ -83,10 +78,10 @@ pub good_is_lawful : (states : List BlockState) (n : ℕ) (v : Land ℕ) → IsS
 good_is_lawful states n v list storable g = record {
   chunks = λ c is. record {
     meant_states = λ p inside. state_is_meant states (v.at p) list storable (g.numbers p);
-    within = all_of (IsEntryOf (IsTimely n) (is_loaded v) c) (λ e. lies_in c v.height e.pos ≡ true) (v.lists c) (λ e s. lies_where v c e.pos s.here s.there) (g.entries c);
+    within = each_then (IsEntryOf (IsTimely n) (is_loaded v) c) (λ e. lies_in c v.height e.pos ≡ true) (λ e s. lies_where v c e.pos s.here s.there) (v.lists c) (g.entries c);
     apart = g.apart c;
   };
-  ints = λ c is. all_of (IsEntryOf (IsTimely n) (is_loaded v) c) (HasInts n) (v.lists c) (λ e s. timely_ints n e s.holds) (g.entries c);
+  ints = λ c is. each_then (IsEntryOf (IsTimely n) (is_loaded v) c) (HasInts n) (λ e s. timely_ints n e s.holds) (v.lists c) (g.entries c);
   air_elsewhere = λ p out. ap (λ i. slice_index_or states i air) (g.unloaded p out) ∙ first_is_air states list.begins;
   none_elsewhere = g.none;
 }
@@ -129,12 +124,6 @@ document_of h files w r d c is =
     subst (λ x. IsSlot h w r found.file.bytes x (index_of c)) (ap (λ region. chunk_at region (index_of c)) found.is ∙ chunk_back c) slot in
     slot_document h w r found.file.bytes c (index_of c) (subst IsInLimits found.is found.denotes.limits) is slot_here
 
-le_of : (x y : ℤ) → int_le x y ≡ true → x ≤ℤ y
-le_of x y h = grind (arith, ints)
-
-lt_of : (x y : ℤ) → int_lt x y ≡ true → x <ℤ y
-lt_of x y h = grind (arith, ints)
-
 inner : (z : ℤ) → negsuc 63 ≤ℤ divided z 16 → divided z 16 <ℤ pos 64 → FitsSigned w32 z
 inner (pos n) low top = fits_from (pos n) (omega (arith, ints)) (omega (arith, ints))
 inner (negsuc n) low top = fits_from (negsuc n) (omega (arith, ints)) (omega (arith, ints))
@@ -143,8 +132,8 @@ inner (negsuc n) low top = fits_from (negsuc n) (omega (arith, ints)) (omega (ar
 high : (h : Height) (z : ℤ) → is_section_of h (divided z 16) ≡ true → FitsSigned w32 z
 high h z s =
     let parts = and_parts (int_le h.min_section (divided z 16)) (int_lt (divided z 16) (h.min_section +ℤ pos h.sections)) s in
-    let low : h.min_section ≤ℤ divided z 16 = le_of h.min_section (divided z 16) parts.0 in
-    let top : divided z 16 <ℤ (h.min_section +ℤ pos h.sections) = lt_of (divided z 16) (h.min_section +ℤ pos h.sections) parts.1 in
+    let low : h.min_section ≤ℤ divided z 16 = le_from h.min_section (divided z 16) parts.0 in
+    let top : divided z 16 <ℤ (h.min_section +ℤ pos h.sections) = lt_from (divided z 16) (h.min_section +ℤ pos h.sections) parts.1 in
     let a = h.lowest in
     let b = h.highest in
     inner z (omega (arith, ints)) (omega (arith, ints))

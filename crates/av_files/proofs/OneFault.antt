@@ -1,7 +1,7 @@
 -- Of the faults of files only one is the first.
 use Rattle.std.proofs.Common.{◌≡◌, ◌∙◌, ℕ, ◌≤◌, min, List, [], ◌∷◌, ◌++◌, length, Bool, true, false, cond, Option, Some, None, refl, sym, subst, arith}
 use Rattle.std.specs.List.{AllByRecursion, flat_map, list_any}
-use Rattle.std.proofs.lemmas.Option.{none-some}
+use Rattle.std.proofs.lemmas.Option.{none-some, same_Some}
 use Rattle.av_types.specs.Faults.{fault_number, least, lesser}
 use Rattle.av_types.specs.declared.place.Height.{Height}
 use Rattle.av_types.specs.declared.place.ChunkPos.{ChunkPos}
@@ -59,12 +59,9 @@ section_all h ms = all_if (is_in_height h (section_number ms)) (block_faults (bl
 between : (n k m : ℕ) → IsChunkNumber n → IsChunkNumber k → min n k ≡ m → IsChunkNumber m
 between n k m a b e = let x = a.from in let y = a.to in let z = b.from in let u = b.to in record { from = omega arith; to = omega arith }
 
-same_some : (x y : ℕ) → Some x ≡ Some y → x ≡ y
-same_some x y f = cc
-
 lesser_all : (n m : ℕ) (o : Option ℕ) → IsChunkNumber n → ((k : ℕ) → o ≡ Some k → IsChunkNumber k) → Some (lesser n o) ≡ Some m → IsChunkNumber m
-lesser_all n m None a h e = subst IsChunkNumber (same_some n m e) a
-lesser_all n m (Some k) a h e = between n k m a (h k refl) (same_some (min n k) m e)
+lesser_all n m None a h e = subst IsChunkNumber (same_Some n m e) a
+lesser_all n m (Some k) a h e = between n k m a (h k refl) (same_Some (min n k) m e)
 
 least_all : (ns : List ℕ) (m : ℕ) → All ns → least ns ≡ Some m → IsChunkNumber m
 least_all [] m a e = absurd (none-some m e)
@@ -103,4 +100,4 @@ same_fault _ _ h s = absurd (let a = h.from in let b = h.to in omega arith)
 
 -- two documents' first faults at one place are one
 pub document_fault : (h : Height) (c : ChunkPos) (table : List BlockState) (root : List NamedTag) (e f : Fault) → first_fault h c table root ≡ Some (fault_number e) → first_fault h c table root ≡ Some (fault_number f) → e ≡ f
-document_fault h c table root e f a b = same_fault e f (first_between h c table root (fault_number e) a) (same_some (fault_number e) (fault_number f) (sym a ∙ b))
+document_fault h c table root e f a b = same_fault e f (first_between h c table root (fault_number e) a) (same_Some (fault_number e) (fault_number f) (sym a ∙ b))

@@ -1,9 +1,11 @@
 -- The same files are written.
-use Rattle.std.proofs.Common.{◌≡◌, ◌∙◌, ℕ, zero, suc, ◌+◌, ◌<◌, ℤ, pos, ◌-ℤ◌, List, [], ◌∷◌, ◌++◌, Bool, true, false, ◌||◌, cond, Option, Some, refl, ap, sym, subst, arith}
+use Rattle.std.proofs.Common.{◌≡◌, ◌∙◌, ℕ, ◌+◌, ◌<◌, ℤ, pos, ◌-ℤ◌, List, [], ◌∷◌, ◌++◌, Bool, true, false, ◌||◌, cond, Option, Some, refl, ap, sym, subst, arith}
 use Rattle.std.specs.Prelude.{map, codes}
 use Rattle.av_land.specs.Tick.{Set}
-use Rattle.std.specs.List.{AllByRecursion, list_any, range_with_len}
+use Rattle.std.specs.List.{AllByRecursion, list_any}
 use Rattle.std.proofs.lemmas.Int.{ints}
+use Rattle.std.proofs.Math.Bool.{or-true}
+use Rattle.av_document.proofs.Inside.{map_range_agree}
 use Rattle.av_types.specs.Places.{chunk_at, is_section_of}
 use Rattle.av_types.specs.declared.place.Pos.{Pos}
 use Rattle.av_types.specs.declared.place.ChunkPos.{ChunkPos}
@@ -75,25 +77,14 @@ chunk_same c h cells es sources r s l m n k then now a b same lit =
 
 -- ---- files
 
-pub map_range : {X : Type 0} (f g : ℕ → X) (a n : ℕ) → ((i : ℕ) → i < a + n → f i ≡ g i) → map f (range_with_len a n) ≡ map g (range_with_len a n)
-map_range f g a zero h = refl
-map_range f g a (suc n) h =
-    let first = h a (omega arith) in
-    let rest = map_range f g (a + 1) n (λ i less. h i (omega arith)) in
-    λ i. first i ∷ rest i
-
 map_all : {X Y : Type 0} (f g : X → Y) (xs : List X) → AllByRecursion (λ x. f x ≡ g x) xs → map f xs ≡ map g xs
 map_all f g [] h = refl
 map_all f g (x ∷ xs) h = λ i. h.0 i ∷ map_all f g xs h.1 i
 
-or_true : (b : Bool) → (b || true) ≡ true
-or_true true = refl
-or_true false = refl
-
 members : (P : RegionPos → Type 0) (rs : List RegionPos) → ((x : RegionPos) → list_any (same_region x) rs ≡ true → P x) → AllByRecursion P rs
 members P [] h = tt
 members P (r ∷ rs) h =
-    (h r (ap (λ b. b || list_any (same_region r) rs) (same_region-refl r)), members P rs (λ x e. h x (ap (λ b. same_region x r || b) e ∙ or_true (same_region x r))))
+    (h r (ap (λ b. b || list_any (same_region r) rs) (same_region-refl r)), members P rs (λ x e. h x (ap (λ b. same_region x r || b) e ∙ or-true (same_region x r))))
 
 pub payload_if : (b : Bool) (x y : List ℕ) (k l : Option (List ℕ)) → (b ≡ true → x ≡ y) → k ≡ l → cond b (Some x) k ≡ cond b (Some y) l
 payload_if true x y k l h e = ap (λ z. Some z) (h refl)
@@ -110,8 +101,8 @@ layout_same t w u r s l m n k same chunks lit =
     (λ is. ap written_document (chunk_same c u.height u.at (u.lists c) (sources_of t u) (r.chunk c) (s.chunk c) (l c) (m c) n k w.at w.at (w.lists c) (w.lists c) (same.chunks c (ap (λ cs. has_chunk cs c) chunks ∙ is)) (lit c is)))
     (same.kept c (ap (λ x. list_any (same_region x) s.regions) (region_back region i (omega arith)) ∙ found)) in
     let one : (region : RegionPos) → list_any (same_region region) s.regions ≡ true → file_layout (sources_of t (shifted n u)) (shifted n u) s l k region ≡ file_layout (sources_of t u) u r m (k + n) region = λ region found.
-    let p = map_range (λ i. payload_of (sources_of t (shifted n u)) (shifted n u) s l k (chunk_at region i)) (λ i. payload_of (sources_of t u) u r m (k + n) (chunk_at region i)) 0 1024 (payload region found) in
-    let q = map_range (s.stamp region) (r.stamp region) 0 1024 (λ i less. same.stamps region found i (omega arith)) in
+    let p = map_range_agree (λ i. payload_of (sources_of t (shifted n u)) (shifted n u) s l k (chunk_at region i)) (λ i. payload_of (sources_of t u) u r m (k + n) (chunk_at region i)) 0 1024 (payload region found) in
+    let q = map_range_agree (s.stamp region) (r.stamp region) 0 1024 (λ i less. same.stamps region found i (omega arith)) in
     λ j. record { pos = region; bytes = region_bytes (p j) (q j) } in
     map_all (file_layout (sources_of t (shifted n u)) (shifted n u) s l k) (file_layout (sources_of t u) u r m (k + n)) s.regions (members (λ x. file_layout (sources_of t (shifted n u)) (shifted n u) s l k x ≡ file_layout (sources_of t u) u r m (k + n) x) s.regions one)
     ∙ ap (map (file_layout (sources_of t u) u r m (k + n))) same.regions

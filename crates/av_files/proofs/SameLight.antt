@@ -10,7 +10,7 @@ use Rattle.av_pack.specs.Nibbles.{nibble_at}
 use Rattle.av_state.specs.BlockState.{BlockState}
 use Rattle.av_rules.specs.Rows.{BlockTable}
 use Rattle.av_document.specs.Layout.{block_at}
-use Rattle.av_document.proofs.Positions.{divided-coordinate, remainder-coordinate, place-parts}
+use Rattle.av_document.proofs.Positions.{divided-coordinate, place-of_block}
 use Rattle.av_land.specs.Land.{Land, has_chunk, is_loaded}
 use Rattle.av_files.specs.Layout.{Lights}
 use Rattle.av_flood.specs.Light.{Terrain, IsLight, HasLight}
@@ -56,13 +56,6 @@ high bytes j =
 same_byte : (m n : ℕ) → m % 16 ≡ n % 16 → m / 16 ≡ n / 16 → m ≡ n
 same_byte m n a b = omega arith
 
-place_back : (c : ChunkPos) (y : ℤ) (i : ℕ) → i < 4096 → place_of (block_at c y i) ≡ i
-place_back c y i less =
-    let a = remainder-coordinate y (i / 256) (omega arith) in
-    let b = remainder-coordinate c.z (i / 16 % 16) (omega arith) in
-    let d = remainder-coordinate c.x (i % 16) (omega arith) in
-    (λ j. 256 * a j + 16 * b j + d j) ∙ place-parts i less
-
 same_nibble : (t : BlockTable) (w : Land BlockState) (l m : Lights) → IsLit t w l → IsLit t w m → (c : ChunkPos) → has_chunk w.chunks c ≡ true → (y : ℤ) → is_section_of w.height y ≡ true → (i : ℕ) → i < 4096
     → nibble_at (l c y) i ≡ nibble_at (m c y) i
 same_nibble t w l m a b c is y inside i less =
@@ -73,7 +66,7 @@ same_nibble t w l m a b c is y inside i less =
     let at : chunk_of p ≡ c = λ j. record { x = x j; z = z j } in
     let there : is_loaded w p ≡ true = and_from _ _ (ap (has_chunk w.chunks) at ∙ is) (ap (is_section_of w.height) v ∙ inside) in
     let e = light_once (terrain_by t w) p (nibble_at (l (chunk_of p) (divided p.y 16)) (place_of p)) (nibble_at (m (chunk_of p) (divided p.y 16)) (place_of p)) (a.blocks p there) (b.blocks p there) in
-    let go : (k : Lights) → nibble_at (k (chunk_of p) (divided p.y 16)) (place_of p) ≡ nibble_at (k c y) i = λ k j. nibble_at (k (at j) (v j)) (place_back c y i less j) in
+    let go : (k : Lights) → nibble_at (k (chunk_of p) (divided p.y 16)) (place_of p) ≡ nibble_at (k c y) i = λ k j. nibble_at (k (at j) (v j)) (place-of_block c y i less j) in
     sym (go l) ∙ e ∙ go m
 
 pub same_light : (t : BlockTable) (w : Land BlockState) (l m : Lights) → IsLit t w l → IsLit t w m → (c : ChunkPos) → has_chunk w.chunks c ≡ true → (y : ℤ) → is_section_of w.height y ≡ true → l c y ≡ m c y

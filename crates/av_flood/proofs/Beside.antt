@@ -1,7 +1,7 @@
 -- The blocks beside one of the board.
 use Rattle.std.proofs.Common.{IsTrue, ◌≡◌, ℕ, ℤ, pos, ◌+◌, ◌-◌, ◌*◌, ◌/◌, ◌%◌, ◌<◌, ◌≤◌, ◌⊎◌, inl, inr, ◌+ℤ◌, ◌-ℤ◌, ◌<ℤ◌, ◌≤ℤ◌, true, ◌&&◌, sym, subst, ◌∙◌, arith}
 use Rattle.std.proofs.lemmas.Int.{ints}
-use Rattle.std.proofs.lemmas.Bool.{cases_lt}
+use Rattle.std.proofs.lemmas.Bool.{cases_lt, and_parts}
 use Rattle.std.specs.Prelude.{int_le, int_lt}
 use Rattle.av_types.specs.declared.place.Pos.{Pos}
 use Rattle.av_types.specs.declared.place.ChunkPos.{ChunkPos}
@@ -11,13 +11,13 @@ use Rattle.av_flood.specs.Light.{below, above, north, south, west, east}
 use Rattle.av_flood.specs.Board.{corner, is_on, IsOff, IsPlace}
 use Rattle.av_flood.specs.Quiet.{IsBeside}
 use Rattle.av_flood.specs.Spots.{IsSpot}
-use Rattle.av_flood.proofs.Boards.{and_left, and_right, below_first, after_last, off_x, off_y, off_z, placed, IsStepped, stepped}
+use Rattle.av_flood.proofs.Boards.{below_first, after_last, off_x, off_y, off_z, placed, IsStepped, stepped}
 
 within_low : (from x : ℤ) (size : ℕ) → is_within from size x ≡ true → from ≤ℤ x
-within_low from x size h = let l : int_le from x ≡ true = and_left (int_le from x) (int_lt x (from +ℤ pos size)) h in grind (arith, ints)
+within_low from x size h = let l : int_le from x ≡ true = (and_parts (int_le from x) (int_lt x (from +ℤ pos size)) h).0 in grind (arith, ints)
 
 within_high : (from x : ℤ) (size : ℕ) → is_within from size x ≡ true → x <ℤ (from +ℤ pos size)
-within_high from x size h = let l : int_lt x (from +ℤ pos size) ≡ true = and_right (int_le from x) (int_lt x (from +ℤ pos size)) h in grind (arith, ints)
+within_high from x size h = let l : int_lt x (from +ℤ pos size) ≡ true = (and_parts (int_le from x) (int_lt x (from +ℤ pos size)) h).1 in grind (arith, ints)
 
 -- a coordinate is one of so many from the first
 pub record IsBetween (from : ℤ) (size : ℕ) (x : ℤ) : Type 0 where
@@ -32,10 +32,10 @@ pub record IsOn (c : ChunkPos) (h : Height) (p : Pos) : Type 0 where
 pub between_ends : (c : ChunkPos) (h : Height) (p : Pos) → IsTrue (is_on c h p) → IsOn c h p
 between_ends c h p on =
     let k = corner c h in
-    let xz = and_left (is_within k.x 44 p.x && is_within k.z 44 p.z) (is_within k.y (16 * h.sections) p.y) on in
-    let x = and_left (is_within k.x 44 p.x) (is_within k.z 44 p.z) xz in
-    let z = and_right (is_within k.x 44 p.x) (is_within k.z 44 p.z) xz in
-    let y = and_right (is_within k.x 44 p.x && is_within k.z 44 p.z) (is_within k.y (16 * h.sections) p.y) on in
+    let xz = (and_parts (is_within k.x 44 p.x && is_within k.z 44 p.z) (is_within k.y (16 * h.sections) p.y) on).0 in
+    let x = (and_parts (is_within k.x 44 p.x) (is_within k.z 44 p.z) xz).0 in
+    let z = (and_parts (is_within k.x 44 p.x) (is_within k.z 44 p.z) xz).1 in
+    let y = (and_parts (is_within k.x 44 p.x && is_within k.z 44 p.z) (is_within k.y (16 * h.sections) p.y) on).1 in
     record {
       x = record { low = within_low k.x p.x 44 x; high = within_high k.x p.x 44 x };
       z = record { low = within_low k.z p.z 44 z; high = within_high k.z p.z 44 z };

@@ -3,7 +3,7 @@ use Rattle.std.proofs.Common.{IsTrue, ◌≡◌, ℕ, ℤ, pos, negsuc, ◌+◌,
 use Rattle.std.proofs.lemmas.Int.{ints}
 use Rattle.std.specs.Prelude.{int_le, int_lt, nat_le}
 use Rattle.std.proofs.lemmas.List.{get_or-set_same, get_or-set_other}
-use Rattle.std.proofs.lemmas.Bool.{false≢true}
+use Rattle.std.proofs.lemmas.Bool.{false≢true, and_parts, and_left, and_right, and_from}
 use Rattle.std.proofs.lemmas.Bool.Decides.{nat_tests}
 use Rattle.av_types.specs.declared.place.Pos.{Pos}
 use Rattle.av_types.specs.declared.place.ChunkPos.{ChunkPos}
@@ -16,48 +16,28 @@ use Rattle.av_flood.specs.Board.{corner, is_on, index_of, IsOff, IsPlace, IsSett
 use Rattle.av_flood.specs.Blocks.{IsNear, IsFarFromEnds, MayBeLoaded, column_at}
 use Rattle.av_flood.specs.Flooding.{Matters, IsNearAlong}
 
-and_false_left : (a b : Bool) → a ≡ false → (a && b) ≡ false
-and_false_left true b e = grind arith
-and_false_left false b e = refl
-
-and_false_right : (a b : Bool) → b ≡ false → (a && b) ≡ false
-and_false_right true b e = e
-and_false_right false b e = refl
-
-and_both : (a b : Bool) → a ≡ true → b ≡ true → (a && b) ≡ true
-and_both true b e f = f
-and_both false b e f = e
-
-pub and_left : (a b : Bool) → (a && b) ≡ true → a ≡ true
-and_left true b e = refl
-and_left false b e = e
-
-pub and_right : (a b : Bool) → (a && b) ≡ true → b ≡ true
-and_right true b e = e
-and_right false b e = grind arith
-
 within_nth : (from x : ℤ) (size n : ℕ) → IsNth from size x n → is_within from size x ≡ true
 within_nth from x size n h =
     let l = h.less in let e = h.is in
-    and_both (int_le from x) (int_lt x (from +ℤ pos size)) (grind (arith, ints)) (grind (arith, ints))
+    and_from (int_le from x) (int_lt x (from +ℤ pos size)) (grind (arith, ints)) (grind (arith, ints))
 
 offset_nth : (from x : ℤ) (size n : ℕ) → IsNth from size x n → n ≡ offset (x -ℤ from)
 offset_nth from x size n h = let e = h.is in ap offset (let f : pos n ≡ x -ℤ from = omega (arith, ints) in f)
 
 pub below_first : (from x : ℤ) (size : ℕ) → x <ℤ from → IsBeyond from size x
-below_first from x size h = record { beyond = and_false_left (int_le from x) (int_lt x (from +ℤ pos size)) (grind (arith, ints)) }
+below_first from x size h = record { beyond = and_left (int_le from x) (int_lt x (from +ℤ pos size)) (grind (arith, ints)) }
 
 pub after_last : (from x : ℤ) (size : ℕ) → (from +ℤ pos size) ≤ℤ x → IsBeyond from size x
-after_last from x size h = record { beyond = and_false_right (int_le from x) (int_lt x (from +ℤ pos size)) (grind (arith, ints)) }
+after_last from x size h = record { beyond = and_right (int_le from x) (int_lt x (from +ℤ pos size)) (grind (arith, ints)) }
 
 offset_back : (from x : ℤ) (size : ℕ) → is_within from size x ≡ true → x ≡ from +ℤ pos (offset (x -ℤ from))
-offset_back from x size h = on (x -ℤ from) refl (and_left (int_le from x) (int_lt x (from +ℤ pos size)) h) where
+offset_back from x size h = on (x -ℤ from) refl (and_parts (int_le from x) (int_lt x (from +ℤ pos size)) h).0 where
   on : (z : ℤ) → x -ℤ from ≡ z → int_le from x ≡ true → x ≡ from +ℤ pos (offset z)
   on (pos n) e l = omega (arith, ints)
   on (negsuc n) e l = absurd (grind (arith, ints))
 
 offset_below : (from x : ℤ) (size : ℕ) → is_within from size x ≡ true → offset (x -ℤ from) < size
-offset_below from x size h = on (offset (x -ℤ from)) (offset_back from x size h) (and_right (int_le from x) (int_lt x (from +ℤ pos size)) h) where
+offset_below from x size h = on (offset (x -ℤ from)) (offset_back from x size h) (and_parts (int_le from x) (int_lt x (from +ℤ pos size)) h).1 where
   on : (n : ℕ) → x ≡ from +ℤ pos n → int_lt x (from +ℤ pos size) ≡ true → n < size
   on n e l = grind (arith, ints)
 
@@ -73,14 +53,14 @@ parted x y z a b c l m n o e =
 pub same_index : (c : ChunkPos) (h : Height) (p q : Pos) → is_on c h p ≡ true → is_on c h q ≡ true → index_of c h p ≡ index_of c h q → p ≡ q
 same_index c h p q on_p on_q e =
     let k = corner c h in
-    let xz_p = and_left (is_within k.x 44 p.x && is_within k.z 44 p.z) (is_within k.y (16 * h.sections) p.y) on_p in
-    let xz_q = and_left (is_within k.x 44 q.x && is_within k.z 44 q.z) (is_within k.y (16 * h.sections) q.y) on_q in
-    let xp = and_left (is_within k.x 44 p.x) (is_within k.z 44 p.z) xz_p in
-    let zp = and_right (is_within k.x 44 p.x) (is_within k.z 44 p.z) xz_p in
-    let yp = and_right (is_within k.x 44 p.x && is_within k.z 44 p.z) (is_within k.y (16 * h.sections) p.y) on_p in
-    let xq = and_left (is_within k.x 44 q.x) (is_within k.z 44 q.z) xz_q in
-    let zq = and_right (is_within k.x 44 q.x) (is_within k.z 44 q.z) xz_q in
-    let yq = and_right (is_within k.x 44 q.x && is_within k.z 44 q.z) (is_within k.y (16 * h.sections) q.y) on_q in
+    let xz_p = (and_parts (is_within k.x 44 p.x && is_within k.z 44 p.z) (is_within k.y (16 * h.sections) p.y) on_p).0 in
+    let xz_q = (and_parts (is_within k.x 44 q.x && is_within k.z 44 q.z) (is_within k.y (16 * h.sections) q.y) on_q).0 in
+    let xp = (and_parts (is_within k.x 44 p.x) (is_within k.z 44 p.z) xz_p).0 in
+    let zp = (and_parts (is_within k.x 44 p.x) (is_within k.z 44 p.z) xz_p).1 in
+    let yp = (and_parts (is_within k.x 44 p.x && is_within k.z 44 p.z) (is_within k.y (16 * h.sections) p.y) on_p).1 in
+    let xq = (and_parts (is_within k.x 44 q.x) (is_within k.z 44 q.z) xz_q).0 in
+    let zq = (and_parts (is_within k.x 44 q.x) (is_within k.z 44 q.z) xz_q).1 in
+    let yq = (and_parts (is_within k.x 44 q.x && is_within k.z 44 q.z) (is_within k.y (16 * h.sections) q.y) on_q).1 in
     let same = parted (offset (p.x -ℤ k.x)) (offset (p.y -ℤ k.y)) (offset (p.z -ℤ k.z)) (offset (q.x -ℤ k.x)) (offset (q.y -ℤ k.y)) (offset (q.z -ℤ k.z))
     (offset_below k.x p.x 44 xp) (offset_below k.z p.z 44 zp) (offset_below k.x q.x 44 xq) (offset_below k.z q.z 44 zq) e in
     let x = same_offset k.x p.x q.x 44 xp xq same.x_is in
@@ -90,13 +70,13 @@ same_index c h p q on_p on_q e =
 
 module _ (c : ChunkPos) (h : Height) (p : Pos) where
   pub off_x : IsBeyond (corner c h).x 44 p.x → IsOff c h p
-  off_x e = record { off = and_false_left (is_within (corner c h).x 44 p.x && is_within (corner c h).z 44 p.z) (is_within (corner c h).y (16 * h.sections) p.y) (and_false_left (is_within (corner c h).x 44 p.x) (is_within (corner c h).z 44 p.z) e.beyond) }
+  off_x e = record { off = and_left (is_within (corner c h).x 44 p.x && is_within (corner c h).z 44 p.z) (is_within (corner c h).y (16 * h.sections) p.y) (and_left (is_within (corner c h).x 44 p.x) (is_within (corner c h).z 44 p.z) e.beyond) }
 
   pub off_z : IsBeyond (corner c h).z 44 p.z → IsOff c h p
-  off_z e = record { off = and_false_left (is_within (corner c h).x 44 p.x && is_within (corner c h).z 44 p.z) (is_within (corner c h).y (16 * h.sections) p.y) (and_false_right (is_within (corner c h).x 44 p.x) (is_within (corner c h).z 44 p.z) e.beyond) }
+  off_z e = record { off = and_left (is_within (corner c h).x 44 p.x && is_within (corner c h).z 44 p.z) (is_within (corner c h).y (16 * h.sections) p.y) (and_right (is_within (corner c h).x 44 p.x) (is_within (corner c h).z 44 p.z) e.beyond) }
 
   pub off_y : IsBeyond (corner c h).y (16 * h.sections) p.y → IsOff c h p
-  off_y e = record { off = and_false_right (is_within (corner c h).x 44 p.x && is_within (corner c h).z 44 p.z) (is_within (corner c h).y (16 * h.sections) p.y) e.beyond }
+  off_y e = record { off = and_right (is_within (corner c h).x 44 p.x && is_within (corner c h).z 44 p.z) (is_within (corner c h).y (16 * h.sections) p.y) e.beyond }
 
   pub placed : (x y z : ℕ) → IsNth (corner c h).x 44 p.x x → IsNth (corner c h).z 44 p.z z → IsNth (corner c h).y (16 * h.sections) p.y y → IsPlace c h p (44 * (44 * (y + 1) + z) + x)
   placed x y z a b d =
@@ -105,7 +85,7 @@ module _ (c : ChunkPos) (h : Height) (p : Pos) where
       let j = offset_nth k.y p.y (16 * h.sections) y d in
       let l = offset_nth k.z p.z 44 z b in
       record {
-        on = and_both (is_within k.x 44 p.x && is_within k.z 44 p.z) (is_within k.y (16 * h.sections) p.y) (and_both (is_within k.x 44 p.x) (is_within k.z 44 p.z) (within_nth k.x p.x 44 x a) (within_nth k.z p.z 44 z b)) (within_nth k.y p.y (16 * h.sections) y d);
+        on = and_from (is_within k.x 44 p.x && is_within k.z 44 p.z) (is_within k.y (16 * h.sections) p.y) (and_from (is_within k.x 44 p.x) (is_within k.z 44 p.z) (within_nth k.x p.x 44 x a) (within_nth k.z p.z 44 z b)) (within_nth k.y p.y (16 * h.sections) y d);
         is = λ n. 44 * (44 * (j n + 1) + l n) + i n;
         less = let f = a.less in let g = b.less in let m = d.less in omega arith;
       }
@@ -125,10 +105,10 @@ light_set c h p xs n i place less q = cases (same_pos q p) refl (is_on c h q) re
 pub place_of : (c : ChunkPos) (h : Height) (p : Pos) → is_on c h p ≡ true → IsPlace c h p (index_of c h p)
 place_of c h p on =
     let k = corner c h in
-    let xz = and_left (is_within k.x 44 p.x && is_within k.z 44 p.z) (is_within k.y (16 * h.sections) p.y) on in
-    let x = offset_below k.x p.x 44 (and_left (is_within k.x 44 p.x) (is_within k.z 44 p.z) xz) in
-    let z = offset_below k.z p.z 44 (and_right (is_within k.x 44 p.x) (is_within k.z 44 p.z) xz) in
-    let y = offset_below k.y p.y (16 * h.sections) (and_right (is_within k.x 44 p.x && is_within k.z 44 p.z) (is_within k.y (16 * h.sections) p.y) on) in
+    let xz = (and_parts (is_within k.x 44 p.x && is_within k.z 44 p.z) (is_within k.y (16 * h.sections) p.y) on).0 in
+    let x = offset_below k.x p.x 44 (and_parts (is_within k.x 44 p.x) (is_within k.z 44 p.z) xz).0 in
+    let z = offset_below k.z p.z 44 (and_parts (is_within k.x 44 p.x) (is_within k.z 44 p.z) xz).1 in
+    let y = offset_below k.y p.y (16 * h.sections) (and_parts (is_within k.x 44 p.x && is_within k.z 44 p.z) (is_within k.y (16 * h.sections) p.y) on).1 in
     record { on = on; is = refl; less = omega arith }
 
 pub raw_at : (c : ChunkPos) (h : Height) (p : Pos) (xs : List ℕ) (i : ℕ) → IsPlace c h p i → get_or xs i 0 ≡ cond (is_on c h p) (get_or xs (index_of c h p) 0) 0
@@ -147,10 +127,10 @@ pub record IsStepped (c : ChunkPos) (h : Height) (p : Pos) (i : ℕ) : Type 0 wh
 pub stepped : (c : ChunkPos) (h : Height) (p : Pos) (i : ℕ) → IsPlace c h p i → IsStepped c h p i
 stepped c h p i place =
     let k = corner c h in
-    let xz = and_left (is_within k.x 44 p.x && is_within k.z 44 p.z) (is_within k.y (16 * h.sections) p.y) place.on in
-    let x = and_left (is_within k.x 44 p.x) (is_within k.z 44 p.z) xz in
-    let z = and_right (is_within k.x 44 p.x) (is_within k.z 44 p.z) xz in
-    let y = and_right (is_within k.x 44 p.x && is_within k.z 44 p.z) (is_within k.y (16 * h.sections) p.y) place.on in
+    let xz = (and_parts (is_within k.x 44 p.x && is_within k.z 44 p.z) (is_within k.y (16 * h.sections) p.y) place.on).0 in
+    let x = (and_parts (is_within k.x 44 p.x) (is_within k.z 44 p.z) xz).0 in
+    let z = (and_parts (is_within k.x 44 p.x) (is_within k.z 44 p.z) xz).1 in
+    let y = (and_parts (is_within k.x 44 p.x && is_within k.z 44 p.z) (is_within k.y (16 * h.sections) p.y) place.on).1 in
     record {
       x = offset (p.x -ℤ k.x);
       z = offset (p.z -ℤ k.z);
@@ -210,12 +190,12 @@ module _ (old new : Pos → ℕ) (p : Pos) (n : ℕ) (set : IsSettled old new p 
 pub on_board : (c : ChunkPos) (h : Height) (n : ℕ) (p : Pos) → n ≤ 15 → Matters c n p → IsNear h p → IsTrue (is_on c h p)
 on_board c h n p most m near =
     let k = corner c h in
-    and_both (is_within k.x 44 p.x && is_within k.z 44 p.z) (is_within k.y (16 * h.sections) p.y)
-    (and_both (is_within k.x 44 p.x) (is_within k.z 44 p.z) (along (pos 16 *ℤ c.x) p.x m.over_x (let l = m.less in omega arith) m.along_x) (along (pos 16 *ℤ c.z) p.z m.over_z (let l = m.less in omega arith) m.along_z))
+    and_from (is_within k.x 44 p.x && is_within k.z 44 p.z) (is_within k.y (16 * h.sections) p.y)
+    (and_from (is_within k.x 44 p.x) (is_within k.z 44 p.z) (along (pos 16 *ℤ c.x) p.x m.over_x (let l = m.less in omega arith) m.along_x) (along (pos 16 *ℤ c.z) p.z m.over_z (let l = m.less in omega arith) m.along_z))
     (between k.y p.y (16 * h.sections) near.low near.high)
   where
     between : (from x : ℤ) (size : ℕ) → from ≤ℤ x → x <ℤ (from +ℤ pos size) → is_within from size x ≡ true
-    between from x size l g = and_both (int_le from x) (int_lt x (from +ℤ pos size)) (grind (arith, ints)) (grind (arith, ints))
+    between from x size l g = and_from (int_le from x) (int_lt x (from +ℤ pos size)) (grind (arith, ints)) (grind (arith, ints))
 
     along : (from x : ℤ) (k : ℕ) → k ≤ 14 → IsNearAlong from k x → is_within (from -ℤ pos 14) 44 x ≡ true
     along from x k few a = let l = a.low in let g = a.high in between (from -ℤ pos 14) x 44 (omega (arith, ints)) (omega (arith, ints))
@@ -238,7 +218,7 @@ quotient (pos n) = record { low = omega (arith, ints); high = omega (arith, ints
 quotient (negsuc n) = record { low = omega (arith, ints); high = omega (arith, ints) }
 
 between : (from x : ℤ) (size : ℕ) → from ≤ℤ x → x <ℤ (from +ℤ pos size) → is_within from size x ≡ true
-between from x size l g = and_both (int_le from x) (int_lt x (from +ℤ pos size)) (grind (arith, ints)) (grind (arith, ints))
+between from x size l g = and_from (int_le from x) (int_lt x (from +ℤ pos size)) (grind (arith, ints)) (grind (arith, ints))
 
 -- which of the three chunks along an axis
 record IsNumber (from : ℤ) (size : ℕ) (q : ℤ) (n : ℕ) : Type 0 where

@@ -1,12 +1,13 @@
 -- Half bytes of light.
-use Rattle.std.proofs.Common.{◌≡◌, ℕ, ℤ, pos, ◌+◌, ◌-◌, ◌*◌, ◌/◌, ◌%◌, ◌<◌, ◌≤◌, ⊎_elim, ◌+ℤ◌, ◌*ℤ◌, Bool, true, false, cond, suc, zero, List, [], ◌∷◌, ◌++◌, length, get_or, take, drop, replicate, Result, Ok, Err, refl, sym, ap, ◌∙◌, subst, arith}
-use Rattle.std.specs.Prelude.{nat_le, count_by, All, slice_range, ◌==◌, OnOk, IfOk}
+use Rattle.std.proofs.Common.{◌≡◌, ℕ, ℤ, pos, ◌+◌, ◌-◌, ◌*◌, ◌/◌, ◌%◌, ◌<◌, ◌≤◌, ⊎_elim, ◌+ℤ◌, ◌*ℤ◌, Bool, true, false, cond, suc, zero, List, [], ◌∷◌, ◌++◌, length, get_or, take, drop, replicate, refl, sym, ap, ◌∙◌, subst, arith}
+use Rattle.std.specs.Prelude.{nat_le, count_by, All, slice_range, ◌==◌}
 use Rattle.std.proofs.lemmas.Int.{ints}
 use Rattle.std.proofs.lemmas.Bool.{cases_lt}
 use Rattle.std.proofs.lemmas.Bool.Decides.{nat_tests}
-use Rattle.std.proofs.lemmas.List.{get_or-take, get_or-drop, length-append, length-replicate}
+use Rattle.std.proofs.lemmas.List.{get_or-take, get_or-drop, length-append, length-replicate, get_or_append_left, take_all}
 use Rattle.std.proofs.lemmas.List.Elements.{All-take, All-drop}
 use Rattle.std.proofs.lemmas.List.Sums.{sum_by-cons}
+use Rattle.std.proofs.Math.Seq.{get_or-append_right}
 use Rattle.av_types.specs.declared.place.ChunkPos.{ChunkPos}
 use Rattle.av_types.specs.declared.place.Height.{Height}
 use Rattle.av_pack.specs.Nibbles.{nibble_at}
@@ -32,27 +33,17 @@ high_half bytes k =
 by_halves : (P : ℕ → Type 0) (j : ℕ) → P (2 * (j / 2)) → P (2 * (j / 2) + 1) → P j
 by_halves P j low high = ⊎_elim (λ h. subst P (let e : 2 * (j / 2) ≡ j = omega arith in e) low) (λ h. subst P (let e : 2 * (j / 2) + 1 ≡ j = omega arith in e) high) (cases_lt (j % 2) 1)
 
-get_or-append_left : (xs ys : List ℕ) (i : ℕ) → i < length xs → get_or (xs ++ ys) i 0 ≡ get_or xs i 0
-get_or-append_left [] ys i l = absurd (omega arith)
-get_or-append_left (x ∷ xs) ys zero l = refl
-get_or-append_left (x ∷ xs) ys (suc i) l = get_or-append_left xs ys i (omega arith)
-
-get_or-append_right : (xs ys : List ℕ) (i : ℕ) → length xs ≤ i → get_or (xs ++ ys) i 0 ≡ get_or ys (i - length xs) 0
-get_or-append_right [] ys i l = ap (λ j. get_or ys j 0) (omega arith)
-get_or-append_right (x ∷ xs) ys zero l = absurd (omega arith)
-get_or-append_right (x ∷ xs) ys (suc i) l = get_or-append_right xs ys i (omega arith) ∙ ap (λ j. get_or ys j 0) (omega arith)
-
 -- some bytes more
 pub HasLightSoFar-appended : (light : ℕ → ℕ) (bytes more : List ℕ) → HasLightSoFar light bytes → ((k : ℕ) → k < length more → get_or more k 0 % 16 ≡ light (2 * (length bytes + k)))
     → ((k : ℕ) → k < length more → get_or more k 0 / 16 ≡ light (2 * (length bytes + k) + 1)) → HasLightSoFar light (bytes ++ more)
 HasLightSoFar-appended light bytes more h low high =
     record {
       halves = λ j less. let all = length-append bytes more in by_halves (λ i. nibble_at new i ≡ light i) j
-          (⊎_elim (λ l. low_half new (j / 2) ∙ ap (λ m. m % 16) (get_or-append_left bytes more (j / 2) l) ∙ sym (low_half bytes (j / 2)) ∙ h.halves (2 * (j / 2)) (omega arith))
-          (λ l. low_half new (j / 2) ∙ ap (λ m. m % 16) (get_or-append_right bytes more (j / 2) l) ∙ low (j / 2 - length bytes) (omega (arith, all)) ∙ ap (λ m. light (2 * m)) (let g : length bytes + (j / 2 - length bytes) ≡ j / 2 = omega arith in g))
+          (⊎_elim (λ l. low_half new (j / 2) ∙ ap (λ m. m % 16) (get_or_append_left bytes more 0 (j / 2) l) ∙ sym (low_half bytes (j / 2)) ∙ h.halves (2 * (j / 2)) (omega arith))
+          (λ l. low_half new (j / 2) ∙ ap (λ m. m % 16) (get_or-append_right bytes more (j / 2) 0 l) ∙ low (j / 2 - length bytes) (omega (arith, all)) ∙ ap (λ m. light (2 * m)) (let g : length bytes + (j / 2 - length bytes) ≡ j / 2 = omega arith in g))
           (cases_lt (j / 2) (length bytes)))
-          (⊎_elim (λ l. high_half new (j / 2) ∙ ap (λ m. m / 16) (get_or-append_left bytes more (j / 2) l) ∙ sym (high_half bytes (j / 2)) ∙ h.halves (2 * (j / 2) + 1) (omega arith))
-          (λ l. high_half new (j / 2) ∙ ap (λ m. m / 16) (get_or-append_right bytes more (j / 2) l) ∙ high (j / 2 - length bytes) (omega (arith, all)) ∙ ap (λ m. light (2 * m + 1)) (let g : length bytes + (j / 2 - length bytes) ≡ j / 2 = omega arith in g))
+          (⊎_elim (λ l. high_half new (j / 2) ∙ ap (λ m. m / 16) (get_or_append_left bytes more 0 (j / 2) l) ∙ sym (high_half bytes (j / 2)) ∙ h.halves (2 * (j / 2) + 1) (omega arith))
+          (λ l. high_half new (j / 2) ∙ ap (λ m. m / 16) (get_or-append_right bytes more (j / 2) 0 l) ∙ high (j / 2 - length bytes) (omega (arith, all)) ∙ ap (λ m. light (2 * m + 1)) (let g : length bytes + (j / 2 - length bytes) ≡ j / 2 = omega arith in g))
           (cases_lt (j / 2) (length bytes)));
     }
   where
@@ -80,10 +71,10 @@ pub HasLightSoFar-dark : (light : ℕ → ℕ) (bytes : List ℕ) (n : ℕ) → 
 HasLightSoFar-dark light bytes n h dark =
     record {
       halves = λ j less. by_halves (λ i. nibble_at new i ≡ light i) j
-          (⊎_elim (λ l. low_half new (j / 2) ∙ ap (λ m. m % 16) (get_or-append_left bytes (replicate {A = ℕ} n 0) (j / 2) l) ∙ sym (low_half bytes (j / 2)) ∙ h.halves (2 * (j / 2)) (omega arith))
+          (⊎_elim (λ l. low_half new (j / 2) ∙ ap (λ m. m % 16) (get_or_append_left bytes (replicate {A = ℕ} n 0) 0 (j / 2) l) ∙ sym (low_half bytes (j / 2)) ∙ h.halves (2 * (j / 2)) (omega arith))
           (λ l. low_half new (j / 2) ∙ ap (λ m. m % 16) (get_or-append_zeros bytes n (j / 2) l) ∙ sym (dark (2 * (j / 2)) (omega arith) (omega (arith, length-zeros bytes n))))
           (cases_lt (j / 2) (length bytes)))
-          (⊎_elim (λ l. high_half new (j / 2) ∙ ap (λ m. m / 16) (get_or-append_left bytes (replicate {A = ℕ} n 0) (j / 2) l) ∙ sym (high_half bytes (j / 2)) ∙ h.halves (2 * (j / 2) + 1) (omega arith))
+          (⊎_elim (λ l. high_half new (j / 2) ∙ ap (λ m. m / 16) (get_or_append_left bytes (replicate {A = ℕ} n 0) 0 (j / 2) l) ∙ sym (high_half bytes (j / 2)) ∙ h.halves (2 * (j / 2) + 1) (omega arith))
           (λ l. high_half new (j / 2) ∙ ap (λ m. m / 16) (get_or-append_zeros bytes n (j / 2) l) ∙ sym (dark (2 * (j / 2) + 1) (omega arith) (omega (arith, length-zeros bytes n))))
           (cases_lt (j / 2) (length bytes)));
     }
@@ -91,25 +82,11 @@ HasLightSoFar-dark light bytes n h dark =
     new : List ℕ
     new = bytes ++ replicate {A = ℕ} n 0
 
-take_whole : (xs : List ℕ) (n : ℕ) → length xs ≤ n → take n xs ≡ xs
-take_whole [] zero l = refl
-take_whole [] (suc n) l = refl
-take_whole (x ∷ xs) zero l = absurd (omega arith)
-take_whole (x ∷ xs) (suc n) l = ap (λ ys. x ∷ ys) (take_whole xs n (omega arith))
-
 pub HasLightSoFar-resized : (light : ℕ → ℕ) (old new : List ℕ) (n m : ℕ) → new ≡ take n old ++ replicate (n - m) 0 → m ≡ length old → n ≡ m + 128
     → HasLightSoFar light old → ((j : ℕ) → 2 * m ≤ j → j < 2 * m + 256 → light j ≡ 0) → HasLightSoFar light new
 HasLightSoFar-resized light old new n m e is long h dark =
-    subst (HasLightSoFar light) (sym (e ∙ ap (λ xs. xs ++ replicate (n - m) 0) (take_whole old n (omega arith))))
+    subst (HasLightSoFar light) (sym (e ∙ ap (λ xs. xs ++ replicate (n - m) 0) (take_all n old (omega arith))))
     (HasLightSoFar-dark light old (n - m) h (λ j low high. dark j (omega arith) (omega arith)))
-
-pub on_ok : {T E : Type 0} {A B : Type 0} (r : Result T E) → (A → B) → OnOk r A → OnOk r B
-on_ok (Ok t) f h = f h
-on_ok (Err e) f h = tt
-
-pub on_if_ok : {T E : Type 0} {P Q : T → Type 0} (r : Result T E) → ((x : T) → P x → Q x) → IfOk r P → IfOk r Q
-on_if_ok (Ok t) f h = f t h
-on_if_ok (Err e) f h = tt
 
 -- none of a list is settled
 pub none_settled : (xs : List ℕ) → count_by (λ n. nat_le 128 n) xs ≡ 0 → (i : ℕ) → get_or xs i 0 < 128

@@ -4,7 +4,7 @@ use Rattle.std.specs.Prelude.{nat_le, count_by, All}
 use borrow.Rule.Slice.PartMut.{put_mid}
 use Rattle.std.proofs.lemmas.Bool.{cases_lt, false≢true}
 use Rattle.std.proofs.lemmas.Bool.Decides.{eqb_tells, nat_tests}
-use Rattle.std.proofs.lemmas.List.{get_or-set_same, get_or-set_other, get_or_default, get_or-append_right, get_or_append_left, get_or-take, get_or-drop, length-take-le, length-append, length-drop, take_at, take_all}
+use Rattle.std.proofs.lemmas.List.{get_or-set_same, get_or-set_other, get_or_default, get_or-append_right, get_or_append_left, get_or-take, get_or-drop, length-take-le, length-append, length-drop, take_at, take_all, get_or_past}
 use Rattle.std.proofs.lemmas.List.Sums.{sum_by-cons, sum_by-set}
 use Rattle.std.proofs.lemmas.List.Elements.{All-from_get_or}
 use Rattle.av_types.specs.declared.place.Pos.{Pos}
@@ -101,13 +101,8 @@ AreDark-fenced n light long dark =
 pub AreDark-quiet : (touched : List Bool) (n : ℕ) (light : List ℕ) → length touched ≡ n → AreDark n light → IsQuiet touched light
 AreDark-quiet touched n light long dark =
     record {
-      quiet = λ i e. dark.within i (⊎_elim (λ l. omega (arith, l, long)) (λ l. absurd (false≢true (sym e ∙ past touched (i / 1936) l))) (cases_lt (i / 1936) (length touched)));
+      quiet = λ i e. dark.within i (⊎_elim (λ l. omega (arith, l, long)) (λ l. absurd (false≢true (sym e ∙ get_or_past touched (i / 1936) true l))) (cases_lt (i / 1936) (length touched)));
     }
-  where
-    past : (xs : List Bool) (i : ℕ) → length xs ≤ i → get_or xs i true ≡ true
-    past [] i l = refl
-    past (x ∷ xs) zero l = absurd (omega arith)
-    past (x ∷ xs) (suc i) l = past xs i (omega arith)
 
 -- a layer made dark
 record IsDarkened (light light' : List ℕ) (s : ℕ) : Type 0 where
@@ -205,11 +200,6 @@ count_low (x ∷ xs) h =
 pub dim_low : (xs : List ℕ) → ((i : ℕ) → get_or xs i 0 < 128) → All (λ n. n < 144) xs
 dim_low xs h = All-from_get_or (λ n. n < 144) xs 0 (λ i less. let e = h i in omega arith)
 
-past_end : (xs : List ℕ) (i : ℕ) → length xs ≤ i → get_or xs i 0 ≡ 0
-past_end [] i l = refl
-past_end (x ∷ xs) zero l = absurd (omega arith)
-past_end (x ∷ xs) (suc i) l = past_end xs i (omega arith)
-
 -- one byte set, and how many are settled
 abbrev weight : ℕ → ℕ
 weight n = cond (nat_le 128 n) 1 0
@@ -255,7 +245,7 @@ count_between (x ∷ xs) a b low = on (nat_le 128 x) refl (sum_by-cons (λ n. co
 pub count_within : (n : ℕ) (light : List ℕ) → IsFenced (n + 1936) light → count_by (λ m. nat_le 128 m) light ≤ n
 count_within n light fenced = let few = count_between light 1936 (n + 1936) beside in omega (arith, few) where
   beside : (i : ℕ) → (i < 1936) ⊎ (n + 1936 ≤ i) → get_or light i 0 < 128
-  beside i b = ⊎_elim (λ l. let e = get_or_default light i 0 64 l in let f = fenced.beside i b in omega (arith, e, f)) (λ l. let e = past_end light i l in omega (arith, e)) (cases_lt i (length light))
+  beside i b = ⊎_elim (λ l. let e = get_or_default light i 0 64 l in let f = fenced.beside i b in omega (arith, e, f)) (λ l. let e = get_or_past light i 0 l in omega (arith, e)) (cases_lt i (length light))
 
 -- all layers are dark
 module _ (touched : List Bool) (light : List ℕ) (n m : ℕ) (quiet : IsQuiet touched light) (fenced : IsFenced (1936 * n + 1936) light) (done : (s : ℕ) → s < m → get_or touched s true ≡ false)
@@ -270,7 +260,7 @@ module _ (touched : List Bool) (light : List ℕ) (n m : ℕ) (quiet : IsQuiet t
   pub all_low : (i : ℕ) → get_or light i 0 < 128
   all_low i =
       ⊎_elim (λ l. ⊎_elim (λ a. beside i l (inl a)) (λ a. ⊎_elim (λ b. let e = dark_within i a b in let f = apart_most i in omega (arith, e, f)) (λ b. beside i l (inr b)) (cases_lt i (1936 * n + 1936))) (cases_lt i 1936))
-      (λ l. let e = past_end light i l in omega (arith, e)) (cases_lt i (length light))
+      (λ l. let e = get_or_past light i 0 l in omega (arith, e)) (cases_lt i (length light))
     where
       beside : (i : ℕ) → i < length light → IsBeside (1936 * n + 1936) i → get_or light i 0 < 128
       beside i l b = let e = get_or_default light i 0 64 l in let f = fenced.beside i b in omega (arith, e, f)

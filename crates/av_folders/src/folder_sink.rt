@@ -3,9 +3,11 @@ ghost use Rattle.std.specs.Prelude.{option_map, string_bytes};
 ghost use Rattle.av_sink.specs.Account.{IsFresh};
 ghost use Rattle.av_folders.specs.Folders.{folder_account};
 
+use crate::holding::LockFiles;
 use crate::system_folder::SystemFolder;
+use crate::tidying::hold_if_free;
 use av_commands::names::region_of_name;
-use av_exchange::{Folder, JOURNAL, close, place, place_alone, repair, stage, sweep};
+use av_exchange::{Folder, JOURNAL, close, place, place_alone, repair, stage, sweep, unstage};
 use av_sink::{FailedFile, OutputFolder, Repair, Sink, SinkFailed, Teller};
 use std::alloc::{AllocError, Global};
 use std::io::{self, ErrorKind};
@@ -42,8 +44,28 @@ fn write_region<R: Files + AllocGlobal + Clone + Drop>(
     written
 }
 
+/// Writes a file of a folder under another name, and gives it its own once it is whole. Where this fails the file that was there stays.
+/// What a call that was cut off has left of it goes first, if no other process works on the folder.
+fn write_alone<R: LockFiles + AllocGlobal + Clone + Drop>(
+    rt: &R,
+    folder: &mut SystemFolder<'_, R>,
+    name: &str,
+    bytes: &[u8],
+) -> io::Result<()> {
+    let held = hold_if_free(rt, folder.own_path())?;
+    if held.is_some() {
+        unstage(rt.alloc(), folder, name)?;
+    }
+    stage(rt.alloc(), folder, name, bytes)?;
+    let placed = place_alone(rt.alloc(), folder, name);
+    if placed.is_err() {
+        let _ = unstage(rt.alloc(), folder, name);
+    }
+    placed
+}
+
 /// Writes a file of a folder. One of a region waits for its place, and its name is noted.
-fn write<R: Files + AllocGlobal + Clone + Drop>(
+fn write<R: LockFiles + AllocGlobal + Clone + Drop>(
     rt: &R,
     folder: &Option<String>,
     names: &mut Vec<String>,
@@ -54,12 +76,12 @@ fn write<R: Files + AllocGlobal + Clone + Drop>(
     if region_of_name(rt.alloc(), name)?.is_some() {
         return write_region(rt.alloc(), &mut folder, names, name, bytes);
     }
-    write_alone(rt.alloc(), &mut folder, name, bytes)
+    write_alone(rt, &mut folder, name, bytes)
 }
 
-/// A folder that files are written to. Those of regions take their places all or none; any other file takes its own at once. A file that has
-/// its bytes already is left alone. What is a link in the place of a file is not written to. Want of memory for a path is a failed write
-/// too, as is each write before the folder is opened.
+/// A folder that files are written to. Those of regions take their places all or none; any other file takes its own at once. A region's
+/// file that has its bytes already is left alone. What is a link in the place of a file is not written to. Want of memory for a path is a
+/// failed write too, as is each write before the folder is opened.
 #[derive(Drop)]
 pub struct FolderSink<'a, R> {
     rt: &'a R,
@@ -71,17 +93,6 @@ pub struct FolderSink<'a, R> {
     handed: u64,
     is_placed: bool,
     failed: Option<FailedFile>,
-}
-
-/// Writes a file of a folder under another name, and gives it its own once it is whole. Where this fails the file that was there stays.
-fn write_alone<F: Folder>(
-    alloc: Global,
-    folder: &mut F,
-    name: &str,
-    bytes: &[u8],
-) -> io::Result<()> {
-    stage(alloc, folder, name, bytes)?;
-    place_alone(alloc, folder, name)
 }
 
 /// Lets files that were written take their places. Where they can't begin to they are taken away.
@@ -110,7 +121,7 @@ fn failed_file(
     })
 }
 
-impl<'a, R: Files + AllocGlobal + Clone + Drop> FolderSink<'a, R> {
+impl<'a, R: LockFiles + AllocGlobal + Clone + Drop> FolderSink<'a, R> {
     /// A folder that is not opened yet.
     pub fn new(rt: &'a R) -> FolderSink<'a, R>
         ensures { IsFresh (⟦<FolderSink<'a, R> as Sink>⟧.account result) }
@@ -154,7 +165,7 @@ impl<'a, R: Files + AllocGlobal + Clone + Drop> FolderSink<'a, R> {
     }
 }
 
-impl<'a, R: Files + AllocGlobal + Clone + Drop> Sink for FolderSink<'a, R> {
+impl<'a, R: LockFiles + AllocGlobal + Clone + Drop> Sink for FolderSink<'a, R> {
     ghost account = { λ s. folder_account (option_map string_bytes s.folder) s.repaired s.failures s.handed s.is_placed };
 
     fn failures(&self) -> u64 {
@@ -180,7 +191,7 @@ impl<'a, R: Files + AllocGlobal + Clone + Drop> Sink for FolderSink<'a, R> {
     }
 }
 
-impl<'a, R: Files + AllocGlobal + Clone + Drop> OutputFolder for FolderSink<'a, R> {
+impl<'a, R: LockFiles + AllocGlobal + Clone + Drop> OutputFolder for FolderSink<'a, R> {
     fn open(&mut self, folder: &str) -> Result<(), AllocError> {
         self.folder = Some(String::from_str(self.rt.alloc(), folder)?);
         Ok(())

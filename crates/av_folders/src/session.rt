@@ -13,10 +13,6 @@ use std::rt::Files;
 /// The file of a world that the game locks while it has the world open.
 const SESSION: &str = "session.lock";
 
-/// How many folders above that of the region files may be the world's: that of the world, whose folder `region` it is, or that of one of
-/// its dimensions, as `DIM-1`.
-const LEVELS: usize = 2;
-
 /// What is said of a file that the game holds, where it does.
 fn held_text<R: Files + AllocGlobal>(rt: &R, session: Path<'_>) -> Option<String> {
     let found = fs::metadata(rt, session).ok()?;
@@ -46,22 +42,22 @@ fn real_path<R: Files + AllocGlobal>(rt: &R, folder: &str) -> Option<PathBuf> {
     fs::canonicalize(rt, folder).ok()
 }
 
-/// Looks whether the game has the world open that a folder of region files is of.
+/// Looks whether the game has the world open that a folder of region files is of: of one whose folder lies above, since a dimension's can
+/// lie deep in its world, as `dimensions/PACK/NAME/region`.
 fn look_for_game<R: Files + AllocGlobal>(rt: &R, folder: &str) -> Result<(), Failure>
     ensures { IfErr result (λ e. IsSessionFault e.fault) }
 {
     let Some(real) = real_path(rt, folder) else {
         return Ok(());
     };
-    for above in real.ancestors().skip(1).take(LEVELS) {
+    for above in real.ancestors().skip(1) {
         look_in(rt, above)?;
     }
     Ok(())
 }
 
 /// Holds a folder for a run, as `hold_folder` does, and looks whether the game has the world open that it is of, unless that is no matter:
-/// whether a process has locked `session.lock` in the folder above it or in the one above that. What the system does not list is
-/// not seen.
+/// whether a process has locked `session.lock` in a folder above it. What the system does not list is not seen.
 ///
 /// # Errors
 /// Those of `hold_folder`; `Device` with the path of `session.lock`, where that is locked; and want of memory.

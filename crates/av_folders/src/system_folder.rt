@@ -26,7 +26,7 @@ impl<'a, R: Files + AllocGlobal + Clone + Drop> SystemFolder<'a, R> {
     }
 
     /// The folder's own path, which is that of the folder in which this process works where it is empty.
-    fn own_path(&self) -> &str {
+    pub(crate) fn own_path(&self) -> &str {
         if self.path.is_empty() {
             "."
         } else {

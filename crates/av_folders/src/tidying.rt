@@ -37,7 +37,7 @@ fn traces_in(names: &[String]) -> Traces {
 }
 
 /// Locks a folder, unless another process holds it. Where its file system has no locks it is as if it did.
-fn hold_if_free<R: LockFiles>(rt: &R, folder: &str) -> io::Result<Option<R::File>> {
+pub(crate) fn hold_if_free<R: LockFiles>(rt: &R, folder: &str) -> io::Result<Option<R::File>> {
     let opened = fs::open(rt, folder)?;
     match R::try_lock(&opened) {
         Err(TryLockError::WouldBlock) => Ok(None),

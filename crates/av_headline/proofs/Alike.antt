@@ -1,6 +1,6 @@
 -- Two runs of one input.
-use Rattle.std.proofs.Common.{◌≡◌, ◌∙◌, ℕ, ℤ, List, length, true, Some, ap, sym, subst}
-use Rattle.std.proofs.lemmas.Option.{none-some}
+use Rattle.std.proofs.Common.{◌≡◌, ◌∙◌, ℕ, ℤ, List, length, true, ap, sym, subst}
+use Rattle.std.proofs.lemmas.Option.{none-some, same_Some}
 use Rattle.av_types.specs.Places.{is_section_of}
 use Rattle.av_types.specs.declared.place.ChunkPos.{ChunkPos}
 use Rattle.av_types.specs.declared.place.Height.{Height}
@@ -26,13 +26,10 @@ use Rattle.av_files.proofs.Unique.{denote_one}
 use Rattle.av_headline.specs.Answers.{OneAnswer, OneRefusal, AnswerOrRefusal}
 use Rattle.av_headline.proofs.SameFiles.{same_layout, same_too_large}
 
-same_some : {A : Type 0} (x y : A) → Some x ≡ Some y → x ≡ y
-same_some x y h = cc
-
 -- ---- the table and its height
 
 pub rules_one : (text : List ℕ) (t u : BlockTable) (h g : Height) → IsTable text t h → IsTable text u g → t ≡ u
-rules_one text t u h g a b = same_some t u (sym a.spelled ∙ b.spelled)
+rules_one text t u h g a b = same_Some t u (sym a.spelled ∙ b.spelled)
 
 -- ---- what a run leaves in its place
 
@@ -102,7 +99,7 @@ large_one files table edits n k p q a b =
     let rules = rules_one table b.rules a.rules b.height a.height b.reaches.accepted.rules is in
     let other_run = reaches_at files table edits n k b.rest a.rules b.rules a.height b.height b.reached b.light b.turns b.chunks is b.reaches in
     let same = alike_at files table edits n k k a.rules a.height a.rest b.rest a.reached b.reached a.light b.light a.turns b.turns a.chunks b.chunks a.reaches other_run in
-    same_some p q (sym a.first ∙ (same.large ∙ (ap (λ t. too_large t b.reached b.rest b.light n) (sym rules) ∙ b.first)))
+    same_Some p q (sym a.first ∙ (same.large ∙ (ap (λ t. too_large t b.reached b.rest b.light n) (sym rules) ∙ b.first)))
 
 large_not : (files : List File) (table edits : List ℕ) (n k : ℕ) (out : List File) (c x : ℕ) (q : ChunkPos) → Headline files table edits n k out c x → IsTooLarge files table edits n k q → ⊥
 large_not files table edits n k out c x q a b =

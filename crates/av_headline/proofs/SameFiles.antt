@@ -2,6 +2,8 @@
 use Rattle.std.proofs.Common.{◌≡◌, ◌∙◌, ℕ, ◌<◌, ℤ, List, [], ◌∷◌, ◌++◌, Bool, true, false, ◌||◌, cond, Some, refl, ap, arith}
 use Rattle.std.specs.Prelude.{map, codes, option_map}
 use Rattle.std.specs.List.{AllByRecursion, list_any}
+use Rattle.std.proofs.Math.Bool.{or-true}
+use Rattle.av_document.proofs.Inside.{map_range_agree}
 use Rattle.av_types.specs.Places.{chunk_at, is_section_of}
 use Rattle.av_types.specs.declared.place.Pos.{Pos}
 use Rattle.av_types.specs.declared.place.ChunkPos.{ChunkPos}
@@ -10,7 +12,7 @@ use Rattle.av_types.specs.declared.place.Height.{Height}
 use Rattle.av_types.specs.declared.tick.Entry.{Entry}
 use Rattle.av_types.proofs.Coordinates.{region_back}
 use Rattle.av_files.proofs.Coordinates.{same_region-refl}
-use Rattle.av_files.proofs.SameLayout.{map_range, payload_if}
+use Rattle.av_files.proofs.SameLayout.{payload_if}
 use Rattle.av_tags.specs.Nbt.{members_of}
 use Rattle.av_tags.specs.Place.{with_tag}
 use Rattle.av_nbt.specs.Writing.{written_document}
@@ -62,12 +64,12 @@ module _ (t : BlockTable) (w v : Land BlockState) (r s : Rest) (l m : Lights) (n
 
   payloads_same : (region : RegionPos) → list_any (same_region region) r.regions ≡ true → payloads sources v r l n region ≡ payloads sources v s m n region
   payloads_same region found =
-      map_range (λ i. payload_of sources v r l n (chunk_at region i)) (λ i. payload_of sources v s m n (chunk_at region i)) 0 1024 (λ i less. payload_same region found i (omega arith))
+      map_range_agree (λ i. payload_of sources v r l n (chunk_at region i)) (λ i. payload_of sources v s m n (chunk_at region i)) 0 1024 (λ i less. payload_same region found i (omega arith))
 
   file_same : (region : RegionPos) → list_any (same_region region) r.regions ≡ true → file_layout sources v r l n region ≡ file_layout sources v s m n region
   file_same region found =
       let p = payloads_same region found in
-      let q = map_range (r.stamp region) (s.stamp region) 0 1024 (λ i less. same.stamps region found i (omega arith)) in
+      let q = map_range_agree (r.stamp region) (s.stamp region) 0 1024 (λ i less. same.stamps region found i (omega arith)) in
       λ j. record { pos = region; bytes = region_bytes (p j) (q j) }
 
   large_same : (region : RegionPos) → list_any (same_region region) r.regions ≡ true
@@ -76,15 +78,11 @@ module _ (t : BlockTable) (w v : Land BlockState) (r s : Rest) (l m : Lights) (n
 
   -- ---- all regions
 
-  or_true : (b : Bool) → (b || true) ≡ true
-  or_true true = refl
-  or_true false = refl
-
   -- each region of a list is found there
   members : (rs : List RegionPos) → ((x : RegionPos) → list_any (same_region x) rs ≡ true → list_any (same_region x) r.regions ≡ true) → AllByRecursion (λ x. list_any (same_region x) r.regions ≡ true) rs
   members [] h = tt
   members (x ∷ xs) h =
-      (h x (ap (λ b. b || list_any (same_region x) xs) (same_region-refl x)), members xs (λ y e. h y (ap (λ b. same_region y x || b) e ∙ or_true (same_region y x))))
+      (h x (ap (λ b. b || list_any (same_region x) xs) (same_region-refl x)), members xs (λ y e. h y (ap (λ b. same_region y x || b) e ∙ or-true (same_region y x))))
 
   files_from : (rs : List RegionPos) → AllByRecursion (λ x. list_any (same_region x) r.regions ≡ true) rs → map (file_layout sources v r l n) rs ≡ map (file_layout sources v s m n) rs
   files_from [] h = refl

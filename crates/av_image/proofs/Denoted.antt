@@ -3,15 +3,13 @@ use Rattle.std.proofs.Common.{◌≡◌, ◌∙◌, ℕ, suc, zero, ◌+◌, ◌
 use Rattle.std.specs.Prelude.{slice_get, slice_index_or}
 use Rattle.std.specs.List.{AllByRecursion, list_any, flat_map}
 use Rattle.std.specs.Ordering.{is_lt}
-use Rattle.std.proofs.lemmas.Bool.{and_parts, false≢true, true≢false}
-use Rattle.std.proofs.lemmas.Option.{none-some, same_Some, slice_get_within}
+use Rattle.std.proofs.lemmas.Bool.{and_parts, false≢true, or_right, or_parts}
+use Rattle.std.proofs.lemmas.Option.{none-some, same_Some, slice_get_within, get_or_from_slice_get}
 use Rattle.std.proofs.lemmas.List.{length-map}
 use Rattle.std.proofs.lemmas.List.FromFn.{length-map-range_with_len}
-use Rattle.av_types.specs.Places.{chunk_at, region_of, index_of, section_of, chunk_of, is_block_of, IsInLimits}
+use Rattle.av_types.specs.Places.{chunk_at, region_of, index_of, section_of, chunk_of, is_block_of, IsInLimits, place_of, section_index}
 use Rattle.av_types.specs.declared.place.Height.{Height}
-use Rattle.av_types.specs.Places.{place_of}
 use Rattle.av_types.specs.Division.{divided}
-use Rattle.av_chunk.specs.Rest.{offset_of}
 use Rattle.av_cells.specs.Grid.{number_in as number_in_filling}
 use Rattle.av_world.specs.Sections.{filling_in}
 use Rattle.av_world.specs.Views.{grid}
@@ -25,7 +23,7 @@ use Rattle.av_state.specs.BlockState.{BlockState, air}
 use Rattle.av_chunk.specs.declared.chunk.Chunk.{Chunk}
 use Rattle.av_world.specs.declared.worlds.World.{World}
 use Rattle.av_land.specs.Land.{has_chunk, is_loaded}
-use Rattle.av_ticks.specs.Order.{inserted, ordered}
+use Rattle.av_types.specs.Order.{inserted, ordered}
 use Rattle.av_files.specs.Files.{File, in_order, chunks_rise, regions_rise, region_after}
 use Rattle.av_region_files.specs.Regions.{region_order, same_region}
 use Rattle.av_files.specs.Run.{stated}
@@ -71,10 +69,6 @@ pub record Tells (whole : List RegionRest) (found : List Placed) (rs : List Read
 few_of : (h : Height) (t : List BlockState) (f : File) (r : ReadRegion) → WasRegionRead h t f r → 0 + length r.places.items ≤ 1024
 few_of h t f r w = omega (arith, w.places_are.many)
 
-or_right : (a b : Bool) → b ≡ true → (a || b) ≡ true
-or_right true b e = refl
-or_right false b e = e
-
 tells_rest : (h : Height) (t : List BlockState) (whole : List RegionRest) (found : List Placed) (f : File) (r : ReadRegion) (x : RegionRest) (rs : List ReadRegion) (xs : List RegionRest)
     → WasRegionRead h t f r → IsSplit r x → NotAgain x.pos (map (λ x. x.pos) xs) → Tells whole found (r ∷ rs) (x ∷ xs) → Tells whole found rs xs
 tells_rest h t whole found f r x rs xs w s n tells = record {
@@ -92,10 +86,7 @@ found_elsewhere h t [] [] [] w s c e = refl
 found_elsewhere h t (f ∷ fs) (r ∷ rs) (x ∷ xs) w s c e =
     let parts = or_parts (same_region (region_of c) x.pos) (list_any (same_region (region_of c)) (map (λ x. x.pos) xs)) e in
     let away : same_region r.pos (region_of c) ≡ false = ap (λ p. same_region p (region_of c)) (sym s.0.pos_is) ∙ other_region (region_of c) x.pos parts.0 in
-    found_none_of (placed_in r) (flat_map placed_in rs) c (found_away r.pos 0 r.places.items c (few_of h t f r w.0) away) ∙ found_elsewhere h t fs rs xs w.1 s.1 c parts.1 where
-      or_parts : (a b : Bool) → (a || b) ≡ false → (a ≡ false) × (b ≡ false)
-      or_parts true b k = absurd (true≢false k)
-      or_parts false b k = (refl, k)
+    found_none_of (placed_in r) (flat_map placed_in rs) c (found_away r.pos 0 r.places.items c (few_of h t f r w.0) away) ∙ found_elsewhere h t fs rs xs w.1 s.1 c parts.1
 found_elsewhere h t [] [] (x ∷ xs) w s c e = absurd s
 found_elsewhere h t [] (r ∷ rs) xs w s c e = absurd w
 found_elsewhere h t (f ∷ fs) [] xs w s c e = absurd w
@@ -112,11 +103,6 @@ pub get_within : {X : Type 0} (xs : List X) (i : ℕ) → i < length xs → (x :
 get_within [] i lt = absurd (omega (arith, lt))
 get_within (x ∷ xs) zero lt = (x, refl)
 get_within (x ∷ xs) (suc i) lt = get_within xs i (omega (arith, lt))
-
-index_or : {X : Type 0} (xs : List X) (i : ℕ) (x d : X) → slice_get xs i ≡ Some x → slice_index_or xs i d ≡ x
-index_or [] i x d e = absurd (none-some x e)
-index_or (y ∷ xs) zero x d e = same_Some y x e
-index_or (y ∷ xs) (suc i) x d e = index_or xs i x d e
 
 -- each place has its chunk in the world, or none
 has_place : (h : Height) (t : List BlockState) (whole : List RegionRest) (found : List Placed) (w : World) (f : File) (r : ReadRegion) (x : RegionRest) (rs : List ReadRegion) (xs : List RegionRest)
@@ -141,7 +127,7 @@ file_denoted : (h : Height) (t : List BlockState) (whole : List RegionRest) (fou
 file_denoted h t whole found w f r x rs xs has was split tells alone = record {
   limits = was.limits;
   whole = was.whole;
-  stamps = λ i lt. ap (λ o. stamp_in o i) here ∙ (ap (λ l. slice_index_or l i 0) (split.stamps_are ∙ was.stamps_are) ∙ index_or (are_stamps f.bytes 1024) i (stamp_of f.bytes i) 0 (made_at (stamp_of f.bytes) i lt));
+  stamps = λ i lt. ap (λ o. stamp_in o i) here ∙ (ap (λ l. slice_index_or l i 0) (split.stamps_are ∙ was.stamps_are) ∙ get_or_from_slice_get (are_stamps f.bytes 1024) i (stamp_of f.bytes i) 0 (made_at (stamp_of f.bytes) i lt));
   slots = λ i lt. slot i lt;
 } where
   pos_is : x.pos ≡ f.pos
@@ -274,7 +260,7 @@ zero_elsewhere h w found has p out = by (chunk_found found (chunk_of p)) (has.ea
       let off : is_block_of w.height p.y ≡ false = high (has_chunk w.positions.items (chunk_of p)) (is_block_of w.height p.y) q.0 out in
       let off' : is_block_of h p.y ≡ false = ap (λ k. is_block_of k p.y) (sym has.height_is) ∙ off in
       ap (λ f. number_in_filling f (place_of p)) (q.1 (section_of p) refl)
-      ∙ ap (λ b. number_in_filling (filling_in (cond b (slice_index_or x.sections.items (offset_of h (divided p.y 16)) None) None)) (place_of p)) off'
+      ∙ ap (λ b. number_in_filling (filling_in (cond b (slice_index_or x.sections.items (section_index h (divided p.y 16)) None) None)) (place_of p)) off'
 
 air_first : (t : List BlockState) (s : List BlockState) (n : ℕ) → take 10 t ≡ air ∷ s → n ≡ 0 → slice_index_or t n air ≡ air
 air_first [] s n e z = refl

@@ -1,14 +1,15 @@
 -- What was read by a table that gained no state of it, is read so by a longer one.
-use Rattle.std.proofs.Common.{◌≡◌, ◌∙◌, ℕ, ◌≤◌, nat_lt, List, [], ◌∷◌, ◌++◌, length, Bool, true, false, ◌&&◌, cond, Option, Some, None, IsSome, refl, ap, sym, subst}
+use Rattle.std.proofs.Common.{◌≡◌, ◌∙◌, ℕ, ◌≤◌, nat_lt, List, [], ◌∷◌, ◌++◌, length, true, false, ◌&&◌, cond, Option, Some, None, IsSome, refl, ap, sym, subst}
 use Rattle.std.specs.Prelude.{slice_get, IfSome}
 use Rattle.std.specs.List.{AllByRecursion}
-use Rattle.std.proofs.lemmas.Bool.{true≢false, le-ltb}
+use Rattle.std.proofs.lemmas.Bool.{true≢false, le-ltb, and_right}
 use Rattle.av_types.specs.Faults.{least}
 use Rattle.av_types.specs.declared.place.Pos.{Pos}
 use Rattle.av_types.specs.declared.place.ChunkPos.{ChunkPos}
 use Rattle.av_types.specs.declared.place.Height.{Height}
 use Rattle.av_tags.specs.Nbt.{Document, NamedTag}
-use Rattle.av_tags.specs.Shape.{◌>>=◌, or_else}
+use Rattle.av_types.specs.Options.{◌>>=◌}
+use Rattle.av_tags.specs.Shape.{or_else}
 use Rattle.av_state.specs.BlockState.{BlockState, air}
 use Rattle.av_state.specs.StateList.{with_states, most_states}
 use Rattle.av_state.proofs.Numbering.{number_in-any, number_in-append, slice_get-append}
@@ -45,10 +46,6 @@ gains_none old new ss more same =
 
 few_enough : (t ss : List BlockState) → t ≡ with_states t ss → length t ≤ most_states → nat_lt most_states (length (with_states t ss)) ≡ false
 few_enough t ss same few = ap (λ l. nat_lt most_states (length l)) (sym same) ∙ le-ltb most_states (length t) few
-
-and_false : (a b : Bool) → b ≡ false → (a && b) ≡ false
-and_false true b e = e
-and_false false b e = refl
 
 fault_same : (h : Height) (c : ChunkPos) (old new : List BlockState) (root : List NamedTag) → first_fault h c old root ≡ None → has_too_many h new root ≡ false → first_fault h c new root ≡ None
 fault_same h c old new root none few =
@@ -88,7 +85,7 @@ module _ (c : ChunkPos) (h : Height) (d : Document) (old new : List BlockState) 
   reading_grown (Full chunk rest) l =
       let same = gains_none old new (all_states h (root_tags d)) more l.states in
       record {
-        no_fault = fault_same h c old new (root_tags d) l.no_fault (and_false (is_full (root_tags d)) (nat_lt most_states (length (with_states new (all_states h (root_tags d))))) (few_enough new (all_states h (root_tags d)) same few));
+        no_fault = fault_same h c old new (root_tags d) l.no_fault (and_right (is_full (root_tags d)) (nat_lt most_states (length (with_states new (all_states h (root_tags d))))) (few_enough new (all_states h (root_tags d)) same few));
         denotes = denotes_same chunk _ (rest_of rest) l.numbered l.denotes;
         numbered = λ p inside. subst IsSome (sym (state_same h chunk p old new more (l.numbered p inside))) (l.numbered p inside);
         whole = l.whole;

@@ -4,7 +4,7 @@ use Rattle.std.specs.Prelude.{slice_get, slice_index_or}
 use Rattle.std.specs.List.{AllByRecursion, list_any, flat_map}
 use Rattle.std.specs.Ordering.{is_lt}
 use Rattle.std.specs.declared.cmp.Ordering.{Ordering}
-use Rattle.std.proofs.lemmas.Bool.{and_parts, and_from, false≢true, true≢false}
+use Rattle.std.proofs.lemmas.Bool.{and_parts, and_from, false≢true, true≢false, or_parts}
 use Rattle.std.proofs.lemmas.Option.{none-some, same_Some}
 use Rattle.av_types.specs.Places.{chunk_at, region_of, section_of, chunk_of, is_block_of, IsInLimits}
 use Rattle.av_types.specs.declared.place.Height.{Height}
@@ -19,12 +19,15 @@ use Rattle.std.specs.Ordering.{int_eq}
 use Rattle.std.proofs.lemmas.Bool.Decides.{Decides-int_eq}
 use Rattle.std.proofs.lemmas.Option.{slice_get_within}
 use Rattle.std.proofs.lemmas.List.{length-append}
+use Rattle.std.proofs.lemmas.List.Elements.{All-cons, All-from_recursion}
+use Rattle.av_types.proofs.Each.{each_then, each_append}
 use Rattle.av_types.specs.Division.{divided}
 use Rattle.av_types.specs.Places.{place_of, is_section_of}
 use Rattle.av_types.proofs.Coordinates.{region_back}
 use Rattle.av_types.proofs.SamePlaces.{same_chunk_is}
 use Rattle.av_tags.specs.Nbt.{Document}
-use Rattle.av_tags.specs.Shape.{or_else, ◌>>=◌}
+use Rattle.av_types.specs.Options.{◌>>=◌}
+use Rattle.av_tags.specs.Shape.{or_else}
 use Rattle.av_section.specs.Section.{number_at, is_pending as is_pending_at}
 use Rattle.av_section.specs.declared.section.Section.{Section}
 use Rattle.av_section.specs.Reading.{OnlyGrows}
@@ -39,7 +42,7 @@ use Rattle.av_world.specs.Sections.{filling_in}
 use Rattle.av_world.specs.Inserted.{chunk_grid}
 use Rattle.av_world.specs.Inserted.{IsNewChunk}
 use Rattle.av_world.specs.declared.worlds.World.{World}
-use Rattle.av_ticks.specs.Order.{inserted, ordered}
+use Rattle.av_types.specs.Order.{inserted, ordered}
 use Rattle.av_files.specs.Files.{File, in_order, regions_rise, region_after, share_a_region}
 use Rattle.av_region_files.specs.Regions.{region_order, same_region}
 use Rattle.av_files.specs.FirstFault.{AllInLimits}
@@ -66,23 +69,15 @@ use Rattle.av_image.proofs.Rises.{not_later_region, region_total}
 
 -- ---- limits and counts of regions that were read
 
-all_cons : {X : Type 0} (P : X → Type 0) (x : X) (xs : List X) → P x → All P xs → All P (x ∷ xs)
-all_cons P x xs h hs zero d lt = h
-all_cons P x xs h hs (suc k) d lt = hs k d (omega (arith, lt))
-
-all_of : {X : Type 0} (P : X → Type 0) (xs : List X) → AllByRecursion P xs → All P xs
-all_of P [] h = λ k d lt. absurd (omega (arith, lt))
-all_of P (x ∷ xs) h = all_cons P x xs h.0 (all_of P xs h.1)
-
 pub limits_of : (h : Height) (t : List BlockState) (fs : List File) (rs : List ReadRegion) → WereRegionsRead h t fs rs → All (λ r. IsInLimits r.pos) rs
 limits_of h t [] [] w = λ k d lt. absurd (omega (arith, lt))
-limits_of h t (f ∷ fs) (r ∷ rs) w = all_cons (λ r. IsInLimits r.pos) r rs (subst IsInLimits (sym w.0.pos_is) w.0.limits) (limits_of h t fs rs w.1)
+limits_of h t (f ∷ fs) (r ∷ rs) w = All-cons (λ r. IsInLimits r.pos) r rs (subst IsInLimits (sym w.0.pos_is) w.0.limits) (limits_of h t fs rs w.1)
 limits_of h t [] (r ∷ rs) w = absurd w
 limits_of h t (f ∷ fs) [] w = absurd w
 
 pub counts_of : (h : Height) (t : List BlockState) (fs : List File) (rs : List ReadRegion) → WereRegionsRead h t fs rs → All (λ r. length r.places.items ≤ 1024) rs
 counts_of h t [] [] w = λ k d lt. absurd (omega (arith, lt))
-counts_of h t (f ∷ fs) (r ∷ rs) w = all_cons (λ r. length r.places.items ≤ 1024) r rs (let e = w.0.places_are.many in omega (arith, e)) (counts_of h t fs rs w.1)
+counts_of h t (f ∷ fs) (r ∷ rs) w = All-cons (λ r. length r.places.items ≤ 1024) r rs (let e = w.0.places_are.many in omega (arith, e)) (counts_of h t fs rs w.1)
 counts_of h t [] (r ∷ rs) w = absurd w
 counts_of h t (f ∷ fs) [] w = absurd w
 
@@ -148,29 +143,21 @@ good_from h t f r n (Full chunk rest ∷ ps) some low is few each =
       good_from h t f r (n + 1) ps some low is (omega (arith, few)) (shift h t f n (Full chunk rest) ps each),
     )
 
-all_append : {X : Type 0} (P : X → Type 0) (xs ys : List X) → AllByRecursion P xs → AllByRecursion P ys → AllByRecursion P (xs ++ ys)
-all_append P [] ys h k = k
-all_append P (x ∷ xs) ys h k = (h.0, all_append P xs ys h.1 k)
-
 -- each chunk that was found is one that a world takes
 pub placed_good : (h : Height) (t : List BlockState) (fs : List File) (rs : List ReadRegion) → 0 < length t → WereRegionsRead h t fs rs → AllByRecursion (IsGoodPlaced h t) (flat_map placed_in rs)
 placed_good h t [] [] some w = tt
 placed_good h t (f ∷ fs) (r ∷ rs) some w =
-    all_append (IsGoodPlaced h t) (placed_in r) (flat_map placed_in rs)
+    each_append (IsGoodPlaced h t) (placed_in r) (flat_map placed_in rs)
     (good_from h t f r.pos 0 r.places.items some (subst IsInLimits (sym w.0.pos_is) w.0.limits) w.0.pos_is (let k = w.0.places_are.many in omega (arith, k)) (λ k p e. let z : k ≡ 0 + k = omega arith in subst (λ j. WasPlaceRead h t f.bytes (chunk_at f.pos j) j p) z (w.0.places_are.each k p e)))
     (placed_good h t fs rs some w.1)
 placed_good h t [] (r ∷ rs) some w = absurd w
 placed_good h t (f ∷ fs) [] some w = absurd w
 
-all_weak : {X : Type 0} (P Q : X → Type 0) (xs : List X) → ((x : X) → P x → Q x) → AllByRecursion P xs → AllByRecursion Q xs
-all_weak P Q [] f h = tt
-all_weak P Q (x ∷ xs) f h = (f x h.0, all_weak P Q xs f h.1)
-
 pub placed_limits : (h : Height) (t : List BlockState) (fs : List File) (rs : List ReadRegion) → 0 < length t → WereRegionsRead h t fs rs → All (λ x. IsInLimits (region_of x.at)) (ordered placed_order (flat_map placed_in rs))
-placed_limits h t fs rs some w = all_of _ _ (all_weak (IsGoodPlaced h t) (λ x. IsInLimits (region_of x.at)) _ (λ x g. g.limits) (all_ordered (IsGoodPlaced h t) placed_order (flat_map placed_in rs) (placed_good h t fs rs some w)))
+placed_limits h t fs rs some w = All-from_recursion _ _ (each_then (IsGoodPlaced h t) (λ x. IsInLimits (region_of x.at)) (λ x g. g.limits) _ (all_ordered (IsGoodPlaced h t) placed_order (flat_map placed_in rs) (placed_good h t fs rs some w)))
 
 pub placed_fit : (h : Height) (t : List BlockState) (fs : List File) (rs : List ReadRegion) → 0 < length t → WereRegionsRead h t fs rs → All (λ x. IsNewChunk x.at h x.chunk) (ordered placed_order (flat_map placed_in rs))
-placed_fit h t fs rs some w = all_of _ _ (all_weak (IsGoodPlaced h t) (λ x. IsNewChunk x.at h x.chunk) _ (λ x g. g.fits) (all_ordered (IsGoodPlaced h t) placed_order (flat_map placed_in rs) (placed_good h t fs rs some w)))
+placed_fit h t fs rs some w = All-from_recursion _ _ (each_then (IsGoodPlaced h t) (λ x. IsNewChunk x.at h x.chunk) (λ x g. g.fits) _ (all_ordered (IsGoodPlaced h t) placed_order (flat_map placed_in rs) (placed_good h t fs rs some w)))
 
 -- ---- each once
 
@@ -200,10 +187,7 @@ found_not_in h t [] [] w c e = refl
 found_not_in h t (f ∷ fs) (r ∷ rs) w c e =
     let parts = or_parts (same_region (region_of c) f.pos) (list_any (same_region (region_of c)) (map (λ f. f.pos) fs)) e in
     let away : same_region r.pos (region_of c) ≡ false = ap (λ p. same_region p (region_of c)) w.0.pos_is ∙ other_region (region_of c) f.pos parts.0 in
-    found_none_of (placed_in r) (flat_map placed_in rs) c (found_away r.pos 0 r.places.items c (let k = w.0.places_are.many in omega (arith, k)) away) ∙ found_not_in h t fs rs w.1 c parts.1 where
-      or_parts : (a b : Bool) → (a || b) ≡ false → (a ≡ false) × (b ≡ false)
-      or_parts true b k = absurd (true≢false k)
-      or_parts false b k = (refl, k)
+    found_none_of (placed_in r) (flat_map placed_in rs) c (found_away r.pos 0 r.places.items c (let k = w.0.places_are.many in omega (arith, k)) away) ∙ found_not_in h t fs rs w.1 c parts.1
 found_not_in h t [] (r ∷ rs) w c e = absurd w
 found_not_in h t (f ∷ fs) [] w c e = absurd w
 
@@ -374,12 +358,8 @@ rise_inserted : (f : File) (fs : List File) → regions_rise (map (λ g. g.pos) 
 rise_inserted f [] h n = refl
 rise_inserted f (g ∷ gs) h n =
     let up = and_parts (region_after g.pos (map (λ k. k.pos) gs)) (regions_rise (map (λ k. k.pos) gs)) h in
-    let apart = neither (same_region f.pos g.pos) (list_any (λ k. same_region f.pos k.pos) gs) n in
+    let apart = or_parts (same_region f.pos g.pos) (list_any (λ k. same_region f.pos k.pos) gs) n in
     by (is_lt (region_order g.pos f.pos)) refl (rise_inserted f gs up.1 apart.1) up.0 apart.0 where
-      neither : (a b : Bool) → (a || b) ≡ false → (a ≡ false) × (b ≡ false)
-      neither true b k = absurd (true≢false k)
-      neither false b k = (refl, k)
-
       after : (ks : List File) → is_lt (region_order g.pos f.pos) ≡ true → region_after g.pos (map (λ k. k.pos) ks) ≡ true → region_after g.pos (map (λ k. k.pos) (inserted (λ a b. region_order a.pos b.pos) f ks)) ≡ true
       after [] lt a = lt
       after (k ∷ ks) lt a = pick (is_lt (region_order k.pos f.pos)) where
@@ -395,11 +375,8 @@ rise_inserted f (g ∷ gs) h n =
 rise_ordered : (fs : List File) → share_a_region fs ≡ false → regions_rise (map (λ f. f.pos) (in_order fs)) ≡ true
 rise_ordered [] h = refl
 rise_ordered (f ∷ fs) h =
-    let parts = neither (list_any (λ g. same_region f.pos g.pos) fs) (share_a_region fs) h in
-    rise_inserted f (in_order fs) (rise_ordered fs parts.1) (any_ordered (λ g. same_region f.pos g.pos) (λ a b. region_order a.pos b.pos) fs ∙ parts.0) where
-      neither : (a b : Bool) → (a || b) ≡ false → (a ≡ false) × (b ≡ false)
-      neither true b k = absurd (true≢false k)
-      neither false b k = (refl, k)
+    let parts = or_parts (list_any (λ g. same_region f.pos g.pos) fs) (share_a_region fs) h in
+    rise_inserted f (in_order fs) (rise_ordered fs parts.1) (any_ordered (λ g. same_region f.pos g.pos) (λ a b. region_order a.pos b.pos) fs ∙ parts.0)
 
 pub rises_apart : (fs : List File) → regions_rise (map (λ f. f.pos) (in_order fs)) ≡ true → share_a_region fs ≡ false
 rises_apart fs h = sym (share_ordered fs) ∙ rise_apart (in_order fs) h
@@ -416,7 +393,7 @@ all_limits (f ∷ fs) h = (h 0 f (omega arith), all_limits fs (λ k d lt. h (suc
 
 pub limits_all : (fs : List RegionFile) → AllInLimits (map file_in fs) → All (λ f. IsInLimits f.pos) fs
 limits_all [] h = λ k d lt. absurd (omega (arith, lt))
-limits_all (f ∷ fs) h = all_cons (λ f. IsInLimits f.pos) f fs h.0 (limits_all fs h.1)
+limits_all (f ∷ fs) h = All-cons (λ f. IsInLimits f.pos) f fs h.0 (limits_all fs h.1)
 
 limits_rec : (fs : List File) → AllInLimits fs → AllByRecursion (λ f. IsInLimits f.pos) fs
 limits_rec [] h = tt

@@ -6,6 +6,7 @@ use Rattle.std.specs.Prelude.{slice_get, slice_index_or, pos, ◌-ℤ◌}
 use Rattle.std.specs.List.{All, AllByRecursion}
 use Rattle.std.proofs.lemmas.Bool.{and_from, false≢true, true≢false}
 use Rattle.std.proofs.lemmas.Option.{slice_get_within, get_or_from_slice_get}
+use Rattle.std.proofs.lemmas.List.Elements.{recursion_from_All}
 use Rattle.av_types.specs.Division.{divided}
 use Rattle.av_types.specs.Water.{is_source}
 use Rattle.av_types.specs.Places.{section_of, place_of, chunk_of, is_block_of, is_section_of}
@@ -13,7 +14,7 @@ use Rattle.av_types.specs.declared.place.Pos.{Pos}
 use Rattle.av_types.specs.declared.place.ChunkPos.{ChunkPos}
 use Rattle.av_types.specs.declared.place.Height.{Height}
 use Rattle.av_types.specs.declared.tick.Entry.{Entry}
-use Rattle.av_tags.specs.Shape.{◌>>=◌}
+use Rattle.av_types.specs.Options.{◌>>=◌}
 use Rattle.av_state.specs.BlockState.{BlockState, air}
 use Rattle.av_state.specs.Table.{states}
 use Rattle.av_rules.specs.Kinds.{table_in, wet_at, kind_count}
@@ -53,10 +54,6 @@ slot_is_index w i c e =
     let at : slice_index_or (positions_of w) i c ≡ c = get_or_from_slice_get (positions_of w) i c c e in
     slot_found (positions_of w) c c i lt at (λ j less same.
     true≢false (sym (w.lawful.rising j i c less lt) ∙ ((λ k. before (same k) (at k)) ∙ not_before_self c)))
-
-pub by_recursion : {X : Type 0} (P : X → Type 0) (xs : List X) → All P xs → AllByRecursion P xs
-by_recursion P [] h = tt
-by_recursion P (x ∷ xs) h = (h 0 x (omega arith), by_recursion P xs (λ k d lt. h (suc k) d (omega (arith, lt))))
 
 -- ---- what a section has at a place
 
@@ -139,7 +136,7 @@ module _ (w : World) (k : Kinds) (ls : List ChunkLight) (n : ℕ) (can : CanSave
         let moved : written x r k l n ≡ chunk_layout c (height_of w) (chunk_cells (states (table_in k)) (height_of w) x) (entries x.ticks) (sources_of k (height_of w) x) (rest_of r) (light_of l (height_of w)) n =
         λ i. chunk_layout (at i) (tall i) (chunk_cells (states (table_in k)) (tall i) x) (entries x.ticks) (sources_of k (tall i) x) (rest_of r) (light_of l (tall i)) n in
         let same = layout_same c (height_of w) (chunk_cells (states (table_in k)) (height_of w) x) (states_in k w).at (entries x.ticks) (sources_of k (height_of w) x) (sources_in k w) (rest_of r) (light_of l (height_of w)) (light_of l (height_of w)) n
-        cells_same (sources_all (entries x.ticks) (by_recursion (λ e. lies_in c (height_of w) e.pos ≡ true) (entries x.ticks) within)) (λ y inside. refl) in
+        cells_same (sources_all (entries x.ticks) (recursion_from_All (λ e. lies_in c (height_of w) e.pos ≡ true) (entries x.ticks) within)) (λ y inside. refl) in
         moved ∙ (same
         ∙ (ap (λ (es : List Entry). chunk_layout c (height_of w) (states_in k w).at es (sources_in k w) (rest_of r) (light_of l (height_of w)) n) (sym own.entries_are)
         ∙ ap (λ (o : Option ChunkLight). chunk_layout c (height_of w) (states_in k w).at (lists w c) (sources_in k w) (rest_of r) (λ y. section_light (height_of w) o y) n) (sym light)))

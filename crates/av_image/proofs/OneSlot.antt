@@ -11,7 +11,8 @@ use Rattle.av_types.specs.declared.place.Height.{Height}
 use Rattle.av_types.specs.declared.place.Pos.{Pos}
 use Rattle.av_types.specs.declared.place.ChunkPos.{ChunkPos}
 use Rattle.av_tags.specs.Nbt.{Document, NamedTag}
-use Rattle.av_tags.specs.Shape.{or_else, ◌>>=◌}
+use Rattle.av_types.specs.Options.{◌>>=◌}
+use Rattle.av_tags.specs.Shape.{or_else}
 use Rattle.av_state.specs.BlockState.{BlockState, air}
 use Rattle.av_section.specs.Section.{number_at}
 use Rattle.av_section.specs.declared.section.Section.{Section}

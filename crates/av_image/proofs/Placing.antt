@@ -4,6 +4,7 @@ use Rattle.std.specs.Prelude.{IfSome}
 use Rattle.std.specs.List.{All, AllZip}
 use Rattle.std.specs.Prelude.{slice_get}
 use Rattle.std.proofs.lemmas.Option.{slice_get_read}
+use Rattle.std.proofs.lemmas.List.{get_or_default}
 use Rattle.av_types.specs.Places.{chunk_at}
 use Rattle.av_types.specs.declared.place.ChunkPos.{ChunkPos}
 use Rattle.av_chunk.specs.declared.rest.ChunkRest.{ChunkRest}
@@ -27,18 +28,13 @@ set_keeps P (x ∷ xs) zero y d h is (suc j) = h (suc j)
 set_keeps P (x ∷ xs) (suc i) y d h is zero = h zero
 set_keeps P (x ∷ xs) (suc i) y d h is (suc j) = set_keeps (λ n. P (suc n)) xs i y d (λ n. h (suc n)) is j
 
-pub same_read : {X : Type 0} (xs : List X) (i : ℕ) (a b : X) → i < length xs → get_or xs i a ≡ get_or xs i b
-same_read [] i a b l = absurd (omega arith)
-same_read (x ∷ xs) zero a b l = refl
-same_read (x ∷ xs) (suc i) a b l = same_read xs i a b (omega arith)
-
 -- one place is filled, or emptied
 pub placed_set : (j : RegionJob) (places : List (Option (Vec ℕ Global))) (i : ℕ) (o : Option (Vec ℕ Global)) → ArePlaced j places → IfSome o (λ v. IsPayloadAt j i v.items) → ArePlaced j (set places i o)
 placed_set j places i o h is = set_keeps (λ m s. IfSome s (λ v. IsPayloadAt j m v.items)) places i o None h is
 
 -- what a place has
 pub placed_at : (j : RegionJob) (places : List (Option (Vec ℕ Global))) (i : ℕ) (o : Option (Vec ℕ Global)) → ArePlaced j places → i < length places → o ≡ get_or places i o → IfSome o (λ v. IsPayloadAt j i v.items)
-placed_at j places i o h less is = subst (λ s. IfSome s (λ v. IsPayloadAt j i v.items)) (sym (is ∙ same_read places i o None less)) (h i)
+placed_at j places i o h less is = subst (λ s. IfSome s (λ v. IsPayloadAt j i v.items)) (sym (is ∙ get_or_default places i o None less)) (h i)
 
 pub replicated_at : {X : Type 0} (x : X) (n i : ℕ) → get_or (replicate n x) i x ≡ x
 replicated_at x zero i = refl

@@ -1,5 +1,5 @@
 -- Rising lists of regions and of chunks.
-use Rattle.std.proofs.Common.{◌≡◌, ◌∙◌, suc, ℤ, ◌<ℤ◌, ◌≤ℤ◌, ◌⊎◌, inl, inr, List, [], ◌∷◌, Bool, true, false, ◌&&◌, refl, sym, subst, arith, int_lt}
+use Rattle.std.proofs.Common.{◌≡◌, ◌∙◌, suc, ℤ, ◌<ℤ◌, ◌⊎◌, inl, inr, List, [], ◌∷◌, Bool, true, false, ◌&&◌, refl, sym, subst, arith, int_lt}
 use Rattle.std.specs.Ordering.{is_lt, int_cmp, int_eq, ordering_then, MatchOrdering}
 use Rattle.std.specs.List.{list_any}
 use Rattle.std.specs.Cmp.{int_ranks}
@@ -8,10 +8,10 @@ use Rattle.std.specs.declared.cmp.Ordering.TheVariants.{Less, Equal, Greater}
 use Rattle.std.proofs.lemmas.Int.{ints}
 use Rattle.std.proofs.lemmas.Bool.{and_parts, and_from, or_cases, true≢false, false≢true}
 use Rattle.std.proofs.lemmas.Bool.Decides.{Decides-int_eq}
+use Rattle.av_document.proofs.Numbers.{lt_from}
 use Rattle.av_types.specs.declared.place.ChunkPos.{ChunkPos}
 use Rattle.av_types.specs.declared.place.RegionPos.{RegionPos}
 use Rattle.av_world.specs.Index.{before, IsRising}
-use Rattle.av_world.proofs.Search.{lt_tells}
 use Rattle.av_files.specs.Files.{region_after, regions_rise, chunk_order, chunks_rise}
 use Rattle.av_region_files.specs.Regions.{region_order, same_region}
 use Rattle.av_files.proofs.Coordinates.{same_region_is}
@@ -88,17 +88,11 @@ is_below Equal Greater x y z w p q (inr h) = absurd (let e = h.1 in omega (arith
 is_below Greater b x y z w p q (inl h) = absurd (omega (arith, ints))
 is_below Greater b x y z w p q (inr h) = absurd (let e = h.0 in omega (arith, ints))
 
-lt_is : (a b : ℤ) → int_lt a b ≡ true → a <ℤ b
-lt_is a b h = by (lt_tells a b) where
-  by : (((int_lt a b ≡ true) × (a <ℤ b)) ⊎ ((int_lt a b ≡ false) × (b ≤ℤ a))) → a <ℤ b
-  by (inl p) = p.1
-  by (inr p) = absurd (true≢false (sym h ∙ p.0))
-
 comes_before : (p q : ChunkPos) → before p q ≡ true → is_lt (chunk_order p q) ≡ true
 comes_before p q h = is_below (int_cmp p.z q.z) (int_cmp p.x q.x) p.z q.z p.x q.x (int_ranks p.z q.z) (int_ranks p.x q.x) (by (or_cases (int_lt p.z q.z) (int_eq p.z q.z && int_lt p.x q.x) h)) where
   by : ((int_lt p.z q.z ≡ true) ⊎ ((int_eq p.z q.z && int_lt p.x q.x) ≡ true)) → (p.z <ℤ q.z) ⊎ ((p.z ≡ q.z) × (p.x <ℤ q.x))
-  by (inl e) = inl (lt_is p.z q.z e)
-  by (inr e) = let parts = and_parts (int_eq p.z q.z) (int_lt p.x q.x) e in inr ((Decides-int_eq p.z q.z).0 parts.0, lt_is p.x q.x parts.1)
+  by (inl e) = inl (lt_from p.z q.z e)
+  by (inr e) = let parts = and_parts (int_eq p.z q.z) (int_lt p.x q.x) e in inr ((Decides-int_eq p.z q.z).0 parts.0, lt_from p.x q.x parts.1)
 
 pub rises : (ps : List ChunkPos) → IsRising ps → chunks_rise ps ≡ true
 rises [] h = refl

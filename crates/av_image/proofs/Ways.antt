@@ -1,7 +1,8 @@
 -- Steps of the loops over places and files.
-use Rattle.std.proofs.Common.{◌≡◌, ℕ, ◌+◌, ◌-◌, ◌<◌, List, [], ◌∷◌, ◌++◌, refl, ap, sym, subst, suc, inl, inr, append-nil, arith}
+use Rattle.std.proofs.Common.{◌≡◌, ℕ, ◌+◌, ◌-◌, ◌<◌, List, [], ◌∷◌, ◌++◌, refl, ap, sym, subst, suc, inl, inr, append-nil, arith, ◌∙◌}
 use Rattle.std.specs.List.{range_with_len}
 use Rattle.std.proofs.lemmas.Option.{none-some}
+use Rattle.std.proofs.lemmas.List.{length_push}
 use Rattle.av_types.specs.Places.{chunk_at}
 use Rattle.av_types.specs.declared.place.Height.{Height}
 use Rattle.av_types.specs.declared.fault.Fault.{Fault}
@@ -16,7 +17,7 @@ use Rattle.av_image.specs.declared.reading.regions.ReadRegion.{ReadRegion}
 use Rattle.av_image.specs.Placed.{IsPlaceRead, WasPlaceRead, ArePlacesRead, WasRegionRead, IsRegionRead, WereRegionsRead, AreRegionsRead}
 use Rattle.av_image.specs.Ways.{IsPlacesWay, PlacesSoFar, GoesOn, Stops, FilesSoFar}
 use Rattle.av_image.proofs.OnePlace.{good_place, places_grown}
-use Rattle.av_image.proofs.Growing.{pushed_each, one_longer}
+use Rattle.av_image.proofs.Growing.{pushed_each}
 
 pub grows_nothing : (t : List BlockState) → OnlyGrows t t
 grows_nothing t = record { more = []; grown = sym (append-nil t) }
@@ -48,7 +49,7 @@ places_more h f start table next n places after p lt is s r more = subst (λ (xs
   each =
       let old = places_grown h table next f n places more s.each in
       record {
-        many = one_longer places p n s.each.many;
+        many = length_push places p ∙ ap (λ k. k + 1) s.each.many;
         each = pushed_each (λ i q. WasPlaceRead h next f.bytes (chunk_at f.pos i) i q) places p n s.each.many (record { old = table; new = next; read = r; grown = grows_nothing next }) old.each;
       };
   grown = OnlyGrows-trans start table next s.grown more;

@@ -1,11 +1,13 @@
 -- The files of regions are those of the world, the rest and the lights.
-use Rattle.std.proofs.Common.{◌≡◌, ◌∙◌, ℕ, suc, ◌<◌, List, [], ◌∷◌, ◌++◌, length, Bool, true, false, ◌||◌, cond, Option, Some, None, refl, ap, sym, arith, map, drop, take, get_or, drop-cons, ◌≤◌, ◌+◌}
+use Rattle.std.proofs.Common.{◌≡◌, ◌∙◌, ℕ, suc, ◌<◌, List, [], ◌∷◌, ◌++◌, length, true, false, ◌||◌, cond, Option, Some, None, refl, ap, sym, arith, map, drop, take, get_or, drop-cons, ◌≤◌, ◌+◌}
 use Rattle.std.specs.Prelude.{slice_get, slice_index_or, option_map}
 use Rattle.std.specs.List.{AllByRecursion, list_any}
-use Rattle.std.proofs.lemmas.Bool.{and_parts}
+use Rattle.std.proofs.lemmas.Bool.{and_parts, or_right}
 use Rattle.std.proofs.lemmas.Option.{none-some, same_Some}
 use Rattle.std.proofs.lemmas.List.{map-append, take_more, take_all, drop_all}
 use Rattle.std.proofs.lemmas.List.FromFn.{fill_by_all}
+use Rattle.std.proofs.lemmas.List.Elements.{recursion_from_All}
+use Rattle.av_document.proofs.Inside.{map_range_agree}
 use Rattle.av_types.specs.Places.{chunk_at, region_of, index_of}
 use Rattle.av_types.specs.declared.place.ChunkPos.{ChunkPos}
 use Rattle.av_types.specs.declared.place.RegionPos.{RegionPos}
@@ -33,14 +35,8 @@ use Rattle.av_image.specs.Saving.{states_in, sources_in, lights_in, saved, unsav
 use Rattle.av_image.specs.SavingSteps.{slot_payload, region_payloads, region_file, region_unsaved, regions_unsaved, SavedSoFar}
 use Rattle.av_image.proofs.Rises.{not_later_region}
 use Rattle.av_image.proofs.Denoted.{get_within}
-use Rattle.av_image.proofs.OneChunk.{by_recursion}
-use Rattle.av_document.proofs.Inside.{map_range}
 
 -- ---- each region is found at its place
-
-or_right : (a b : Bool) → b ≡ true → (a || b) ≡ true
-or_right true b e = refl
-or_right false b e = e
 
 later : (p : RegionPos) (xs : List RegionRest) → ((q : RegionPos) → list_any (same_region q) (map (λ x. x.pos) xs) ≡ true → same_region p q ≡ false) → AllByRecursion (λ y. same_region p y.pos ≡ false) xs
 later p [] n = tt
@@ -86,7 +82,7 @@ module _ (w : World) (k : Kinds) (ls : List ChunkLight) (n : ℕ) (rs : List Reg
   payloads_are : (x : RegionRest) → IsRegionOf (height_of w) (positions_of w) x → region_found rs x.pos ≡ Some x
       → payloads (sources_in k w) (states_in k w) (rest_view rs) (lights_in w ls) n x.pos ≡ region_payloads w k ls n x
   payloads_are x own found =
-      map_range (λ i. payload_of (sources_in k w) (states_in k w) (rest_view rs) (lights_in w ls) n (chunk_at x.pos i)) (λ i. slot_payload w k ls n (chunk_at x.pos i) (slice_get x.slots.items i)) 0 1024
+      map_range_agree (λ i. payload_of (sources_in k w) (states_in k w) (rest_view rs) (lights_in w ls) n (chunk_at x.pos i)) (λ i. slot_payload w k ls n (chunk_at x.pos i) (slice_get x.slots.items i)) 0 1024
       (λ i less. payload_is x own found i (omega (arith, less)))
 
   stamps_are : (x : RegionRest) → length x.stamps.items ≡ 1024 → region_found rs x.pos ≡ Some x → stamps (rest_view rs) x.pos ≡ x.stamps.items
@@ -124,10 +120,10 @@ module _ (w : World) (k : Kinds) (ls : List ChunkLight) (n : ℕ) (rs : List Reg
       λ i. first_or (first i) (rest i)
 
 pub saved_is : (w : World) (r : Rest) (k : Kinds) (ls : List ChunkLight) (n : ℕ) → IsRestOf (height_of w) (positions_of w) r → map (region_file w k ls n) r.regions.items ≡ saved w r k ls n
-saved_is w r k ls n own = files_from w k ls n r.regions.items r.regions.items (by_recursion (IsRegionOf (height_of w) (positions_of w)) r.regions.items own.each) (found_all r.regions.items own.rise)
+saved_is w r k ls n own = files_from w k ls n r.regions.items r.regions.items (recursion_from_All (IsRegionOf (height_of w) (positions_of w)) r.regions.items own.each) (found_all r.regions.items own.rise)
 
 pub unsaved_is : (w : World) (r : Rest) (k : Kinds) (ls : List ChunkLight) (n : ℕ) → IsRestOf (height_of w) (positions_of w) r → regions_unsaved w k ls n r.regions.items ≡ unsaved w r k ls n
-unsaved_is w r k ls n own = large_from w k ls n r.regions.items r.regions.items (by_recursion (IsRegionOf (height_of w) (positions_of w)) r.regions.items own.each) (found_all r.regions.items own.rise)
+unsaved_is w r k ls n own = large_from w k ls n r.regions.items r.regions.items (recursion_from_All (IsRegionOf (height_of w) (positions_of w)) r.regions.items own.each) (found_all r.regions.items own.rise)
 
 -- ---- steps of the loop over regions
 

@@ -163,9 +163,6 @@ module _ (g : Grid) (secs : List (List SectionPos)) (can : CanCut g secs) where
       by true t = picked s t
       by false t = unpicked s t ∙ cut.others s (λ m l. each t m (below_or cs x m l))
 
-pub same_trans : (u v w : World) → IsSamePlaces u v → IsSamePlaces v w → IsSamePlaces u w
-same_trans u v w a b = record { height = b.height ∙ a.height; positions = b.positions ∙ a.positions; broken = b.broken ∙ a.broken; lists_are = b.lists_are ∙ a.lists_are }
-
 pub slot_same : (v w : World) (o : Option Parcel) → IsSamePlaces v w → HoldsPartOf v o → HoldsPartOf w o
 slot_same v w None s h = tt
 slot_same v w (Some p) s h = part_in_same v w p s h

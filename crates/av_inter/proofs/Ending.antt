@@ -6,6 +6,7 @@ use Rattle.std.proofs.lemmas.Bool.{true≢false}
 use Rattle.std.proofs.lemmas.List.Elements.{All-cons, All-nil}
 use Rattle.std.proofs.lemmas.List.Kept.{AllPairs-cons}
 use Rattle.std.proofs.lemmas.Option.{slice_get_within, slice_get-get_or, get_or_from_slice_get}
+use Rattle.av_ticks.proofs.Lookup.{cond_neither}
 use Rattle.av_types.specs.Places.{chunk_of}
 use Rattle.av_types.specs.declared.place.Pos.{Pos}
 use Rattle.av_types.specs.declared.place.ChunkPos.{ChunkPos}
@@ -15,7 +16,7 @@ use Rattle.av_types.specs.declared.tick.Entry.{Entry}
 use Rattle.av_types.specs.declared.tick.Made.{Made}
 use Rattle.av_types.proofs.SamePlaces.{same_pos_from, same_pos_back}
 use Rattle.av_ticks.specs.Entries.{is_pending, made_order}
-use Rattle.av_ticks.specs.Order.{ordered, inserted}
+use Rattle.av_types.specs.Order.{ordered, inserted}
 use Rattle.av_cells.specs.Positions.{same_pos}
 use Rattle.av_cells.specs.World.{World, Lists}
 use Rattle.av_world.specs.Appended.{entries_made, with_entries as with_appended}
@@ -51,13 +52,9 @@ among_ordered q (m ∷ ms) = among_inserted q m (ordered made_order ms) ∙ ap (
 new_inserted : (w : World) (m : Made) (ms : List Made) → w.pending m.entry.pos ≡ false → is_among m.entry.pos (entries_of ms) ≡ false → AreNew w (entries_of ms) → AreNew w (entries_of (inserted made_order m ms))
 new_inserted w m [] p a h = (p, refl, tt)
 new_inserted w m (y ∷ ys) p a h = by (is_lt (made_order y m)) (new_inserted w m ys p) where
-  parts : (s c : Bool) → cond s true c ≡ false → (s ≡ false) × (c ≡ false)
-  parts true c e = absurd (true≢false e)
-  parts false c e = (refl, e)
-
   by : (b : Bool) → (is_among m.entry.pos (entries_of ys) ≡ false → AreNew w (entries_of ys) → AreNew w (entries_of (inserted made_order m ys))) → AreNew w (entries_of (cond b (y ∷ inserted made_order m ys) (m ∷ y ∷ ys)))
   by true more =
-      let n = parts (same_pos m.entry.pos y.entry.pos) (is_among m.entry.pos (entries_of ys)) a in
+      let n = cond_neither (same_pos m.entry.pos y.entry.pos) (is_among m.entry.pos (entries_of ys)) a in
       (h.0, among_inserted y.entry.pos m ys ∙ ap (λ c. cond c true (is_among y.entry.pos (entries_of ys))) (same_pos_back m.entry.pos y.entry.pos n.0) ∙ h.1, more n.1 h.2)
   by false more = (p, a, h)
 

@@ -1,10 +1,10 @@
 -- Who holds a part, and what an event leaves of a core.
 use Rattle.std.proofs.Common.{◌≡◌, ℕ, zero, suc, ◌<◌, nat_eq, Bool, true, false, cond, List, [], ◌∷◌, ◌++◌, length, get_or, slice_get, slice_set, Option, None, Some, refl, sym, ap, ◌∙◌, arith}
 use Rattle.std.specs.List.{Contains}
-use Rattle.std.proofs.lemmas.Bool.{true≢false}
-use Rattle.std.proofs.lemmas.Int.{ints}
+use Rattle.std.proofs.lemmas.Bool.{true≢false, eqb-true, eq-eqb}
 use Rattle.std.proofs.lemmas.List.{length-map}
 use Rattle.std.proofs.lemmas.Option.{slice_get_within, get_or_from_slice_get}
+use Rattle.av_world.proofs.Corners.{reach_self}
 use Rattle.av_types.specs.Places.{chunk_of}
 use Rattle.av_types.specs.declared.place.Pos.{Pos}
 use Rattle.av_types.specs.declared.place.ChunkPos.{ChunkPos}
@@ -12,7 +12,6 @@ use Rattle.av_types.specs.declared.place.SectionPos.{SectionPos}
 use Rattle.av_types.specs.declared.place.Height.{Height}
 use Rattle.av_types.specs.declared.tick.Made.{Made}
 use Rattle.av_ticks.specs.Entries.{is_pending}
-use Rattle.av_cells.specs.Positions.{InReach}
 use Rattle.av_cells.specs.World.{World, Lists}
 use Rattle.av_cells.specs.declared.kind.Kind.{Kind}
 use Rattle.av_world.specs.declared.parcels.Parcel.{Parcel}
@@ -22,7 +21,6 @@ use Rattle.av_play.specs.declared.event.Stage.TheVariants.{Waits, Held, Ended}
 use Rattle.av_play.specs.declared.event.Event.TheVariants.{Turn}
 use Rattle.av_play.specs.Parts.{part_at}
 use Rattle.av_play.specs.Play.{State, after, turned, turned_if_held, turn_of, made_by}
-use Rattle.av_play.proofs.Lists.{same_number, itself}
 use Rattle.av_inter.specs.Out.{Out, out_in, outs}
 use Rattle.av_inter.specs.Whole.{whole}
 use Rattle.av_inter.specs.Lawful.{is_home, is_ended, IsBlank, IsCore}
@@ -36,11 +34,11 @@ held_by worker (Some Waits) done e = cc
 held_by worker (Some Ended) done e = cc
 held_by worker (Some (Held holder count)) done e = by (nat_eq holder worker) refl e where
   by : (b : Bool) → nat_eq holder worker ≡ b → cond b (Some count) None ≡ Some done → Some (Held holder count) ≡ Some (Held worker done)
-  by true s f = let same : holder ≡ worker = same_number holder worker s in let d : count ≡ done = cc in (λ i. Some (Held (same i) (d i)))
+  by true s f = let same : holder ≡ worker = eqb-true holder worker s in let d : count ≡ done = cc in (λ i. Some (Held (same i) (d i)))
   by false s f = cc
 
 pub not_held : (worker : ℕ) (g : Option Stage) → done_by worker g ≡ None → (done : ℕ) → ¬ (g ≡ Some (Held worker done))
-not_held worker g e done h = let f : Some done ≡ None = sym (ap (λ b. cond b (Some done) None) (itself worker)) ∙ sym (ap (done_by worker) h) ∙ e in cc
+not_held worker g e done h = let f : Some done ≡ None = sym (ap (λ b. cond b (Some done) None) (eq-eqb worker worker refl)) ∙ sym (ap (done_by worker) h) ∙ e in cc
 
 pub slot_out : (cs : List (Option Parcel)) (n : ℕ) (d : Option Parcel) → n < length cs → slice_get (outs cs) n ≡ Some (out_in (get_or cs n d))
 slot_out [] n d l = absurd (omega arith)
@@ -60,9 +58,6 @@ set_same (y ∷ ys) (suc n) x e = ap (λ zs. y ∷ zs) (set_same ys n x e)
 
 pub among_part : (xs : List Placed) (n : ℕ) (x : Placed) → slice_get xs n ≡ Some x → Contains xs x
 among_part xs n x e = (n, slice_get_within xs n x e, get_or_from_slice_get xs n x x e)
-
-reach_of_own : (p : Pos) → InReach p p
-reach_of_own p = record { west = omega (arith, ints); east = omega (arith, ints); low = omega (arith, ints); high = omega (arith, ints); north = omega (arith, ints); south = omega (arith, ints) }
 
 -- the state after a turn
 pub turn_state : (k : ℕ → Kind) (now : ℕ) (parts : List (List Placed)) (s : State) (worker n done : ℕ) (x : Placed) → slice_get s.stages n ≡ Some (Held worker done) → slice_get (part_at parts n) done ≡ Some x
@@ -90,7 +85,7 @@ module _ (count : ℕ) (h : Height) (ps : List ChunkPos) (l : Lists) (rest : Wor
   pub can_turn : (o : Option Out) (x : Placed) → slice_get os n ≡ Some o → Contains (part_at parts n) x → CanTurnIn count x o
   can_turn None x e there = absurd (true≢false (sym (ap is_home e) ∙ not_home))
   can_turn (Some p) x e there =
-      record { known = (core.out n p e).known; loaded = (core.out n p e).places x.entry.pos ∙ core.own n x x.entry.pos there (reach_of_own x.entry.pos) (core.here n x there) }
+      record { known = (core.out n p e).known; loaded = (core.out n p e).places x.entry.pos ∙ core.own n x x.entry.pos there (reach_self x.entry.pos) (core.here n x there) }
 
   pub record AfterTurn (k : ℕ → Kind) (now : ℕ) (x : Placed) (more : List Made) (o : Option Out) : Type 0 where
     pub turned_world : whole (slice_set os n o) rest more ≡ (turn_of k now x w).world

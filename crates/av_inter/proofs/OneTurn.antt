@@ -3,6 +3,8 @@ use Rattle.std.proofs.Common.{◌≡◌, ℕ, Bool, true, false, not, cond, ◌&
 use Rattle.std.specs.List.{Contains, All}
 use Rattle.std.proofs.lemmas.Bool.{true≢false}
 use Rattle.std.proofs.lemmas.List.Elements.{All-head, All-tail}
+use Rattle.av_play.proofs.LandTurns.{listed_pending}
+use Rattle.av_ticks.proofs.Lookup.{cond_neither}
 use Rattle.av_types.specs.Places.{chunk_of, section_of}
 use Rattle.av_types.specs.declared.place.Pos.{Pos}
 use Rattle.av_types.specs.declared.place.ChunkPos.{ChunkPos}
@@ -14,13 +16,12 @@ use Rattle.av_types.proofs.SamePlaces.{same_pos_is, same_pos_back}
 use Rattle.av_ticks.specs.Entries.{is_pending}
 use Rattle.av_cells.specs.declared.kind.Kind.{Kind}
 use Rattle.av_cells.specs.Positions.{InReach, same_pos}
-use Rattle.av_cells.specs.World.{World, Lists, listed_if, listed_all}
+use Rattle.av_cells.specs.World.{World, Lists, listed_all}
 use Rattle.av_cells.specs.Grid.{among}
 use Rattle.av_cells.specs.Turn.{Change, turn}
 use Rattle.av_water.specs.Frame.{Agree, Same, Kept, InLoadedReach}
 use Rattle.av_water.proofs.Inside.{turn_kept, turn_made}
 use Rattle.av_world.specs.OutOf.{IsPartOf}
-use Rattle.av_world.proofs.Tied.{tied_added}
 use Rattle.av_play.specs.declared.event.Placed.{Placed}
 use Rattle.av_play.specs.declared.event.Stage.{Stage}
 use Rattle.av_play.specs.Parts.{part_at}
@@ -76,16 +77,12 @@ new_among w p (e ∷ es) n h = by (same_pos p e.pos) refl h (new_among w p es n.
   by true s h more = ap w.pending (same_pos_is p e.pos s) ∙ n.0
   by false s h more = more h
 
-neither : (b c : Bool) → cond b true c ≡ false → (b ≡ false) × (c ≡ false)
-neither true c h = absurd (true≢false h)
-neither false c h = (refl, h)
-
 -- new after es were made, and so new before
 new_after : (w v : World) (es fs : List Entry) → AreNew w es → ((q : Pos) → v.pending q ≡ cond (is_among q es) true (w.pending q)) → AreNew v fs → AreNew w (es ++ fs)
-new_after w v es fs h c g = join es h (λ q n. (neither (is_among q es) (w.pending q) (sym (c q) ∙ n)).0) where
+new_after w v es fs h c g = join es h (λ q n. (cond_neither (is_among q es) (w.pending q) (sym (c q) ∙ n)).0) where
   drops : (fs : List Entry) → AreNew v fs → AreNew w fs
   drops [] g = tt
-  drops (f ∷ fs) g = ((neither (is_among f.pos es) (w.pending f.pos) (sym (c f.pos) ∙ g.0)).1, g.1, drops fs g.2)
+  drops (f ∷ fs) g = ((cond_neither (is_among f.pos es) (w.pending f.pos) (sym (c f.pos) ∙ g.0)).1, g.1, drops fs g.2)
 
   outside : (x : Entry) (fs : List Entry) → ((q : Pos) → v.pending q ≡ false → same_pos q x.pos ≡ false) → AreNew v fs → is_among x.pos fs ≡ false
   outside x [] o g = refl
@@ -95,27 +92,9 @@ new_after w v es fs h c g = join es h (λ q n. (neither (is_among q es) (w.pendi
   join [] h o = drops fs g
   join (x ∷ xs) h o = (
     h.0,
-    among_or x.pos xs fs ∙ ap (λ b. cond b true (is_among x.pos fs)) h.1 ∙ outside x fs (λ q n. (neither (same_pos q x.pos) (is_among q xs) (o q n)).0) g,
-    join xs h.2 (λ q n. (neither (same_pos q x.pos) (is_among q xs) (o q n)).1),
+    among_or x.pos xs fs ∙ ap (λ b. cond b true (is_among x.pos fs)) h.1 ∙ outside x fs (λ q n. (cond_neither (same_pos q x.pos) (is_among q xs) (o q n)).0) g,
+    join xs h.2 (λ q n. (cond_neither (same_pos q x.pos) (is_among q xs) (o q n)).1),
   )
-
--- what the lists have after entries were put aside
-listed_pending : (p : Pos) (es : List Entry) (l : Lists) → is_pending p (listed_all l es (chunk_of p)) ≡ cond (is_among p es) true (is_pending p (l (chunk_of p)))
-listed_pending p [] l = refl
-listed_pending p (e ∷ es) l =
-    listed_pending p es (listed_if true l e) ∙ ap (λ b. cond (is_among p es) true b) (sym one) ∙ swap (is_among p es) (same_pos p e.pos) (is_pending p (l (chunk_of p)))
-  where
-    all : World
-    all = record { loaded = λ q. true; number = λ q. 0; pending = λ q. is_pending q (l (chunk_of q)) }
-
-    one : cond (same_pos p e.pos) true (is_pending p (l (chunk_of p))) ≡ is_pending p (listed_if true l e (chunk_of p))
-    one = tied_added all l e (λ q t. refl) p refl
-
-    swap : (m s x : Bool) → cond m true (cond s true x) ≡ cond (cond s true m) true x
-    swap true true x = refl
-    swap true false x = refl
-    swap false true x = refl
-    swap false false x = refl
 
 first_of : (a b : Bool) → a || b ≡ false → a ≡ false
 first_of true b h = absurd (true≢false h)

@@ -1,7 +1,7 @@
 -- Where all parts were carved, the whole is the world as it was.
 use Rattle.std.proofs.Common.{◌≡◌, ℕ, zero, suc, ◌<◌, Bool, true, false, cond, ◌||◌, List, [], ◌∷◌, ◌++◌, replicate, length, filter, slice_get, Option, None, Some, ◌⊎◌, inl, inr, refl, sym, ap, ◌∙◌, subst, arith, IsTrue, All}
 use Rattle.std.specs.List.{Contains}
-use Rattle.std.proofs.lemmas.Bool.{true≢false}
+use Rattle.std.proofs.lemmas.Bool.{true≢false, cases_eq}
 use Rattle.std.proofs.lemmas.List.{length-map}
 use Rattle.std.proofs.lemmas.Option.{slice_get_within}
 use Rattle.av_types.specs.Places.{chunk_of, section_of, place_of}
@@ -35,15 +35,6 @@ use Rattle.av_inter.specs.Lawful.{HasOut, is_home, is_ended, IsBlank, IsOut, IsC
 use Rattle.av_inter.specs.Cut.{CanCut, IsCutOut, AreCut}
 use Rattle.av_inter.proofs.LookUps.{AreOff, read_off, read_own, which}
 
-same_or_other : (a b : ℕ) → (a ≡ b) ⊎ (¬ (a ≡ b))
-same_or_other zero zero = inl refl
-same_or_other zero (suc b) = inr (λ h. omega arith)
-same_or_other (suc a) zero = inr (λ h. omega arith)
-same_or_other (suc a) (suc b) = on (same_or_other a b) where
-  on : (a ≡ b) ⊎ (¬ (a ≡ b)) → (suc a ≡ suc b) ⊎ (¬ (suc a ≡ suc b))
-  on (inl e) = inl (ap suc e)
-  on (inr f) = inr (λ h. f (omega arith))
-
 pub can_cut : (g : Grid) (entries : List Entry) (clusters : List Cluster) → ArePlanned (cells_of g) entries clusters → CanCut g (sections_of clusters)
 can_cut g entries clusters p = record { here = here; apart = apart; once = p.once } where
   part_of : (n : ℕ) (s : SectionPos) → among (sections_at (sections_of clusters) n) s ≡ true → IsOfPart (cells_of g) (part_at (parts_of clusters) n) s
@@ -53,7 +44,7 @@ can_cut g entries clusters p = record { here = here; apart = apart; once = p.onc
   here n s a = let o = part_of n s a in subst (λ t. is_here (g t) ≡ true) o.territory.lies o.territory.loaded
 
   apart : (m n : ℕ) (s : SectionPos) → among (sections_at (sections_of clusters) m) s ≡ true → among (sections_at (sections_of clusters) n) s ≡ true → m ≡ n
-  apart m n s a b = by (same_or_other m n) where
+  apart m n s a b = by (cases_eq m n) where
     by : (m ≡ n) ⊎ (¬ (m ≡ n)) → m ≡ n
     by (inl e) = e
     by (inr f) = absurd (parts_share_nothing (cells_of g) entries (parts_of clusters) p.plan m n s f (part_of m s a) (part_of n s b))

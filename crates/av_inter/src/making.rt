@@ -59,7 +59,7 @@ impl<'a> Core<'a> {
         ensures kinds { IfOk result (λ core. kinds_in core ≡ kinds_of kinds.now) }
         ensures now { IfOk result (λ core. now_in core ≡ now) }
         ensures site { IfOk result (λ core. site_in core ≡ site world) }
-        ensures fault { IfErr result (λ e. e.0 ≡ OutOfMemory) }
+        ensures memory { IfErr result (λ e. e.0 ≡ OutOfMemory) }
         ensures back { IfErr result (λ e. SameWorld world e.1) }
     {
         let mut world = world;

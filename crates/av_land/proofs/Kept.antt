@@ -6,7 +6,8 @@ use Rattle.std.specs.Prelude.{int_le}
 use Rattle.std.proofs.Common.{rules}
 use Rattle.std.specs.List.{AllByRecursion, filter}
 use Rattle.std.proofs.lemmas.Int.{ints}
-use Rattle.std.proofs.lemmas.Bool.{and_parts, and_from, true≢false, false≢true}
+use Rattle.std.proofs.lemmas.Bool.{and_parts, and_from, true≢false, false≢true, not-true, cond_both}
+use Rattle.av_ticks.proofs.Lookup.{are_apart-push}
 use Rattle.av_types.specs.Places.{chunk_of, is_block_of}
 use Rattle.av_types.specs.declared.place.Pos.{Pos}
 use Rattle.av_types.specs.declared.place.ChunkPos.{ChunkPos}
@@ -34,10 +35,6 @@ record Through (count : ℕ) (Q : Entry → Type 0) (w : Land ℕ) (c : Change) 
   pending : (q : Pos) → c.world.pending q ≡ (is_loaded w q && is_pending q (lists (chunk_of q)))
   good : Good count Q (land_of w c.world.number lists)
 
-number_if : (b : Bool) (n m count : ℕ) → n < count → m < count → cond b n m < count
-number_if true n m count a b = a
-number_if false n m count a b = b
-
 -- ---- a set
 
 other_pos : (L : Pos → Bool) (q p : Pos) (b : Bool) → same_pos q p ≡ b → L p ≡ true → L q ≡ false → b ≡ false
@@ -47,7 +44,7 @@ other_pos L q p false e l u = refl
 set_good : (count : ℕ) (Q : Entry → Type 0) (w : Land ℕ) (at : Pos → ℕ) (lists : Lists) (p : Pos) (m : ℕ) → m < count → is_loaded w p ≡ true → Good count Q (land_of w at lists)
     → Good count Q (land_of w (λ q. cond (same_pos q p) m (at q)) lists)
 set_good count Q w at lists p m less l g = record {
-  numbers = λ q. number_if (same_pos q p) m (at q) count less (g.numbers q);
+  numbers = λ q. cond_both (same_pos q p) m (at q) (λ n. n < count) (λ _. less) (λ _. g.numbers q);
   unloaded = λ q u. ap (λ b. cond b m (at q)) (other_pos (is_loaded w) q p (same_pos q p) refl l u) ∙ g.unloaded q u;
   none = g.none;
   entries = g.entries;
@@ -71,21 +68,9 @@ pushed_other : (p : Pos) (es : List Entry) (e : Entry) → same_pos p e.pos ≡ 
 pushed_other p [] e h = ap (λ b. cond b true false) h
 pushed_other p (x ∷ es) e h = ap (λ r. cond (same_pos p x.pos) true r) (pushed_other p es e h)
 
-not_first : (b r : Bool) → cond b true r ≡ false → (b ≡ false) × (r ≡ false)
-not_first true r h = absurd (true≢false h)
-not_first false r h = (refl, h)
-
 apart_parts : (b r : Bool) → cond b false r ≡ true → (b ≡ false) × (r ≡ true)
 apart_parts true r h = absurd (false≢true h)
 apart_parts false r h = (refl, h)
-
-pushed_apart : (es : List Entry) (e : Entry) → are_apart es ≡ true → is_pending e.pos es ≡ false → are_apart (es ++ e ∷ []) ≡ true
-pushed_apart [] e h n = refl
-pushed_apart (x ∷ es) e h n =
-    let a = apart_parts (is_pending x.pos es) (are_apart es) h in
-    let b = not_first (same_pos e.pos x.pos) (is_pending e.pos es) n in
-    let c : is_pending x.pos (es ++ e ∷ []) ≡ false = pushed_other x.pos es e (other_way e.pos x.pos (same_pos x.pos e.pos) refl b.0) ∙ a.0 in
-    ap (λ r. cond r false (are_apart (es ++ e ∷ []))) c ∙ pushed_apart es e a.1 b.1
 
 pushed_all : (P : Entry → Type 0) (es : List Entry) (e : Entry) → AllByRecursion P es → P e → AllByRecursion P (es ++ e ∷ [])
 pushed_all P [] e h p = (p, tt)
@@ -108,7 +93,7 @@ entries_if P es e true h p = pushed_all P es e h (p refl)
 entries_if P es e false h p = h
 
 apart_if : (es : List Entry) (e : Entry) (b : Bool) → are_apart es ≡ true → (b ≡ true → is_pending e.pos es ≡ false) → are_apart (cond b (es ++ e ∷ []) es) ≡ true
-apart_if es e true h n = pushed_apart es e h (n refl)
+apart_if es e true h n = are_apart-push es e h (n refl)
 apart_if es e false h n = h
 
 wake_good : (count : ℕ) (Q : Entry → Type 0) (w : Land ℕ) (at : Pos → ℕ) (lists : Lists) (e : Entry) → is_loaded w e.pos ≡ true → Q e → is_pending e.pos (lists (chunk_of e.pos)) ≡ false
@@ -229,12 +214,9 @@ without_due_good count Q R now w h g = record {
   unloaded = g.unloaded;
   none = λ c u. ap (λ es. filter (λ e. not (is_due now e)) es) (g.none c u);
   entries = λ c. filtered_all (λ e. not (is_due now e)) (IsEntryOf Q (is_loaded w) c) (IsEntryOf R (is_loaded w) c) (w.lists c)
-      (λ e t s. record { here = s.here; there = s.there; holds = h e (not_true (is_due now e) t) s.holds }) (g.entries c);
+      (λ e t s. record { here = s.here; there = s.there; holds = h e (not-true (is_due now e) t) s.holds }) (g.entries c);
   apart = λ c. are_apart-filter (λ e. not (is_due now e)) (w.lists c) (g.apart c);
-} where
-  not_true : (b : Bool) → not b ≡ true → b ≡ false
-  not_true true t = sym t
-  not_true false t = refl
+}
 
 -- an entry that is not due stays timely
 due_false : (n : ℕ) (x : ℤ) → int_le x (pos n) ≡ false → pos n <ℤ x

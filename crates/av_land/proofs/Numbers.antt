@@ -1,6 +1,7 @@
 -- The numbers of a world stay below a count.
 use Rattle.std.proofs.Common.{◌≡◌, ℕ, zero, suc, ◌+◌, ◌<◌, ◌≤◌, nat_eq, List, [], ◌∷◌, Bool, true, false, cond, refl, sym, subst, arith}
 use Rattle.std.specs.List.{AllByRecursion}
+use Rattle.std.proofs.lemmas.Bool.{cond_both}
 use Rattle.av_types.specs.declared.place.Pos.{Pos}
 use Rattle.av_types.specs.declared.tick.Entry.{Entry}
 use Rattle.av_cells.specs.declared.kind.Kind.{Kind}
@@ -18,14 +19,10 @@ record IsBelow (count : ℕ) (L : Pos → Bool) (c : Change) : Type 0 where
   loaded : c.world.loaded ≡ L
   below : (p : Pos) → c.world.number p < count
 
-number_if : (b : Bool) (n m count : ℕ) → n < count → m < count → cond b n m < count
-number_if true n m count a b = a
-number_if false n m count a b = b
-
 closed : (k : ℕ → Kind) (now count : ℕ) (L : Pos → Bool) → IsClosed k now L (λ m. m < count) (IsBelow count L)
 closed k now count L = record {
   loads = λ c s. s.loaded;
-  set = λ p m c less l s. record { loaded = s.loaded; below = λ q. number_if (same_pos q p) m (c.world.number q) count less (s.below q) };
+  set = λ p m c less l s. record { loaded = s.loaded; below = λ q. cond_both (same_pos q p) m (c.world.number q) (λ n. n < count) (λ _. less) (λ _. s.below q) };
   wake = λ p c l free s. record { loaded = s.loaded; below = s.below };
 }
 
@@ -37,7 +34,7 @@ woken_number k now (p ∷ ps) c = woken_number k now ps (woken k now p c)
 set_below : (k : ℕ → Kind) (now count : ℕ) (p : Pos) (m : ℕ) (w : Land ℕ) → m < count → AreBelow count w → AreBelow count (set_in k now p m w)
 unfolding set_awake
 set_below k now count p m w less h q =
-    subst (λ f. f q < count) (sym (woken_number k now (around p) (change (with_number (cells_of w) p m) []))) (number_if (same_pos q p) m (w.at q) count less (h q))
+    subst (λ f. f q < count) (sym (woken_number k now (around p) (change (with_number (cells_of w) p m) []))) (cond_both (same_pos q p) m (w.at q) (λ n. n < count) (λ _. less) (λ _. h q))
 
 turned_below : (k : ℕ → Kind) (now count : ℕ) (p : Pos) (w : Land ℕ) → 10 ≤ count → AreBelow count w → AreBelow count (turned k now p w)
 turned_below k now count p w ten h =

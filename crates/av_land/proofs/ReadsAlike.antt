@@ -1,11 +1,11 @@
 -- What the rule reads of a world with other numbers.
-use Rattle.std.proofs.Common.{◌≡◌, ℕ, zero, suc, ◌<◌, min, nat_lt, nat_eq, Bool, true, false, ◌&&◌, ◌||◌, cond, Some, None, refl, ap, sym, arith}
+use Rattle.std.proofs.Common.{◌≡◌, ℕ, zero, suc, min, nat_lt, nat_eq, Bool, true, false, ◌&&◌, ◌||◌, cond, Some, None, refl, ap, sym}
 use Rattle.std.specs.Prelude.{option_map}
+use Rattle.av_water.proofs.Renumbered.{wet_is_first}
 use Rattle.av_types.specs.declared.place.Pos.{Pos}
 use Rattle.av_types.specs.declared.water.Direction.{Direction}
 use Rattle.av_types.specs.declared.water.Direction.TheVariants.{North, South, West, East}
 use Rattle.av_types.specs.declared.water.Wet.{Wet}
-use Rattle.av_types.specs.declared.water.Wet.TheVariants.{Dry, Source, Flow, Falling}
 use Rattle.av_cells.specs.declared.kind.Kind.{Kind}
 use Rattle.av_cells.specs.Positions.{step}
 use Rattle.av_cells.specs.World.{World}
@@ -69,14 +69,8 @@ chosen_moved k f w p d =
     let l = least_moved k f w p in
     λ i. nat_lt (g i) 6 && nat_eq (g i) (l i)
 
-water_is_first : (x : Wet) → number_of_wet x < 10
-water_is_first Dry = omega arith
-water_is_first Source = omega arith
-water_is_first (Flow a) = omega arith
-water_is_first Falling = omega arith
-
 pub water_kept : (f : ℕ → ℕ) (x : Wet) → KeepsFirst f → f (number_of_wet x) ≡ number_of_wet x
-water_kept f x keeps = keeps (number_of_wet x) (water_is_first x)
+water_kept f x keeps = keeps (number_of_wet x) (wet_is_first x)
 
 map_if : (f : ℕ → ℕ) (b : Bool) (m n : ℕ) → f m ≡ n → cond b (Some n) None ≡ option_map f (cond b (Some m) None)
 map_if f true m n h = ap (λ x. Some x) (sym h)

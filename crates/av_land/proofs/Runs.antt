@@ -14,7 +14,7 @@ use Rattle.av_types.specs.declared.place.Pos.{Pos}
 use Rattle.av_types.specs.declared.place.ChunkPos.{ChunkPos}
 use Rattle.av_types.specs.declared.tick.Entry.{Entry}
 use Rattle.av_ticks.specs.Entries.{same_pos, is_pending, is_due, due_order}
-use Rattle.av_ticks.specs.Order.{inserted, ordered}
+use Rattle.av_types.specs.Order.{inserted, ordered}
 use Rattle.av_cells.specs.declared.kind.Kind.{Kind}
 use Rattle.av_cells.specs.Positions.{same_chunk}
 use Rattle.av_cells.specs.World.{Lists, listed_if, listed_all}

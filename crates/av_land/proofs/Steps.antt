@@ -1,20 +1,19 @@
 -- What holds of a change through each set and each waking of a turn.
-use Rattle.std.proofs.Common.{◌≡◌, ◌∙◌, ℕ, ◌<◌, nat_le, nat_lt, nat_eq, List, [], ◌∷◌, ◌++◌, Bool, true, false, not, ◌&&◌, ◌||◌, cond, Some, None, refl, ap, sym, arith}
-use Rattle.std.proofs.lemmas.Bool.{and_parts}
-use Rattle.std.proofs.lemmas.Bool.Decides.{nat_tests}
+use Rattle.std.proofs.Common.{◌≡◌, ◌∙◌, ℕ, ◌<◌, nat_le, List, [], ◌∷◌, ◌++◌, Bool, true, false, not, ◌||◌, cond, Some, None, refl, ap, sym}
+use Rattle.std.proofs.lemmas.Bool.{and_parts, not-true}
+use Rattle.av_water.proofs.Renumbered.{wet_is_first}
 use Rattle.av_types.specs.declared.place.Pos.{Pos}
 use Rattle.av_types.specs.declared.water.Direction.{Direction}
 use Rattle.av_types.specs.declared.water.Direction.TheVariants.{North, South, West, East}
 use Rattle.av_types.specs.declared.water.Wet.{Wet}
-use Rattle.av_types.specs.declared.water.Wet.TheVariants.{Dry, Source, Flow, Falling}
 use Rattle.av_types.specs.Water.{is_wet, is_source}
 use Rattle.av_cells.specs.declared.kind.Kind.{Kind}
 use Rattle.av_cells.specs.Positions.{step, below, around}
 use Rattle.av_cells.specs.World.{World, with_number, with_entry_if}
 use Rattle.av_cells.specs.Rule.{wet_at, can_enter, has_hole, sources_beside, incoming_at}
-use Rattle.av_cells.specs.Turn.{Change, change, entry_of, wakes, woken, woken_all, set_awake, rank_at, least_rank, is_chosen, number_of_wet, planned, set_planned, spread, same_wet, onward, renewed, turn}
+use Rattle.av_cells.specs.Turn.{Change, change, entry_of, wakes, woken, woken_all, set_awake, is_chosen, number_of_wet, planned, set_planned, spread, same_wet, onward, renewed, turn}
 use Rattle.av_cells.proofs.Loaded.{wet_is_loaded}
-use Rattle.av_water.proofs.Plans.{enterable_is_loaded, side_is_loaded}
+use Rattle.av_water.proofs.Plans.{enterable_is_loaded, chosen_is_loaded}
 
 -- a fact about changes that keeps through the waking of a block, and through a set of a loaded block to some numbers; L is what is loaded
 pub record IsClosed (k : ℕ → Kind) (now : ℕ) (L : Pos → Bool) (M : ℕ → Type 0) (I : Change → Type 0) : Type 0 where
@@ -25,16 +24,12 @@ pub record IsClosed (k : ℕ → Kind) (now : ℕ) (L : Pos → Bool) (M : ℕ �
 there : (k : ℕ → Kind) (now : ℕ) (L : Pos → Bool) (M : ℕ → Type 0) (I : Change → Type 0) → IsClosed k now L M I → (c : Change) (p : Pos) → I c → c.world.loaded p ≡ true → L p ≡ true
 there k now L M I h c p s l = sym (ap (λ f. f p) (h.loads c s)) ∙ l
 
-not_pending : (b : Bool) → not b ≡ true → b ≡ false
-not_pending true h = sym h
-not_pending false h = refl
-
 woken_if : (k : ℕ → Kind) (now : ℕ) (L : Pos → Bool) (M : ℕ → Type 0) (I : Change → Type 0) → IsClosed k now L M I → (p : Pos) (c : Change) (b : Bool) → wakes k c.world p ≡ b → I c
     → I (change (with_entry_if b c.world (entry_of p now)) (cond b (c.made ++ entry_of p now ∷ []) c.made))
 woken_if k now L M I h p c false e s = s
 woken_if k now L M I h p c true e s =
     let parts = and_parts (is_wet (wet_at k c.world p)) (not (c.world.pending p)) e in
-    h.wake p c (there k now L M I h c p s (wet_is_loaded k c.world p parts.0)) (not_pending (c.world.pending p) parts.1) s
+    h.wake p c (there k now L M I h c p s (wet_is_loaded k c.world p parts.0)) (not-true (c.world.pending p) parts.1) s
 
 woken_keeps : (k : ℕ → Kind) (now : ℕ) (L : Pos → Bool) (M : ℕ → Type 0) (I : Change → Type 0) → IsClosed k now L M I → (p : Pos) (c : Change) → I c → I (woken k now p c)
 unfolding woken
@@ -48,24 +43,11 @@ pub set_keeps : (k : ℕ → Kind) (now : ℕ) (L : Pos → Bool) (M : ℕ → T
 unfolding set_awake
 set_keeps k now L M I h p m c less l s = woken_all_keeps k now L M I h (around p) (change (with_number c.world p m) c.made) (h.set p m c less l s)
 
-water_is_first : (x : Wet) → number_of_wet x < 10
-water_is_first Dry = omega arith
-water_is_first Source = omega arith
-water_is_first (Flow a) = omega arith
-water_is_first Falling = omega arith
-
 abbrev First : (ℕ → Type 0) → Type 0
 First M = (m : ℕ) → m < 10 → M m
 
 set_wet : (k : ℕ → Kind) (now : ℕ) (L : Pos → Bool) (M : ℕ → Type 0) (I : Change → Type 0) → IsClosed k now L M I → First M → (p : Pos) (x : Wet) (c : Change) → L p ≡ true → I c → I (set_awake k now p (number_of_wet x) c)
-set_wet k now L M I h first p x c l s = set_keeps k now L M I h p (number_of_wet x) c (first (number_of_wet x) (water_is_first x)) l s
-
-chosen_parts : (r l : ℕ) → (nat_lt r 6 && nat_eq r l) ≡ true → r < 6
-chosen_parts r l h = grind (arith, nat_tests)
-
-chosen_is_loaded : (k : ℕ → Kind) (w : World) (p : Pos) (d : Direction) → is_chosen k w p d ≡ true → w.loaded (step p d) ≡ true
-unfolding is_chosen
-chosen_is_loaded k w p d h = side_is_loaded k w p d (rank_at k w p d) refl (chosen_parts (rank_at k w p d) (least_rank k w p) h)
+set_wet k now L M I h first p x c l s = set_keeps k now L M I h p (number_of_wet x) c (first (number_of_wet x) (wet_is_first x)) l s
 
 if_keeps : (I : Change → Type 0) (b : Bool) (x y : Change) → (b ≡ true → I x) → I y → I (cond b x y)
 if_keeps I true x y s t = s refl

@@ -5,7 +5,7 @@ use Rattle.std.specs.Ordering.{nat_cmp}
 use Rattle.std.specs.declared.cmp.Ordering.{Ordering}
 use Rattle.av_types.specs.declared.place.ChunkPos.{ChunkPos}
 use Rattle.av_ticks.specs.Entries.{is_due}
-use Rattle.av_ticks.specs.Order.{ordered}
+use Rattle.av_types.specs.Order.{ordered}
 use Rattle.av_cells.specs.declared.kind.Kind.{Kind}
 use Rattle.av_land.specs.Land.{Land}
 use Rattle.av_land.specs.Tick.{Set, ticked, tick_count, run, run_count}

@@ -1,9 +1,9 @@
 -- Lists of the blocks that give light.
-use Rattle.std.proofs.Common.{◌≡◌, ℕ, ℤ, pos, negsuc, ◌+ℤ◌, ◌-ℤ◌, ◌≤ℤ◌, zero, suc, ◌+◌, ◌<◌, ◌≤◌, ◌%◌, ◌/◌, true, List, [], ◌∷◌, ◌++◌, length, get_or, refl, sym, ap, ◌∙◌, subst, arith, Vec, Global, Result, Ok, Err}
+use Rattle.std.proofs.Common.{◌≡◌, ℕ, ℤ, pos, negsuc, ◌+ℤ◌, ◌-ℤ◌, ◌≤ℤ◌, zero, suc, ◌+◌, ◌<◌, ◌≤◌, ◌%◌, ◌/◌, true, List, [], ◌∷◌, ◌++◌, length, get_or, sym, ap, ◌∙◌, subst, arith, Vec, Global, Result, Ok, Err}
 use Rattle.std.specs.Prelude.{Contains, map, IfOk, MatchResult}
 use Rattle.std.specs.List.{list_any, AllZip}
 use Rattle.std.proofs.lemmas.Int.{ints}
-use Rattle.std.proofs.lemmas.List.{get_or-map, length-map}
+use Rattle.std.proofs.lemmas.List.{get_or-map, length-map, get_or_default}
 use Rattle.std.proofs.Math.ListN.{get_or-eq_default}
 use Rattle.std.proofs.lemmas.List.Folds.{list_any-from_Any}
 use Rattle.std.proofs.lemmas.Map.Views.{Contains-from_any}
@@ -68,14 +68,9 @@ pub known_by : (k : Kinds) (w v : World) (ls ms : List (Vec Pos Global)) (c : Ch
     → AreKnown (terrain_of k (blocks v)) (λ d. lamps_at v (map (λ x. x.items) ms) d) c
 known_by k w v ls ms c e f h = known_as k w v ls ms c e f (AreKnown-all k w (map (λ x. x.items) ls) c h)
 
-same_read : (cs : List ChunkPos) (i : ℕ) (a b : ChunkPos) → i < length cs → get_or cs i a ≡ get_or cs i b
-same_read [] i a b l = absurd (omega arith)
-same_read (c ∷ cs) zero a b l = refl
-same_read (c ∷ cs) (suc i) a b l = same_read cs i a b (omega arith)
-
 -- what holds of a place in one list of chunks holds in an equal one
 pub at_place : (P : ChunkPos → Type 0) (cs ps : List ChunkPos) (i : ℕ) (a : ChunkPos) → cs ≡ ps → i < length cs → P (get_or cs i a) → (d : ChunkPos) → P (get_or ps i d)
-at_place P cs ps i a e l h d = subst P (same_read cs i a d l ∙ ap (λ qs. get_or qs i d) e) h
+at_place P cs ps i a e l h d = subst P (get_or_default cs i a d l ∙ ap (λ qs. get_or qs i d) e) h
 
 -- an answer for a chunk: its list, or a fault
 abbrev pub GoodAt : (E : Type 0) → (ChunkPos → Vec Pos Global → Type 0) → ChunkPos → Result (Vec Pos Global) E → Type 0

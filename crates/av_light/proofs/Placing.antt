@@ -1,8 +1,9 @@
 -- Lights in the slots of their chunks.
-use Rattle.std.proofs.Common.{◌≡◌, ℕ, zero, suc, ◌+◌, ◌<◌, List, [], ◌∷◌, ◌++◌, length, get_or, set, take, Option, None, Some, refl, sym, subst, ◌∙◌, arith}
-use Rattle.std.proofs.lemmas.List.{take_more}
+use Rattle.std.proofs.Common.{◌≡◌, ℕ, zero, suc, ◌+◌, ◌<◌, List, [], ◌∷◌, ◌++◌, length, get_or, set, take, Option, None, sym, subst, ◌∙◌, arith}
+use Rattle.std.proofs.lemmas.List.{take_more, get_or_default}
 use Rattle.std.specs.Prelude.{IfSome}
 use Rattle.std.specs.List.{All, AllZip}
+use Rattle.std.proofs.lemmas.Option.{IfSome_then}
 use Rattle.av_types.specs.declared.place.ChunkPos.{ChunkPos}
 use Rattle.av_chunk.specs.declared.light.ChunkLight.{ChunkLight}
 use Rattle.av_rules.specs.declared.kinds.Kinds.{Kinds}
@@ -35,21 +36,12 @@ pub lit_more : (R : ChunkPos → ChunkLight → Type 0) (cs : List ChunkPos) (ls
     → AllZip R (take (i + 1) cs) (ls ++ l ∷ [])
 lit_more R cs ls i d l less h is = subst (λ xs. AllZip R xs (ls ++ l ∷ [])) (sym (take_more cs i d less)) (zip_push R (take i cs) ls (get_or cs i d) l h is)
 
-same_read : {X : Type 0} (xs : List X) (i : ℕ) (a b : X) → i < length xs → get_or xs i a ≡ get_or xs i b
-same_read [] i a b l = absurd (omega arith)
-same_read (x ∷ xs) zero a b l = refl
-same_read (x ∷ xs) (suc i) a b l = same_read xs i a b (omega arith)
-
-if_some : {X : Type 0} {P Q : X → Type 0} → (o : Option X) → ((x : X) → P x → Q x) → IfSome o P → IfSome o Q
-if_some None turn h = tt
-if_some (Some x) turn h = turn x h
-
 -- what a slot has, of the chunk that stands there
 pub placed_at : (k : Kinds) (w : World) (slots : List (Option ChunkLight)) (i : ℕ) (o : Option ChunkLight) (cs : List ChunkPos) (d : ChunkPos)
     → ArePlaced k w slots → i < length slots → o ≡ get_or slots i o → cs ≡ positions_of w → IfSome o (IsChunkLight k (blocks w) (height_of w) (get_or cs i d))
 placed_at k w slots i o cs d h less is same =
-    let here : IfSome o (IsChunkLightAt k w i) = subst (λ s. IfSome s (IsChunkLightAt k w i)) (sym (is ∙ same_read slots i o None less)) (h i) in
-    if_some o (λ l p. subst (λ ps. IsChunkLight k (blocks w) (height_of w) (get_or ps i d) l) (sym same) (p.light d)) here
+    let here : IfSome o (IsChunkLightAt k w i) = subst (λ s. IfSome s (IsChunkLightAt k w i)) (sym (is ∙ get_or_default slots i o None less)) (h i) in
+    IfSome_then o here (λ l p. subst (λ ps. IsChunkLight k (blocks w) (height_of w) (get_or ps i d) l) (sym same) (p.light d))
 
 -- one light more
 pub one_more : (k : Kinds) (w : World) (ps : List PlacedLight) (p : PlacedLight) → All (IsLitAt k w) ps → IsLitAt k w p → All (IsLitAt k w) (ps ++ p ∷ [])

@@ -71,7 +71,7 @@ pub fn light_all(
     ensures sections { IfOk result (λ lights. All (λ l. section_count l ≡ (height_of world.now).sections) lights.items) }
     ensures blocks { IfOk result (λ lights. AreLit kinds.now world.now lights.items) }
     ensures sound { OnOk result (is_broken world.now ≡ false) }
-    ensures fault { IfErr result (λ e. e ≡ (if is_broken world.now then Broken else OutOfMemory)) }
+    ensures err { IfErr result (λ e. e ≡ (if is_broken world.now then Broken else OutOfMemory)) }
 {
     if world.broken() {
         return Err(Fault::Broken);

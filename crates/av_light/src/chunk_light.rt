@@ -30,7 +30,7 @@ pub fn flood(alloc: Global, world: &World, kinds: &Kinds, chunk: ChunkPos) -> Re
     ensures light { IfOk result (λ f. (p : Pos) → chunk_of p ≡ chunk
         → IsLight (terrain_of kinds.now (blocks world.now)) p (light_of f p)) }
     ensures sound { OnOk result (is_broken world.now ≡ false) }
-    ensures fault { IfErr result (λ e. e ≡ (if is_broken world.now then Broken else OutOfMemory)) }
+    ensures err { IfErr result (λ e. e ≡ (if is_broken world.now then Broken else OutOfMemory)) }
 {
     if world.broken() {
         return Err(Fault::Broken);
@@ -68,7 +68,7 @@ pub fn light_of_chunk(
 ) -> Result<ChunkLight, Fault>
     ensures light { IfOk result (IsChunkLight kinds.now (blocks world.now) (height_of world.now) chunk) }
     ensures sound { OnOk result (is_broken world.now ≡ false) }
-    ensures fault { IfErr result (λ e. e ≡ (if is_broken world.now then Broken else OutOfMemory)) }
+    ensures err { IfErr result (λ e. e ≡ (if is_broken world.now then Broken else OutOfMemory)) }
 {
     if world.broken() {
         return Err(Fault::Broken);

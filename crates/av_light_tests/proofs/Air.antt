@@ -2,7 +2,7 @@
 use Rattle.std.proofs.Common.{◌≡◌, ℕ, zero, suc, ◌++◌, List, [], ◌∷◌, length, get_or, Bool, true, false, cond, Option, Some, None, refl, subst, sym, arith, ap, ◌∙◌}
 use Rattle.std.specs.List.{All}
 use Rattle.av_types.specs.Division.{divided}
-use Rattle.av_types.specs.Places.{place_of, is_section_of}
+use Rattle.av_types.specs.Places.{place_of, is_section_of, section_index}
 use Rattle.av_types.specs.declared.place.ChunkPos.{ChunkPos}
 use Rattle.av_types.specs.declared.place.Height.{Height}
 use Rattle.av_section.specs.Section.{IsFilled}
@@ -10,7 +10,6 @@ use Rattle.av_section.specs.declared.section.Section.{Section}
 use Rattle.av_ticks.specs.Entries.{is_pending}
 use Rattle.av_ticks.specs.Ticks.{entries}
 use Rattle.av_document.specs.Ticks.{lies_in}
-use Rattle.av_chunk.specs.Rest.{offset_of}
 use Rattle.av_chunk.specs.declared.chunk.Chunk.{Chunk}
 use Rattle.av_cells.specs.Grid.{pending_in}
 use Rattle.av_world.specs.Sections.{filling_in}
@@ -36,7 +35,7 @@ pub new_chunk : (c : ChunkPos) (h : Height) (x : Chunk) → length x.sections.it
 new_chunk c h x count idle none = record {
   whole = count;
   within = subst (All (λ e. lies_in c h e.pos ≡ true)) (sym none) (λ k d less. absurd (omega arith));
-  tied = λ p e t. waits (is_section_of h (divided p.y 16)) (get_or x.sections.items (offset_of h (divided p.y 16)) None) (place_of p) (idle (offset_of h (divided p.y 16))) ∙ sym (ap (is_pending p) none);
+  tied = λ p e t. waits (is_section_of h (divided p.y 16)) (get_or x.sections.items (section_index h (divided p.y 16)) None) (place_of p) (idle (section_index h (divided p.y 16))) ∙ sym (ap (is_pending p) none);
 } where
   waits : (b : Bool) (o : Option Section) (i : ℕ) → IsIdle o → pending_in (filling_in (cond b o None)) i ≡ false
   waits true o i idle = idle.idle i

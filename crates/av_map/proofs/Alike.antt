@@ -1,6 +1,5 @@
 -- Columns that look alike show the same.
-use Rattle.std.proofs.Common.{inl, inr, ◌-◌, subst, ◌≡◌, ℕ, zero, suc, ◌+◌, ◌<◌, ◌≤◌, ◌∷◌, map, Option, Some, None, option_map, Bool, true, false, cond, refl, sym, ap, ◌∙◌, arith}
-use Rattle.std.specs.List.{range_with_len}
+use Rattle.std.proofs.Common.{inl, inr, ◌-◌, subst, ◌≡◌, ℕ, zero, suc, ◌+◌, ◌<◌, ◌≤◌, Option, Some, None, option_map, Bool, true, false, cond, refl, sym, ap, ◌∙◌, arith}
 use Rattle.std.specs.Prelude.{not}
 use Rattle.std.proofs.lemmas.Option.{same_Some}
 use Rattle.std.proofs.Math.Nat.{eq-or-lt_of_le}
@@ -58,13 +57,6 @@ light_sight_same f g l m n e d =
     ap (option_map _) (top_same f g n e)
     ∙ option_same _ _ (top_in g n) (λ k h. ap (λ level. record { top = k; colour = grey level; is_sloped = false }) (d (suc k)))
 
--- one after the other
-pub same_range : {A : Type 0} (f g : ℕ → A) (a n : ℕ) → ((i : ℕ) → i < a + n → f i ≡ g i) → map f (range_with_len a n) ≡ map g (range_with_len a n)
-same_range f g a zero e = refl
-same_range f g a (suc n) e =
-    let rest : (i : ℕ) → i < a + 1 + n → f i ≡ g i = λ i h. e i (omega arith) in
-    ap (λ x. x ∷ map f (range_with_len (a + 1) n)) (e a (omega arith)) ∙ ap (λ xs. g a ∷ xs) (same_range f g (a + 1) n rest)
-
 -- ---- a block further down
 
 pub top_step : (f : ℕ → Look) (blocks block : ℕ) → 0 < block → (f (block - 1)).is_air ≡ true → top_in f block ≡ top_in f blocks → top_in f (block - 1) ≡ top_in f blocks
@@ -82,7 +74,3 @@ depth_step f blocks (suc m) low within water e =
     let here : (f m).is_water ≡ true = subst (λ k. (f k).is_water ≡ true) back water in
     let deeper : depth_in f (suc m) ≡ suc (depth_in f m) = ap (λ b. cond b (suc (depth_in f m)) 0) here in
     ap (λ k. (blocks - k) + depth_in f k) back ∙ omega (arith, deeper, within, e)
-
-pub of_not : (b : Bool) → not b ≡ false → b ≡ true
-of_not true e = refl
-of_not false e = cc

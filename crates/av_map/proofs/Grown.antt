@@ -1,7 +1,7 @@
 -- Rows of patches that grow at their end.
 use Rattle.std.proofs.Common.{◌≡◌, ◌∙◌, ℕ, ◌+◌, ◌<◌, ◌≤◌, List, [], ◌∷◌, ◌++◌, Vec, Global, length, get_or, sym, ap, arith}
 use Rattle.std.specs.List.{All}
-use Rattle.std.proofs.lemmas.List.{get_or-map, length-map}
+use Rattle.std.proofs.lemmas.List.{get_or-map, length-map, length_push}
 use Rattle.av_region_files.specs.declared.files.RegionFile.{RegionFile}
 use Rattle.av_types.specs.declared.place.Height.{Height}
 use Rattle.av_map.specs.Colours.{NamedColour}
@@ -11,19 +11,19 @@ use Rattle.av_map.specs.declared.bounds.Bounds.{Bounds}
 use Rattle.av_map.specs.declared.patch.Patch.{Patch}
 use Rattle.av_map.specs.declared.patch.Patch.TheVariants.{Clear}
 use Rattle.av_map.specs.declared.view.View.{View}
-use Rattle.av_map.proofs.Each.{each_push, length-push}
+use Rattle.av_map.proofs.Each.{each_push}
 
 pub row_more : (view : View) (named : List NamedColour) (h : Height) (files : List RegionFile) (b : Bounds) (z n : ℕ) (row : List Patch) (patch : Patch) → IsPatchRow view named h files b z n row
     → Shows view named h files (region_at b n z) (index_at n z) patch → IsPatchRow view named h files b z (n + 1) (row ++ patch ∷ [])
 row_more view named h files b z n row patch are shows = record {
-  count_is = length-push row patch n are.count_is;
+  count_is = length_push row patch ∙ ap (λ k. k + 1) are.count_is;
   each = each_push Clear (λ x p. Shows view named h files (region_at b x z) (index_at x z) p) row patch n are.count_is are.each shows;
 }
 
 pub rows_more : (view : View) (named : List NamedColour) (h : Height) (files : List RegionFile) (b : Bounds) (width n : ℕ) (rows : List (List Patch)) (row : List Patch)
     → ArePatches view named h files b width n rows → IsPatchRow view named h files b n width row → ArePatches view named h files b width (n + 1) (rows ++ row ∷ [])
 rows_more view named h files b width n rows row are is = record {
-  count_is = length-push rows row n are.count_is;
+  count_is = length_push rows row ∙ ap (λ k. k + 1) are.count_is;
   each_row = each_push [] (λ z r. IsPatchRow view named h files b z width r) rows row n are.count_is are.each_row is;
 }
 

@@ -3,7 +3,8 @@ use Rattle.std.specs.Prelude.{ℕ, ◌+◌, ◌*◌, ◌/◌, ◌%◌, ◌==◌,
 use Rattle.av_types.specs.declared.place.Height.{Height}
 use Rattle.av_tags.specs.Nbt.{Nbt, NamedTag, byte_array}
 use Rattle.av_tags.specs.Place.{tag_of}
-use Rattle.av_tags.specs.Shape.{◌>>=◌, items_of_list, or_else}
+use Rattle.av_types.specs.Options.{◌>>=◌}
+use Rattle.av_tags.specs.Shape.{items_of_list, or_else}
 use Rattle.av_pack.specs.Nibbles.{nibble_at}
 use Rattle.av_document.specs.Chunk.{numbered}
 use Rattle.av_chunk.specs.Rest.{opened}

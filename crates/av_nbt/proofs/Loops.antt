@@ -6,7 +6,7 @@ use Rattle.av_types.specs.declared.fault.Fault.TheVariants.{OutOfMemory, BadNbt}
 use Rattle.av_tags.specs.declared.tag.TagType.{TagType}
 use Rattle.av_tags.specs.TagTypes.{is_end}
 use Rattle.av_tags.specs.Nbt.{NamedTag}
-use Rattle.av_tags.specs.Shape.{◌>>=◌}
+use Rattle.av_types.specs.Options.{◌>>=◌}
 use Rattle.av_nbt.specs.Appending.{Writes}
 use Rattle.av_nbt.specs.Reading.{Fails, Gives, Field, Reader, type_at, named_at, repeat_at, until_end, with_front}
 

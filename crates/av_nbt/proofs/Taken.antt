@@ -10,7 +10,7 @@ use Rattle.std.specs.Int.{Width, w16, w32, byte_len, to_be_bytes, from_be_bytes,
 use Rattle.av_tags.specs.declared.tag.TagType.{TagType}
 use Rattle.av_tags.specs.declared.tag.TagType.TheVariants as tag_type
 use Rattle.av_tags.specs.TagTypes.{type_number, type_from}
-use Rattle.av_tags.specs.Shape.{◌>>=◌}
+use Rattle.av_types.specs.Options.{◌>>=◌}
 use Rattle.av_nbt.specs.Spelling.{SpellsNumber, SpellsNumbers, SpellsBits, SpellsText, count_of}
 use Rattle.av_nbt.specs.Reading.{Field, front_at, number_at, signed_at, type_at, text_at, length_from, length_at, list_length_at, bytes_at, signed_in, numbers_at}
 use Rattle.av_nbt.proofs.Bytes.{AreBytes, Codes, codes_16, codes_32, bytes_left, bytes_right}

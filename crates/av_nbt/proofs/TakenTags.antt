@@ -10,7 +10,7 @@ use Rattle.av_tags.specs.declared.tag.TagType.{TagType}
 use Rattle.av_tags.specs.declared.tag.TagType.TheVariants as tag_type
 use Rattle.av_tags.specs.TagTypes.{type_number, is_end, is_compound}
 use Rattle.av_tags.specs.Nbt.{Nbt, byte, int16, int, int64, bits32, bits64, byte_array, text, list, compound, int_array, long_array, NamedTag, Document, tag_type_of, items_of, members_of, item_count, LacksMember, AreOf, HaveDistinctNames, depth, items_depth, members_depth}
-use Rattle.av_tags.specs.Shape.{◌>>=◌}
+use Rattle.av_types.specs.Options.{◌>>=◌}
 use Rattle.av_nbt.specs.Spelling.{Spells, SpellsItems, SpellsMembers, SpellsNumber, SpellsBits, SpellsText, SpellsDocument}
 use Rattle.av_nbt.specs.Reading.{Field, Reader, as_field, number_at, signed_at, type_at, text_at, list_length_at, bytes_at, numbers_at, leaf_at, repeat_at, list_at, named_at, until_end, has_name, are_distinct, members_at, compound_at, payload_at, document_at}
 use Rattle.av_nbt.proofs.Bytes.{AreBytes, codes_8, codes_16, codes_32, codes_64, bytes_right}

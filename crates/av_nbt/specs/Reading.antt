@@ -10,7 +10,7 @@ use Rattle.av_tags.specs.declared.tag.TagType.{TagType}
 use Rattle.av_tags.specs.declared.tag.TagType.TheVariants as tag_type
 use Rattle.av_tags.specs.TagTypes.{type_from, is_end, is_compound}
 use Rattle.av_tags.specs.Nbt.{Nbt, byte, int16, int, int64, bits32, bits64, byte_array, text, list, compound, int_array, long_array, NamedTag, Document, items_of, members_of}
-use Rattle.av_tags.specs.Shape.{◌>>=◌}
+use Rattle.av_types.specs.Options.{◌>>=◌}
 use Rattle.av_nbt.specs.Spelling.{count_of}
 
 -- What a function returned, seen by view, is what reading gives, unless memory ran out.

@@ -180,7 +180,7 @@ fn write_root(out: &mut Vec<u8>, root: &Root) -> Result<(), AllocError>
 pub fn encode(alloc: Global, root: &Root) -> Result<Vec<u8>, Fault>
     requires { IsWellFormed (document root.now) }
     ensures written { IfOk result (λ bytes. bytes.items ≡ written_document (document root.now)) }
-    ensures fault { IfErr result (λ e. e ≡ OutOfMemory) }
+    ensures memory { IfErr result (λ e. e ≡ OutOfMemory) }
 {
     // memory is asked for once, where a vector that doubles would copy its bytes
     let mut out = Vec::with_capacity(alloc, root_size(root))?;

@@ -3,7 +3,7 @@ use Rattle.std.proofs.Common.{◌≡◌, ℕ, zero, suc, ◌+◌, ◌-◌, ◌*�
 use Rattle.std.specs.List.{range_with_len, list_all}
 use Rattle.std.proofs.lemmas.List.{same_lists, take_min}
 use Rattle.std.proofs.lemmas.List.FromFn.{length-map-range_with_len, get_or-map-range_with_len, map-range_with_len_more}
-use Rattle.std.proofs.lemmas.Bool.{lt-ltb, cases_lt}
+use Rattle.std.proofs.lemmas.Bool.{lt-ltb, cases_lt, and_left}
 use Rattle.std.proofs.lemmas.Nat.{mod-pow-add, div-add-mod', and_mask, one_shl}
 use Rattle.std.proofs.lemmas.List.Folds.{list_all-append}
 use Rattle.std.proofs.lemmas.List.FromFn.{take-map-range_with_len}
@@ -109,10 +109,6 @@ and_if : (b c : Bool) → b ≡ true → (b && c) ≡ c
 and_if true c h = refl
 and_if false c h = cc
 
-and_unless : (b c : Bool) → b ≡ false → (b && c) ≡ false
-and_unless true c h = cc
-and_unless false c h = refl
-
 pub below-next : (b n i few v count : ℕ) → i < few → v ≡ n / 2 ^ (b * i) % 2 ^ b → nat_lt v count ≡ true → below count (others b n i few) ≡ below count (others b n (i + 1) few)
 unfolding entry_of
 below-next b n i few v count within ev h =
@@ -121,7 +117,7 @@ below-next b n i few v count within ev h =
 pub below-not : (b n i few v count : ℕ) → i < few → v ≡ n / 2 ^ (b * i) % 2 ^ b → nat_lt v count ≡ false → below count (others b n i few) ≡ false
 unfolding entry_of
 below-not b n i few v count within ev h =
-    ap (below count) (others-next b n i few within) ∙ and_unless (nat_lt (entry_of b n i) count) (below count (others b n (i + 1) few)) (ap (λ x. nat_lt x count) (sym ev) ∙ h)
+    ap (below count) (others-next b n i few within) ∙ and_left (nat_lt (entry_of b n i) count) (below count (others b n (i + 1) few)) (ap (λ x. nat_lt x count) (sym ev) ∙ h)
 
 pub below-end : (b n i few count : ℕ) → few ≤ i → below count (others b n i few) ≡ true
 below-end b n i few count end = ap (below count) (others-none b n i few end)
@@ -139,7 +135,7 @@ pub below-refused : (b j count : ℕ) (longs : List ℤ) → below count (walked
 below-refused b j count longs h =
     ap (below count) (sym (walked-left b j longs))
     ∙ list_all-append (λ x. nat_lt x count) (walked b longs j) (left b longs j)
-    ∙ and_unless (below count (walked b longs j)) (below count (left b longs j)) h
+    ∙ and_left (below count (walked b longs j)) (below count (left b longs j)) h
 
 all_small : (f : ℕ → ℕ) (count a n : ℕ) → ((i : ℕ) → i < a + n → f i < count) → below count (map f (range_with_len a n)) ≡ true
 all_small f count a zero h = refl

@@ -327,7 +327,7 @@ pub fn pack(alloc: Global, values: &[u16], bits: u32) -> Result<Vec<i64>, Fault>
     requires fit { All (λ value. value < 2 ^ bits) values.now }
     ensures layout { IfOk result (λ longs. longs.items ≡ packed bits values.now) }
     ensures meaning { IfOk result (λ longs. IsPacked bits values.now longs.items) }
-    ensures err { IfErr result (λ e. e ≡ OutOfMemory) }
+    ensures memory { IfErr result (λ e. e ≡ OutOfMemory) }
 {
     Ok(match bits {
         4 => pack_by(alloc, values, 4)?,

@@ -7,13 +7,10 @@ use Rattle.av_types.specs.declared.place.Pos.{Pos}
 use Rattle.av_types.specs.declared.place.SectionPos.{SectionPos}
 use Rattle.av_types.specs.Places.{section_of}
 use Rattle.av_cells.specs.Positions.{InReach}
-use Rattle.av_cells.specs.Grid.{Grid, is_here, cells_of, IsInSixteen}
-use Rattle.av_cells.proofs.Sections.{lies_in}
+use Rattle.av_cells.specs.Grid.{Grid, is_here, cells_of}
+use Rattle.av_cells.proofs.Sections.{in_sixteen}
 use Rattle.av_play.specs.Parts.{InTerritory}
 use Rattle.av_play.specs.Corners.{corner, HasCorner}
-
-in_sixteen : (x : ℤ) → IsInSixteen (divided x 16) x
-in_sixteen x = (lies_in (record { x = x; y = x; z = x })).along_x
 
 one_of_two : (a b c : ℤ) → a ≤ℤ b → b ≤ℤ c → c ≤ℤ (a +ℤ pos 1) → (a ≡ b) ⊎ (c ≡ b)
 one_of_two a b c h i j = by (int_eq a b) refl where

@@ -1,6 +1,7 @@
 -- Every tick can be played: one worker takes one part after the other.
 use Rattle.std.proofs.Common.{◌≡◌, ℕ, zero, suc, ◌+◌, ◌<◌, ◌≤◌, List, [], ◌∷◌, ◌++◌, length, slice_get, slice_set, Some, None, ◌⊎◌, inl, inr, refl, sym, ap, ◌∙◌, subst, arith, append_assoc}
 use Rattle.std.proofs.lemmas.List.{append-nil}
+use Rattle.std.proofs.lemmas.Bool.{cases_lt}
 use Rattle.av_cells.specs.declared.kind.Kind.{Kind}
 use Rattle.av_cells.specs.World.{World, Lists}
 use Rattle.av_play.specs.declared.event.Placed.{Placed}
@@ -61,17 +62,8 @@ module _ (k : ℕ → Kind) (now : ℕ) (parts : List (List Placed)) where
     ahead : (m : ℕ) → first ≤ m → m < first + more → slice_get s.stages m ≡ Some Waits
     none : (m : ℕ) → first + more ≤ m → slice_get s.stages m ≡ None
 
-  below_or : (m n : ℕ) → (m < n) ⊎ (n ≤ m)
-  below_or zero zero = inr (omega arith)
-  below_or zero (suc n) = inl (omega arith)
-  below_or (suc m) zero = inr (omega arith)
-  below_or (suc m) (suc n) = by (below_or m n) where
-    by : (m < n) ⊎ (n ≤ m) → (suc m < suc n) ⊎ (suc n ≤ suc m)
-    by (inl h) = inl (omega arith)
-    by (inr h) = inr (omega arith)
-
   all_end : (more first : ℕ) (s : State) → AreWaiting first more s → CanEnd k now parts s
-  all_end zero first s a = record { events = []; lawful = tt; back = λ n g e. by n g e (below_or n first) } where
+  all_end zero first s a = record { events = []; lawful = tt; back = λ n g e. by n g e (cases_lt n first) } where
     by : (n : ℕ) (g : Stage) → slice_get s.stages n ≡ Some g → (n < first) ⊎ (first ≤ n) → g ≡ Ended
     by n g e (inl h) = let f = a.past n h in cc
     by n g e (inr h) = let f = a.none n (omega arith) in cc
@@ -84,7 +76,7 @@ module _ (k : ℕ → Kind) (now : ℕ) (parts : List (List Placed)) where
       next : (t : State) → IsEnded first (moved s first (Held 0 0)) t → slice_get s.stages first ≡ Some Waits → AreWaiting (suc first) more t
       next t i w =
           record {
-            past = λ m h. by m h (below_or m first);
+            past = λ m h. by m h (cases_lt m first);
             ahead = λ m h l. i.others m (λ e. omega arith) ∙ set_other s.stages first m Waits (Held 0 0) w (λ e. omega arith) ∙ a.ahead m (omega arith) (omega arith);
             none = λ m h. i.others m (λ e. omega arith) ∙ set_other s.stages first m Waits (Held 0 0) w (λ e. omega arith) ∙ a.none m (omega arith);
           }

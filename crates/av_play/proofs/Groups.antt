@@ -3,38 +3,16 @@ use Rattle.std.proofs.Common.{◌≡◌, ℕ, zero, suc, ◌+◌, ◌<◌, ◌�
 use Rattle.std.specs.List.{AllByRecursion, Contains}
 use Rattle.std.proofs.lemmas.Bool.Decides.{nat_tests}
 use Rattle.std.proofs.lemmas.List.Elements.{All-contains, All-from_recursion}
+use Rattle.std.proofs.lemmas.Bool.{false_from_ne_true, cases_lt, eqb-true, eq-eqb, cases_order}
+use Rattle.av_types.proofs.Each.{each_then}
 use Rattle.av_types.specs.declared.tick.Entry.{Entry}
 use Rattle.av_cells.specs.World.{World}
 use Rattle.av_play.specs.declared.event.Placed.{Placed}
 use Rattle.av_play.specs.Parts.{numbered, part_at, count_of, IsPlan, HasEntry, BeginsBefore}
 use Rattle.av_play.specs.Labels.{AreLabelled}
 use Rattle.av_play.specs.Groups.{AreFirst, rank, grouped}
-use Rattle.av_play.proofs.Lists.{same_number, itself, each_then}
 use Rattle.av_play.proofs.Trace.{known_all}
 use Rattle.av_play.proofs.Chains.{labels_together}
-
-not_here : (b : Bool) → (b ≡ true → ⊥) → b ≡ false
-not_here true f = absurd (f refl)
-not_here false f = refl
-
-below_or : (a b : ℕ) → (a < b) ⊎ (b ≤ a)
-below_or zero zero = inr (omega arith)
-below_or zero (suc b) = inl (omega arith)
-below_or (suc a) zero = inr (omega arith)
-below_or (suc a) (suc b) = on (below_or a b) where
-  on : (a < b) ⊎ (b ≤ a) → (suc a < suc b) ⊎ (suc b ≤ suc a)
-  on (inl f) = inl (omega arith)
-  on (inr f) = inr (omega arith)
-
-tri : (a b : ℕ) → (a < b) ⊎ ((a ≡ b) ⊎ (b < a))
-tri zero zero = inr (inl refl)
-tri zero (suc b) = inl (omega arith)
-tri (suc a) zero = inr (inr (omega arith))
-tri (suc a) (suc b) = on (tri a b) where
-  on : (a < b) ⊎ ((a ≡ b) ⊎ (b < a)) → (suc a < suc b) ⊎ ((suc a ≡ suc b) ⊎ (suc b < suc a))
-  on (inl f) = inl (omega arith)
-  on (inr (inl f)) = inr (inl (ap suc f))
-  on (inr (inr f)) = inr (inr (omega arith))
 
 count_grouped : (part_of : ℕ → ℕ) (all : List Placed) (from count : ℕ) → count_of (grouped part_of all from count) ≡ count
 count_grouped part_of all from zero = refl
@@ -72,11 +50,11 @@ first_below label i (suc j) h l =
 -- below every place with more ranks there is a first entry of that rank
 find_first : (label : ℕ → ℕ) (j n : ℕ) → n < rank label j → (l : ℕ) × (l < j) × (label l ≡ l) × (rank label l ≡ n)
 find_first label zero n h = absurd (omega arith)
-find_first label (suc j) n h = by (nat_eq (label j) j) refl h (below_or n (rank label j)) (find_first label j n) where
+find_first label (suc j) n h = by (nat_eq (label j) j) refl h (cases_lt n (rank label j)) (find_first label j n) where
   by : (b : Bool) → nat_eq (label j) j ≡ b → n < cond b (suc (rank label j)) (rank label j) → (n < rank label j) ⊎ (rank label j ≤ n)
       → (n < rank label j → (l : ℕ) × (l < j) × (label l ≡ l) × (rank label l ≡ n)) → (l : ℕ) × (l < suc j) × (label l ≡ l) × (rank label l ≡ n)
   by b e f (inl g) earlier = let r = earlier g in (r.0, omega arith, r.2, r.3)
-  by true e f (inr g) earlier = (j, omega arith, same_number (label j) j e, omega arith)
+  by true e f (inr g) earlier = (j, omega arith, eqb-true (label j) j e, omega arith)
   by false e f (inr g) earlier = absurd (omega arith)
 
 abbrev BeginsAt : ℕ → List Placed → Type 0
@@ -89,7 +67,7 @@ begins b n (e ∷ es) l low high h f = by (nat_eq n l) refl (begins b (suc n) es
   by : (c : Bool) → nat_eq n l ≡ c → (suc n ≤ l → l < suc n + length es → b l ≡ true → ((i : ℕ) → suc n ≤ i → i < l → b i ≡ false) → BeginsAt l (filter (λ x. b x.place) (numbered (suc n) es)))
       → BeginsAt l (cond (b n) (record { place = n; entry = e } ∷ filter (λ x. b x.place) (numbered (suc n) es)) (filter (λ x. b x.place) (numbered (suc n) es)))
   by true g more =
-      let i : n ≡ l = same_number n l g in
+      let i : n ≡ l = eqb-true n l g in
       subst (λ c. BeginsAt l (cond c (record { place = n; entry = e } ∷ filter (λ x. b x.place) (numbered (suc n) es)) (filter (λ x. b x.place) (numbered (suc n) es)))) (sym (ap b i ∙ h)) i
   by false g more =
       let i : n < l = grind (arith, nat_tests) in
@@ -121,7 +99,7 @@ module _ (w : World) (es : List Entry) (label : ℕ → ℕ) (h : AreLabelled w 
   part_of i = rank label (label i)
 
   is_first : (i : ℕ) → i < length es → nat_eq (label (label i)) (label i) ≡ true
-  is_first i l = subst (λ j. nat_eq j (label i) ≡ true) (sym (first i l).1) (itself (label i))
+  is_first i l = subst (λ j. nat_eq j (label i) ≡ true) (sym (first i l).1) (eq-eqb (label i) (label i) refl)
 
   in_tick : (x : Placed) → Contains all x → x.place < length es
   in_tick x c = let f = All-contains (λ (y : Placed). y.place < 0 + length es) all x (All-from_recursion _ _ (places 0 es)) c in omega arith
@@ -131,22 +109,22 @@ module _ (w : World) (es : List Entry) (label : ℕ → ℕ) (h : AreLabelled w 
 
   -- two first entries of one rank are one
   one_first : (i j : ℕ) → i < length es → nat_eq (label i) i ≡ true → j < length es → nat_eq (label j) j ≡ true → rank label i ≡ rank label j → i ≡ j
-  one_first i j li fi lj fj e = by (tri i j) where
-    by : (i < j) ⊎ ((i ≡ j) ⊎ (j < i)) → i ≡ j
-    by (inl f) = let g = first_below label i j fi f in absurd (omega arith)
-    by (inr (inl f)) = f
+  one_first i j li fi lj fj e = by (cases_order i j) where
+    by : (i ≡ j) ⊎ ((i < j) ⊎ (j < i)) → i ≡ j
+    by (inl f) = f
+    by (inr (inl f)) = let g = first_below label i j fi f in absurd (omega arith)
     by (inr (inr f)) = let g = first_below label j i fj f in absurd (omega arith)
 
   same_label : (i j : ℕ) → i < length es → j < length es → part_of i ≡ part_of j → label i ≡ label j
   same_label i j li lj e = one_first (label i) (label j) (let f = (first i li).0 in omega arith) (is_first i li) (let f = (first j lj).0 in omega arith) (is_first j lj) e
 
   each_part : (n : ℕ) → part_at (grouped part_of all 0 (rank label (length es))) n ≡ filter (λ x. nat_eq (part_of x.place) n) all
-  each_part n = by (below_or n (rank label (length es))) where
+  each_part n = by (cases_lt n (rank label (length es))) where
     by : (n < rank label (length es)) ⊎ (rank label (length es) ≤ n) → part_at (grouped part_of all 0 (rank label (length es))) n ≡ filter (λ x. nat_eq (part_of x.place) n) all
     by (inl f) = let e : 0 + n ≡ n = omega arith in grouped_at part_of all 0 (rank label (length es)) n f ∙ ap (λ i. filter (λ x. nat_eq (part_of x.place) i) all) e
     by (inr f) =
         grouped_past part_of all 0 (rank label (length es)) n f
-        ∙ sym (none_pass (λ x. nat_eq (part_of x.place) n) all (each_then (Contains all) (λ x. nat_eq (part_of x.place) n ≡ false) (λ x c. not_here _ (λ g. let e = same_number (part_of x.place) n g in let l = part_below x.place (in_tick x c) in absurd (omega arith))) all (known_all all)))
+        ∙ sym (none_pass (λ x. nat_eq (part_of x.place) n) all (each_then (Contains all) (λ x. nat_eq (part_of x.place) n ≡ false) (λ x c. false_from_ne_true _ (λ g. let e = eqb-true (part_of x.place) n g in let l = part_below x.place (in_tick x c) in absurd (omega arith))) all (known_all all)))
 
   begins_part : (n : ℕ) → n < rank label (length es) → (l : ℕ) × (rank label l ≡ n) × BeginsAt l (part_at (grouped part_of all 0 (rank label (length es))) n)
   begins_part n f =
@@ -155,10 +133,10 @@ module _ (w : World) (es : List Entry) (label : ℕ → ℕ) (h : AreLabelled w 
         r.3,
         subst (BeginsAt r.0) (sym (each_part n))
             (begins (λ i. nat_eq (part_of i) n) 0 es r.0 (omega arith) (omega arith)
-            (subst (λ j. nat_eq j n ≡ true) (sym (ap (rank label) r.2 ∙ r.3)) (itself n))
-            (λ i _ l. not_here (nat_eq (part_of i) n) (λ g.
+            (subst (λ j. nat_eq j n ≡ true) (sym (ap (rank label) r.2 ∙ r.3)) (eq-eqb n n refl))
+            (λ i _ l. false_from_ne_true (nat_eq (part_of i) n) (λ g.
             let li : i < length es = omega arith in
-            let e : label i ≡ r.0 = one_first (label i) r.0 (let f = (first i li).0 in omega arith) (is_first i li) r.1 (subst (λ j. nat_eq j r.0 ≡ true) (sym r.2) (itself r.0)) (same_number (part_of i) n g ∙ sym r.3) in
+            let e : label i ≡ r.0 = one_first (label i) r.0 (let f = (first i li).0 in omega arith) (is_first i li) r.1 (subst (λ j. nat_eq j r.0 ≡ true) (sym r.2) (eq-eqb r.0 r.0 refl)) (eqb-true (part_of i) n g ∙ sym r.3) in
             let f = (first i li).0 in absurd (omega arith)))),
       )
 
@@ -178,7 +156,7 @@ module _ (w : World) (es : List Entry) (label : ℕ → ℕ) (h : AreLabelled w 
       }
     where
       ordered_first : (a b m n : ℕ) → rank label a ≡ m → rank label b ≡ n → m < n → a < b
-      ordered_first a b m n e f l = by (below_or a b) where
+      ordered_first a b m n e f l = by (cases_lt a b) where
         by : (a < b) ⊎ (b ≤ a) → a < b
         by (inl g) = g
         by (inr g) = let i : (a - b) + b ≡ a = omega arith in let r : rank label b ≤ rank label a = subst (λ j. rank label b ≤ rank label j) i (rank_rises label b (a - b)) in absurd (omega arith)

@@ -3,8 +3,9 @@ use Rattle.std.proofs.Common.{◌≡◌, ℕ, nat_eq, Bool, true, false, List, [
 use Rattle.std.specs.List.{AllByRecursion, Contains}
 use Rattle.std.specs.Ordering.{is_lt}
 use Rattle.std.specs.List.Sorted.{ties}
-use Rattle.std.proofs.lemmas.Bool.{true≢false}
+use Rattle.std.proofs.lemmas.Bool.{true≢false, eqb-true, eq-eqb}
 use Rattle.std.proofs.lemmas.List.Elements.{All-contains, All-from_recursion}
+use Rattle.std.proofs.Math.Seq.{take-length}
 use Rattle.av_types.specs.declared.place.Pos.{Pos}
 use Rattle.av_types.specs.declared.place.SectionPos.{SectionPos}
 use Rattle.av_types.specs.Places.{section_of}
@@ -13,9 +14,9 @@ use Rattle.av_types.specs.declared.tick.Made.{Made}
 use Rattle.av_cells.specs.declared.kind.Kind.{Kind}
 use Rattle.av_cells.specs.World.{World, Lists, listed_all}
 use Rattle.av_ticks.specs.Entries.{made_order}
-use Rattle.av_ticks.specs.Order.{ordered}
+use Rattle.av_types.specs.Order.{ordered}
 use Rattle.av_ticks.proofs.EntryOrder.{made_laws}
-use Rattle.av_ticks.proofs.OrderLemmas.{sorted_is_ordered}
+use Rattle.av_types.proofs.OrderLemmas.{sorted_is_ordered}
 use Rattle.av_water.specs.Frame.{Agree, InLoadedReach, AreApart, Commute, SameCells}
 use Rattle.av_water.proofs.Apart.{apart_commute, loaded_reach_or}
 use Rattle.av_land.specs.Land.{Land, cells_of}
@@ -29,7 +30,7 @@ use Rattle.av_play.specs.Play.{in_order, labelled, world_after, made_after, Stat
 use Rattle.av_play.specs.Laws.{IsAfterEvents, EntriesCommute, done_of, done_in, IsAsAlone}
 use Rattle.av_play.specs.Ticks.{opened, due_in, outcome_of}
 use Rattle.av_play.proofs.LandTurns.{turned_in_order}
-use Rattle.av_play.proofs.Lists.{kept, each_chosen, chosen_twice, none_chosen, take_whole, same_number, itself, search_each}
+use Rattle.av_play.proofs.Lists.{kept, each_chosen, chosen_twice, none_chosen, search_each}
 use Rattle.av_play.proofs.Projection.{chosen, IsFree, SetsApart, Projects, project, after_loaded}
 use Rattle.av_play.proofs.Trace.{known_all, of_part, IsTraced, play_traced, start_traced}
 use Rattle.av_play.proofs.Merge.{made_sorted, same_maker, in_order_is}
@@ -54,8 +55,8 @@ unshared_commute division k now x y w h =
 stable_number : (a b : ℕ) → (¬ (a ≡ b) → ⊥) → a ≡ b
 stable_number a b h = by (nat_eq a b) refl where
   by : (c : Bool) → nat_eq a b ≡ c → a ≡ b
-  by true e = same_number a b e
-  by false e = absurd (h (λ g. true≢false (sym (ap (nat_eq a) (sym g) ∙ itself a) ∙ e)))
+  by true e = eqb-true a b e
+  by false e = absurd (h (λ g. true≢false (sym (ap (nat_eq a) (sym g) ∙ eq-eqb a a refl) ∙ e)))
 
 pub stable_test : (a b : Bool) → (¬ (a ≡ b) → ⊥) → a ≡ b
 stable_test true true h = refl
@@ -91,7 +92,7 @@ module _ {S : Type 0} (division : Pos → S) (w : World) (entries : List Entry) 
   share_nothing m n s f a b =
       let ka = of_part_is m a.owner a.there in
       let kb = of_part_is n b.owner b.there in
-      f (sym (same_number _ _ ka.0) ∙ (plan.together a.owner b.owner ka.1 kb.1).1 (record { between = []; links = record { section = s; first = a.territory; second = b.territory } }) ∙ same_number _ _ kb.0)
+      f (sym (eqb-true _ _ ka.0) ∙ (plan.together a.owner b.owner ka.1 kb.1).1 (record { between = []; links = record { section = s; first = a.territory; second = b.territory } }) ∙ eqb-true _ _ kb.0)
 
   free_in_part : (n : ℕ) (q : Pos) → IsOfPart division w (part_at parts n) (division q) → IsFree w all (own n) q
   free_in_part n q o =
@@ -102,7 +103,7 @@ module _ {S : Type 0} (division : Pos → S) (w : World) (entries : List Entry) 
       }
 
   in_own_part : (y : Placed) → Contains all y → Contains (part_at parts (plan.part_of y.place)) y
-  in_own_part y c = subst (λ l. Contains l y) (sym (plan.each (plan.part_of y.place))) (kept (λ x. nat_eq (plan.part_of x.place) (plan.part_of y.place)) all y (itself (plan.part_of y.place)) c)
+  in_own_part y c = subst (λ l. Contains l y) (sym (plan.each (plan.part_of y.place))) (kept (λ x. nat_eq (plan.part_of x.place) (plan.part_of y.place)) all y (eq-eqb (plan.part_of y.place) (plan.part_of y.place) refl) c)
 
   free_elsewhere : (q : Pos) → ((n : ℕ) → ¬ IsOfPart division w (part_at parts n) (division q)) → IsFree w all (λ i. false) q
   free_elsewhere q f =
@@ -162,7 +163,7 @@ module _ {S : Type 0} (division : Pos → S) (w : World) (entries : List Entry) 
         let n : ℕ = plan.part_of z.maker in
         let t : Made → Bool = ties (λ x y. is_lt (made_order x y)) z in
         let b : Made → Bool = λ m. nat_eq (plan.part_of m.maker) n in
-        let inner : (m : Made) → t m ≡ true → b m ≡ true = λ m e. ap (λ i. nat_eq (plan.part_of i) n) (sym (same_maker z m e)) ∙ itself n in
+        let inner : (m : Made) → t m ≡ true → b m ≡ true = λ m e. ap (λ i. nat_eq (plan.part_of i) n) (sym (same_maker z m e)) ∙ eq-eqb n n refl in
         sym (chosen_twice t b inner (made_after k now all w))
         ∙ ap (filter t) ((projected k now n all (known_all all)).made ∙ ap (λ l. made_after k now l w) (sym (plan.each n)) ∙ sym (h.put_aside n))
         ∙ chosen_twice t b inner made
@@ -200,8 +201,8 @@ module _ {S : Type 0} (division : Pos → S) (w : World) (entries : List Entry) 
       (alone_of k now es t.among (done_in parts s) t.progress))
 
   whole : (part : List Placed) (g : Option Stage) → ((x : Stage) → g ≡ Some x → x ≡ Ended) → take (done_of part g) part ≡ part
-  whole part None h = take_whole part
-  whole part (Some x) h = ap (λ y. take (done_of part (Some y)) part) (h x refl) ∙ take_whole part
+  whole part None h = take-length part
+  whole part (Some x) h = ap (λ y. take (done_of part (Some y)) part) (h x refl) ∙ take-length part
 
   -- the tick in its own order is such a world too
   pub alone_after : (k : ℕ → Kind) (now : ℕ) → IsAsAlone division k now w parts plan.part_of (part_at parts) (world_after k now all w) (made_after k now all w)

@@ -1,7 +1,7 @@
 -- A turn in one parcel is a turn in the whole, and a parcel that is put back changes nothing in the whole.
 use Rattle.std.proofs.Common.{◌≡◌, ℕ, zero, suc, Bool, true, false, cond, List, [], ◌∷◌, slice_get, slice_set, Option, Some, None, ◌⊎◌, inl, inr, refl, sym, ap, ◌∙◌, subst, arith, IsTrue}
 use Rattle.std.specs.List.{Contains}
-use Rattle.std.proofs.lemmas.Bool.{true≢false}
+use Rattle.std.proofs.lemmas.Bool.{true≢false, cases_Bool, false_from_ne_true}
 use Rattle.av_types.specs.declared.place.SectionPos.{SectionPos}
 use Rattle.av_cells.specs.declared.kind.Kind.{Kind}
 use Rattle.av_cells.specs.Grid.{Filling, Grid, is_here, cells_of, only, without, over}
@@ -54,14 +54,6 @@ joined_rest : (xs : List Grid) (a b : Grid) (s : SectionPos) → a s ≡ b s →
 joined_rest [] a b s e = e
 joined_rest (x ∷ xs) a b s e = ap (λ o. cond (is_here (x s)) (x s) o) (joined_rest xs a b s e)
 
-here_or : (b : Bool) → (b ≡ true) ⊎ (b ≡ false)
-here_or true = inl refl
-here_or false = inr refl
-
-not_here : (b : Bool) → (b ≡ true → ⊥) → b ≡ false
-not_here true f = absurd (f refl)
-not_here false f = refl
-
 some_is : (p q : Grid) → Some p ≡ Some q → p ≡ q
 some_is p q e = cc
 
@@ -70,14 +62,14 @@ module _ (ps : List Grid) (rest : Grid) (carved : AreCarved ps rest) (n : ℕ) (
   picked s = is_here (p s)
 
   others_not : (s : SectionPos) → IsTrue (is_here (p s)) → (m : ℕ) (q : Grid) → slice_get ps m ≡ Some q → ¬ (m ≡ n) → is_here (q s) ≡ false
-  others_not s h m q e f = not_here (is_here (q s)) (λ g. f (carved.alone m n q p s e there g h))
+  others_not s h m q e f = false_from_ne_true (is_here (q s)) (λ g. f (carved.alone m n q p s e there g h))
 
   whole_at : (s : SectionPos) → IsTrue (is_here (p s)) → joined ps rest s ≡ p s
   whole_at s h = joined_at ps rest n p s there h (others_not s h)
 
   -- the parcel is its sections of the whole
   parcel_is : only picked (joined ps rest) ≡ p
-  parcel_is = λ i s. by s (here_or (is_here (p s))) i where
+  parcel_is = λ i s. by s (cases_Bool (is_here (p s))) i where
     by : (s : SectionPos) → (is_here (p s) ≡ true) ⊎ (is_here (p s) ≡ false) → cond (is_here (p s)) (joined ps rest s) None ≡ p s
     by s (inl h) = ap (λ b. cond b (joined ps rest s) None) h ∙ whole_at s h
     by s (inr h) = ap (λ b. cond b (joined ps rest s) None) h ∙ sym (gone (p s) h)
@@ -85,7 +77,7 @@ module _ (ps : List Grid) (rest : Grid) (carved : AreCarved ps rest) (n : ℕ) (
   -- a parcel exchanged for one with the same sections
   module _ (t : Grid) (same : (s : SectionPos) → is_here (t s) ≡ is_here (p s)) where
     exchanged : joined (slice_set ps n t) rest ≡ over t (without picked (joined ps rest))
-    exchanged = λ i s. by s (here_or (is_here (p s))) i where
+    exchanged = λ i s. by s (cases_Bool (is_here (p s))) i where
       unset : (s : SectionPos) → IsTrue (is_here (p s)) → (m : ℕ) (q : Grid) → slice_get (slice_set ps n t) m ≡ Some q → ¬ (m ≡ n) → is_here (q s) ≡ false
       unset s h m q e f = from (at_set ps n m p t there) where
         from : ((m ≡ n) × (slice_get (slice_set ps n t) m ≡ Some t)) ⊎ ((¬ (m ≡ n)) × (slice_get (slice_set ps n t) m ≡ slice_get ps m)) → is_here (q s) ≡ false
@@ -121,7 +113,7 @@ module _ (ps : List Grid) (rest : Grid) (carved : AreCarved ps rest) (n : ℕ) (
 
   -- the parcel put back
   pub parcel_back : joined (slice_set ps n empty) (over p rest) ≡ joined ps rest
-  parcel_back = λ i s. by s (here_or (is_here (p s))) i where
+  parcel_back = λ i s. by s (cases_Bool (is_here (p s))) i where
     unset : (s : SectionPos) → IsTrue (is_here (p s)) → (m : ℕ) (q : Grid) → slice_get (slice_set ps n empty) m ≡ Some q → is_here (q s) ≡ false
     unset s h m q e = from (at_set ps n m p empty there) where
       from : ((m ≡ n) × (slice_get (slice_set ps n empty) m ≡ Some empty)) ⊎ ((¬ (m ≡ n)) × (slice_get (slice_set ps n empty) m ≡ slice_get ps m)) → is_here (q s) ≡ false

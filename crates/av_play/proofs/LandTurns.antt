@@ -74,7 +74,8 @@ pending_listed p e l = by (same_pos p e.pos) (same_chunk (chunk_of p) (chunk_of 
   by true false h g = absurd (true≢false (sym (chunk_itself p) ∙ ap (λ q. same_chunk (chunk_of p) (chunk_of q)) (same_pos_is p e.pos h) ∙ g))
   by false false h g = refl
 
-listed_pending : (p : Pos) (es : List Entry) (l : Lists) → is_pending p (listed_all l es (chunk_of p)) ≡ cond (is_among p es) true (is_pending p (l (chunk_of p)))
+-- what the lists have after entries were put aside
+pub listed_pending : (p : Pos) (es : List Entry) (l : Lists) → is_pending p (listed_all l es (chunk_of p)) ≡ cond (is_among p es) true (is_pending p (l (chunk_of p)))
 listed_pending p [] l = refl
 listed_pending p (e ∷ es) l =
     listed_pending p es (listed_if true l e) ∙ ap (λ b. cond (is_among p es) true b) (pending_listed p e l) ∙ swap (is_among p es) (same_pos p e.pos) (is_pending p (l (chunk_of p)))
@@ -87,7 +88,7 @@ listed_pending p (e ∷ es) l =
 
 -- ---- turns in the land
 
-waits_as : (loaded among before : Bool) → (among ≡ true → loaded ≡ true) → loaded && cond among true before ≡ cond among true (loaded && before)
+pub waits_as : (loaded among before : Bool) → (among ≡ true → loaded ≡ true) → loaded && cond among true before ≡ cond among true (loaded && before)
 waits_as true true b h = refl
 waits_as true false b h = refl
 waits_as false true b h = absurd (true≢false (sym (h refl)))

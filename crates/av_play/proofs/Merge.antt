@@ -1,10 +1,9 @@
 -- What turns in the tick's order make stands in the order of makers and numbers.
-use Rattle.std.proofs.Common.{◌≡◌, ℕ, zero, suc, ◌<◌, ◌≤◌, nat_lt, Less, Equal, Greater, Bool, true, false, not, ◌&&◌, List, [], ◌∷◌, ◌++◌, length, get_or, ◌⊎◌, inl, inr, refl, sym, ap, ◌∙◌, arith, add-one}
+use Rattle.std.proofs.Common.{◌≡◌, ℕ, zero, suc, ◌<◌, ◌≤◌, Less, Equal, Greater, Bool, true, false, not, ◌&&◌, List, [], ◌∷◌, ◌++◌, length, get_or, ◌⊎◌, inl, inr, refl, sym, ap, ◌∙◌, arith, add-one}
 use Rattle.std.specs.Ordering.{is_lt, nat_cmp, ordering_then}
 use Rattle.std.specs.Cmp.{nat_cmp_is}
 use Rattle.std.specs.List.Sorted.{IsSortedBy, ties}
-use Rattle.std.proofs.lemmas.Bool.{true≢false}
-use Rattle.std.proofs.lemmas.Bool.Decides.{nat_tests}
+use Rattle.std.proofs.lemmas.Bool.{true≢false, cases_order}
 use Rattle.av_types.specs.declared.tick.Entry.{Entry}
 use Rattle.av_types.specs.declared.tick.Made.{Made}
 use Rattle.av_cells.specs.declared.kind.Kind.{Kind}
@@ -62,18 +61,11 @@ neither false false h = (refl, refl)
 neither false true h = absurd (true≢false (sym h))
 neither true c h = absurd (true≢false (sym h))
 
-either_way : (a b : ℕ) → (a < b) ⊎ ((a ≡ b) ⊎ (b < a))
-either_way a b = by (nat_lt a b) refl (nat_lt b a) refl where
-  by : (c : Bool) → nat_lt a b ≡ c → (d : Bool) → nat_lt b a ≡ d → (a < b) ⊎ ((a ≡ b) ⊎ (b < a))
-  by true e d f = inl (grind (arith, nat_tests))
-  by false e true f = inr (inr (grind (arith, nat_tests)))
-  by false e false f = inr (inl (grind (arith, nat_tests)))
-
 pub same_maker : (x y : Made) → ties (λ a b. is_lt (made_order a b)) x y ≡ true → x.maker ≡ y.maker
-same_maker x y h = by (either_way x.maker y.maker) where
-  by : (x.maker < y.maker) ⊎ ((x.maker ≡ y.maker) ⊎ (y.maker < x.maker)) → x.maker ≡ y.maker
-  by (inl l) = absurd (true≢false (sym (first_below x y l) ∙ (neither _ _ h).0))
-  by (inr (inl e)) = e
+same_maker x y h = by (cases_order x.maker y.maker) where
+  by : (x.maker ≡ y.maker) ⊎ ((x.maker < y.maker) ⊎ (y.maker < x.maker)) → x.maker ≡ y.maker
+  by (inl e) = e
+  by (inr (inl l)) = absurd (true≢false (sym (first_below x y l) ∙ (neither _ _ h).0))
   by (inr (inr l)) = absurd (true≢false (sym (first_below y x l) ∙ (neither _ _ h).1))
 
 listed_labelled : (a c : ℕ) (es : List Entry) (rest : List Made) (lists : Lists) → listed_all lists (entries_of (labelled a c es ++ rest)) ≡ listed_all (listed_all lists es) (entries_of rest)

@@ -2,6 +2,7 @@
 use Rattle.std.proofs.Common.{◌≡◌, ℕ, Bool, true, false, cond, List, [], ◌∷◌, ◌++◌, Option, Some, None, refl, sym, ap, ◌∙◌, subst, IsTrue}
 use Rattle.std.specs.List.{AllByRecursion, Contains}
 use Rattle.std.proofs.lemmas.Bool.{true≢false}
+use Rattle.av_types.proofs.Each.{each_then}
 use Rattle.av_types.specs.declared.place.Pos.{Pos}
 use Rattle.av_types.specs.declared.place.SectionPos.{SectionPos}
 use Rattle.av_types.specs.declared.tick.Entry.{Entry}
@@ -17,7 +18,7 @@ use Rattle.av_play.specs.Parts.{IsPlan, part_at}
 use Rattle.av_play.specs.Play.{labelled, turn_of, world_after, made_after, gathered, in_order}
 use Rattle.av_play.specs.Laws.{IsOfPart, IsAsAlone}
 use Rattle.av_play.specs.Parcels.{AreMended, IsPutBack}
-use Rattle.av_play.proofs.Lists.{each_then, none_chosen}
+use Rattle.av_play.proofs.Lists.{none_chosen}
 use Rattle.av_play.proofs.Turns.{turn_within}
 use Rattle.av_play.proofs.Projection.{IsFree, project, after_loaded}
 use Rattle.av_play.proofs.Trace.{known_all}

@@ -11,7 +11,7 @@ use Rattle.av_cells.specs.Positions.{same_pos}
 use Rattle.av_cells.specs.World.{World, Lists, listed_all}
 use Rattle.av_cells.specs.Grid.{Grid, cells_of, only}
 use Rattle.av_ticks.specs.Entries.{made_order}
-use Rattle.av_ticks.specs.Order.{inserted, ordered}
+use Rattle.av_types.specs.Order.{inserted, ordered}
 use Rattle.av_play.specs.declared.event.Placed.{Placed}
 use Rattle.av_play.specs.Parts.{numbered, IsPlan, part_at}
 use Rattle.av_play.specs.Play.{in_order, world_after, made_after, entries_of}

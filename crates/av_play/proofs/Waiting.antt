@@ -1,6 +1,7 @@
 -- A turn makes pending what it makes entries of, and nothing else.
-use Rattle.std.proofs.Common.{◌≡◌, ℕ, nat_le, Bool, true, false, not, ◌&&◌, ◌||◌, cond, List, [], ◌∷◌, ◌++◌, Option, Some, None, refl, sym, ap, ◌∙◌, arith}
-use Rattle.std.proofs.lemmas.Bool.{true≢false}
+use Rattle.std.proofs.Common.{◌≡◌, ℕ, Bool, true, false, not, cond, List, [], ◌∷◌, ◌++◌, Option, Some, None, refl, sym, ap, ◌∙◌}
+use Rattle.std.proofs.lemmas.Bool.{not-true, and_parts}
+use Rattle.av_ticks.proofs.Lookup.{cond_neither}
 use Rattle.av_types.specs.declared.place.Pos.{Pos}
 use Rattle.av_types.specs.declared.tick.Entry.{Entry}
 use Rattle.av_types.specs.declared.water.Direction.TheVariants.{North, South, West, East}
@@ -96,33 +97,24 @@ turns_wait k now (x ∷ xs) w q =
     ∙ ap (λ (l : List Entry). cond (is_among q l) true (w.pending q)) (sym (entries_labelled x.place 0 (turn_of k now x w).made (made_after k now xs (turn_of k now x w).world)))
 
 -- what a turn makes entries of did not wait before, and is made once
-neither : (b c : Bool) → cond b true c ≡ false → (b ≡ false) × (c ≡ false)
-neither true c h = absurd (true≢false h)
-neither false c h = (refl, h)
-
 not_among : (q : Pos) (es : List Entry) (e : Entry) → is_among q es ≡ false → same_pos q e.pos ≡ false → is_among q (es ++ e ∷ []) ≡ false
 not_among q [] e h g = ap (λ b. cond b true false) g
-not_among q (x ∷ xs) e h g = let n = neither (same_pos q x.pos) (is_among q xs) h in ap (λ b. cond b true (is_among q (xs ++ e ∷ []))) n.0 ∙ not_among q xs e n.1 g
+not_among q (x ∷ xs) e h g = let n = cond_neither (same_pos q x.pos) (is_among q xs) h in ap (λ b. cond b true (is_among q (xs ++ e ∷ []))) n.0 ∙ not_among q xs e n.1 g
 
 new_push : (w : World) (es : List Entry) (e : Entry) → AreNew w es → w.pending e.pos ≡ false → is_among e.pos es ≡ false → AreNew w (es ++ e ∷ [])
 new_push w [] e h p g = (p, refl, tt)
 new_push w (x ∷ xs) e h p g =
-    let n = neither (same_pos e.pos x.pos) (is_among e.pos xs) g in
+    let n = cond_neither (same_pos e.pos x.pos) (is_among e.pos xs) g in
     (h.0, not_among x.pos xs e h.1 (same_pos_back e.pos x.pos n.0), new_push w xs e h.2 p n.1)
 
 record IsFresh (w : World) (c : Change) : Type 0 where
   counted : IsCounted w c
   fresh : AreNew w c.made
 
-not_pending : (a b : Bool) → a && not b ≡ true → b ≡ false
-not_pending true true h = absurd (true≢false (sym h))
-not_pending true false h = refl
-not_pending false b h = absurd (true≢false (sym h))
-
 fresh_if : (k : ℕ → Kind) (w : World) (b : Bool) (c : Change) (q : Pos) (now : ℕ) → wakes k c.world q ≡ b → IsFresh w c → IsFresh w (change (with_entry_if b c.world (entry_of q now)) (cond b (c.made ++ entry_of q now ∷ []) c.made))
 fresh_if k w false c q now e s = s
 fresh_if k w true c q now e s =
-    let n = neither (is_among q c.made) (w.pending q) (sym (s.counted.counted q) ∙ not_pending _ (c.world.pending q) e) in
+    let n = cond_neither (is_among q c.made) (w.pending q) (sym (s.counted.counted q) ∙ not-true (c.world.pending q) (and_parts _ (not (c.world.pending q)) e).1) in
     record { counted = woken_if w true c (entry_of q now) s.counted; fresh = new_push w c.made (entry_of q now) s.fresh n.1 n.0 }
 
 woken_fresh : (k : ℕ → Kind) (w : World) (now : ℕ) (q : Pos) (c : Change) → IsFresh w c → IsFresh w (woken k now q c)
@@ -172,14 +164,14 @@ turn_fresh k w now p =
 
 among_or : (q : Pos) (xs ys : List Entry) → is_among q xs ≡ false → is_among q ys ≡ false → is_among q (xs ++ ys) ≡ false
 among_or q [] ys h g = g
-among_or q (x ∷ xs) ys h g = let n = neither (same_pos q x.pos) (is_among q xs) h in ap (λ b. cond b true (is_among q (xs ++ ys))) n.0 ∙ among_or q xs ys n.1 g
+among_or q (x ∷ xs) ys h g = let n = cond_neither (same_pos q x.pos) (is_among q xs) h in ap (λ b. cond b true (is_among q (xs ++ ys))) n.0 ∙ among_or q xs ys n.1 g
 
 -- new after es were made, and so new before
 new_after : (w v : World) (es fs : List Entry) → AreNew w es → ((q : Pos) → v.pending q ≡ cond (is_among q es) true (w.pending q)) → AreNew v fs → AreNew w (es ++ fs)
-new_after w v es fs h c g = join es h (λ q n. (neither (is_among q es) (w.pending q) (sym (c q) ∙ n)).0) where
+new_after w v es fs h c g = join es h (λ q n. (cond_neither (is_among q es) (w.pending q) (sym (c q) ∙ n)).0) where
   drops : (fs : List Entry) → AreNew v fs → AreNew w fs
   drops [] g = tt
-  drops (f ∷ fs) g = ((neither (is_among f.pos es) (w.pending f.pos) (sym (c f.pos) ∙ g.0)).1, g.1, drops fs g.2)
+  drops (f ∷ fs) g = ((cond_neither (is_among f.pos es) (w.pending f.pos) (sym (c f.pos) ∙ g.0)).1, g.1, drops fs g.2)
 
   outside : (x : Entry) (fs : List Entry) → ((q : Pos) → v.pending q ≡ false → same_pos q x.pos ≡ false) → AreNew v fs → is_among x.pos fs ≡ false
   outside x [] o g = refl
@@ -188,7 +180,7 @@ new_after w v es fs h c g = join es h (λ q n. (neither (is_among q es) (w.pendi
   join : (xs : List Entry) → AreNew w xs → ((q : Pos) → v.pending q ≡ false → is_among q xs ≡ false) → AreNew w (xs ++ fs)
   join [] h o = drops fs g
   join (x ∷ xs) h o =
-      (h.0, among_or x.pos xs fs h.1 (outside x fs (λ q n. (neither (same_pos q x.pos) (is_among q xs) (o q n)).0) g), join xs h.2 (λ q n. (neither (same_pos q x.pos) (is_among q xs) (o q n)).1))
+      (h.0, among_or x.pos xs fs h.1 (outside x fs (λ q n. (cond_neither (same_pos q x.pos) (is_among q xs) (o q n)).0) g), join xs h.2 (λ q n. (cond_neither (same_pos q x.pos) (is_among q xs) (o q n)).1))
 
 -- what turns make one after the other is new
 pub turns_fresh : (k : ℕ → Kind) (now : ℕ) (xs : List Placed) (w : World) → AreNew w (entries_of (made_after k now xs w))

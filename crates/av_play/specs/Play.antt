@@ -7,7 +7,7 @@ use Rattle.av_cells.specs.declared.kind.Kind.{Kind}
 use Rattle.av_cells.specs.World.{World, Lists, listed_all}
 use Rattle.av_cells.specs.Turn.{Change, turn}
 use Rattle.av_ticks.specs.Entries.{made_order}
-use Rattle.av_ticks.specs.Order.{ordered}
+use Rattle.av_types.specs.Order.{ordered}
 use Rattle.av_play.specs.declared.event.Placed.{Placed}
 use Rattle.av_play.specs.declared.event.Stage.{Stage}
 use Rattle.av_play.specs.declared.event.Stage.TheVariants.{Waits, Held, Ended}

@@ -25,7 +25,7 @@ ghost use Rattle.av_play.specs.Parcels.{AreMended, AreSettled, IsPutBack};
 ghost use Rattle.av_play.specs.Waiting.{is_among, AreNew, appended};
 ghost use Rattle.av_cells.specs.Turn.{turn};
 ghost use Rattle.av_ticks.specs.Entries.{made_order};
-ghost use Rattle.av_ticks.specs.Order.{ordered};
+ghost use Rattle.av_types.specs.Order.{ordered};
 
 /// Entries whose territories share no section commute: turned in either order they leave the same blocks, and each puts
 /// the same aside, under its own place. The sections are any division of the blocks.

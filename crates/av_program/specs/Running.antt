@@ -1,11 +1,9 @@
 -- What a run of the program leaves behind: in the account of the sink that its files are handed to, before and after; on its output,
 -- before and after; and its status. Which words it was called with and which bytes a file has, no clause can say.
-use Rattle.std.specs.Prelude.{◌≡◌, ◌⊎◌, ◌≤◌, ◌||◌, ℕ, Bool, false, true, List, Option, is_none, option_map}
+use Rattle.std.specs.Prelude.{◌≡◌, ◌⊎◌, ℕ, false, true, List, Option, option_map}
 use Rattle.std.specs.List.{All}
 use Rattle.clap.specs.Words.{Text, kind_of}
 use Rattle.clap.specs.declared.error.Error.{Error}
-use Rattle.clap.specs.declared.error.kind.ErrorKind.{ErrorKind}
-use Rattle.clap.specs.declared.error.kind.ErrorKind.TheVariants as kind
 use Rattle.av_sink.specs.Account.{Account, in_folder, with_repair}
 use Rattle.av_sink.specs.declared.sink.Repair.{Repair}
 use Rattle.av_words.specs.declared.command_line.commands.RunWords.{RunWords}
@@ -18,13 +16,11 @@ use Rattle.av_queries.specs.MapCommand.{HasMapped}
 use Rattle.av_requests.specs.declared.requests.Request.{Request}
 use Rattle.av_program.specs.DryRun.{HasRunDry}
 use Rattle.av_program.specs.RunCommand.{HasRunRegions}
+use Rattle.av_requests.specs.Refusals.{IsRefusalStatus}
 use Rattle.av_requests.specs.Requests.{IsRequestOf}
 use Rattle.av_requests.specs.Skipping.{IsSkipped}
 use Rattle.av_queries.specs.StatesCommand.{HasListed}
-
--- whether a run goes on, by what was found in its folder: not where one that was cut off is finished first, unless it is to be run again
-abbrev pub goes_on : Bool → Repair → Bool
-goes_on again r = again || is_none r.finished
+use Rattle.av_outcomes.specs.Closing.{goes_on}
 
 -- The same of `run` in its folder, which was opened: what its files leave there, once it was looked for a run that was cut off; all is well only where
 -- the folder is closed then. One that was finished first is all that is done. Or nothing and 1, where that can't be done.
@@ -56,12 +52,6 @@ HasRunCommand (Run run) old new before after status = HasRunBy run old new befor
 HasRunCommand (Map input picture table colours light explain) old new before after status =
     (after ≡ before) × HasMapped picture.now (option_map (λ t. t.now) table) (option_map (λ t. t.now) colours) light old new status
 HasRunCommand (States input table explain) old new before after status = (new ≡ old) × HasListed (option_map (λ t. t.now) table) before after status
-
--- the status after words that are refused, after a call for help, and after one for the version, which may not be written
-abbrev pub IsRefusalStatus : ErrorKind → ℕ → Type 0
-IsRefusalStatus kind.OutOfMemory status = status ≡ 1
-IsRefusalStatus kind.DisplayVersion status = status ≤ 1
-IsRefusalStatus other status = status ≡ 2
 
 -- the same of words: the run of the command that they name, unless it asks twice for standard input, or a refusal, which may print help
 pub data HasRunWords (words : List Text) (old new : Account) (before after : Option (List ℕ)) (status : ℕ) : Type 0 where

@@ -1,61 +1,31 @@
 //! The program's way from its words to its status.
-ghost use Rattle.std.specs.Prelude.{◌≡◌, ◌≤◌, ◌⊎◌, map};
-ghost use Rattle.clap.specs.Words.{kind_of};
+ghost use Rattle.std.specs.Prelude.{◌≡◌, ◌≤◌, map};
 ghost use Rattle.std.specs.List.{All};
 ghost use Rattle.av_requests.specs.Skipping.{IsSkipped};
 ghost use Rattle.av_program.specs.RunCommand.{HasRunRegions};
-ghost use Rattle.av_program.specs.Running.{HasRunBy, HasRunCommand, HasRunInFolder, HasRunOpened, HasRunProgram, HasRunWords, IsRefusalStatus, goes_on};
+ghost use Rattle.av_program.specs.Running.{HasRunBy, HasRunCommand, HasRunInFolder, HasRunOpened, HasRunProgram, HasRunWords};
 ghost use Rattle.av_sink.specs.Account.{IsFresh};
 
 use crate::dry_run::run_dry;
 use crate::running::run_over;
 use av_commands::manner::Manner;
-use av_commands::output::{FAULT, REFUSED, report_fault, report_output};
+use av_commands::output::{REFUSED, report_fault};
 use av_commands::reasons::report_failure;
-use av_folders::failing::failure_of_folder;
 use av_folders::progress::end_steps;
-use av_folders::{LockFiles, RepairTeller, hold_output, note_removed};
-use av_outcomes::report;
+use av_folders::{LockFiles, RepairTeller, hold_output};
+use av_outcomes::{close, goes_on, note_repair, report, report_folder};
 use av_queries::{Order, run_block, run_check, run_map, run_states};
-use av_requests::{Request, judge_skips, report_skip, request_of};
-use av_sink::{OutputFolder, Repair};
+use av_requests::{
+    Request, as_texts, explain_words, given_words, judge_skips, refuse_twice, report_skip,
+    request_of,
+};
+use av_sink::OutputFolder;
 use av_types::Fault;
 use av_words::{RunWords, Words, words};
-use clap::Error;
-use clap::error::ErrorKind;
-use std::alloc::{AllocError, Global};
-use std::env;
 use std::io::{self, Input, Write};
 use std::rt::Env;
 use std::sync::Wait;
 use std::thread::Threads;
-
-/// Writes the version that was asked for, and answers the status.
-fn tell_version<O: Write, E: Write>(out: &mut O, err: &mut E, error: &Error) -> u8
-    ensures { result ≤ FAULT }
-{
-    match write!(out, "{error}") {
-        Ok(()) => 0,
-        Err(error) => report_output(err, &error),
-    }
-}
-
-/// Writes why words were refused, or the help or the version that was called for, and answers the status.
-fn explain_words<O: Write, E: Write>(out: &mut O, err: &mut E, error: &Error) -> u8
-    ensures { IsRefusalStatus (kind_of error.now) result }
-{
-    match error.kind() {
-        ErrorKind::OutOfMemory => return report_fault(err, &Fault::OutOfMemory),
-        ErrorKind::DisplayVersion => return tell_version(out, err, error),
-        _ => {}
-    }
-    let _ = if error.use_stderr() {
-        write!(err, "{error}")
-    } else {
-        write!(out, "{error}")
-    };
-    REFUSED
-}
 
 /// Runs `run`, and hands its files to a folder that has taken none yet and has not failed.
 fn run_regions<
@@ -72,58 +42,6 @@ fn run_regions<
     let ran = run_over(rt, request, sink, manner, err);
     end_steps(err, manner.progress);
     report(rt.alloc(), &ran, manner.explains, out, err)
-}
-
-/// Says why a folder failed, as well as that can be written, and answers the status.
-fn report_folder<S: OutputFolder, E: Write>(
-    alloc: Global,
-    folder: &str,
-    sink: &mut S,
-    manner: Manner,
-    err: &mut E,
-) -> u8
-    ensures status { result ≡ FAULT }
-    ensures same { S.account sink.new ≡ S.account sink.old }
-{
-    let failed = sink.last_failed();
-    let failure = failure_of_folder(alloc, folder, failed);
-    report_failure(alloc, err, &failure, manner.explains)
-}
-
-/// Notes that all is told of a run, and answers its status, unless that can't be noted.
-fn close<S: OutputFolder, E: Write>(
-    alloc: Global,
-    folder: &str,
-    status: u8,
-    sink: &mut S,
-    manner: Manner,
-    err: &mut E,
-) -> u8
-    ensures status { (result ≡ status) ⊎ (result ≡ FAULT) }
-    ensures same { S.account sink.new ≡ S.account sink.old }
-{
-    match sink.close() {
-        Ok(()) => status,
-        Err(_) => report_folder(alloc, folder, sink, manner, err),
-    }
-}
-
-/// Whether a run goes on, by what was found in its folder.
-fn goes_on(again: bool, repaired: Repair) -> bool
-    ensures { result ≡ goes_on again repaired }
-{
-    again || repaired.finished.is_none()
-}
-
-/// Says what was found in the folder of a run, as well as that can be written.
-fn note_repair<E: Write>(request: Request<'_>, repaired: Repair, err: &mut E) {
-    note_removed(err, request.output, repaired);
-    if !goes_on(request.again, repaired) {
-        let _ = writeln!(
-            err,
-            "  nothing else is done, so that no tick is run twice: --again runs it anew"
-        );
-    }
 }
 
 /// Runs `run` in its folder, which was opened.
@@ -257,17 +175,6 @@ fn run_command<
     }
 }
 
-/// Says that standard input can't be read twice, and answers the status.
-fn refuse_twice<E: Write>(err: &mut E) -> u8
-    ensures { result ≡ REFUSED }
-{
-    let _ = writeln!(
-        err,
-        "error: - is standard input, which can be read once, and two files are -"
-    );
-    REFUSED
-}
-
 /// Runs the command that the words name.
 fn run_words<
     R: LockFiles + Input + Eprint + AllocGlobal + Clone + Drop + Threads + Wait + Sync,
@@ -288,16 +195,6 @@ fn run_words<
         }
         Err(error) => explain_words(out, err, &error),
     }
-}
-
-/// The words that the program was called with, without its own name. One that is no text in UTF-8 is an error.
-fn given_words<R: Env + AllocGlobal>(rt: &R) -> io::Result<Vec<String>> {
-    let arguments = env::args(rt)?;
-    Ok(arguments.skip(1).collect(rt.alloc())?)
-}
-
-fn as_texts(alloc: Global, words: &[String]) -> Result<Vec<&str>, AllocError> {
-    words.iter().map(|word| word.as_str()).collect(alloc)
 }
 
 /// Reads the words that the program was called with and does what they say. Where standard error is a terminal, long work

@@ -1,5 +1,5 @@
 -- What is still to be written, as the loops go on.
-use Rattle.std.proofs.Common.{◌≡◌, ◌∙◌, ℕ, ◌+◌, ◌<◌, ◌≤◌, List, [], ◌∷◌, ◌++◌, length, drop, map, get_or, Option, refl, sym, ap, append_assoc, append-nil, drop-cons, add-one}
+use Rattle.std.proofs.Common.{◌≡◌, ◌∙◌, ℕ, ◌+◌, ◌<◌, ◌≤◌, List, ◌∷◌, ◌++◌, length, drop, map, get_or, Option, sym, ap, append_assoc, append-nil, drop-cons, add-one}
 use Rattle.std.specs.Int.{w32, to_be_bytes}
 use Rattle.std.specs.List.{flat_map}
 use Rattle.std.proofs.lemmas.List.{drop_all}
@@ -27,7 +27,3 @@ pieces_step f xs i x file all lt e done =
 
 pub pieces_end : {X : Type 0} (f : X → List ℕ) (xs : List X) (i : ℕ) (file all : List ℕ) → length xs ≤ i → file ++ flat_map f (drop i xs) ≡ all → file ≡ all
 pieces_end f xs i file all le done = sym (append-nil file) ∙ ap (λ ys. file ++ flat_map f ys) (sym (drop_all i xs le)) ∙ done
-
-pub flat_map-map : {X Y : Type 0} (g : Y → List ℕ) (f : X → Y) (xs : List X) → flat_map g (map f xs) ≡ flat_map (λ x. g (f x)) xs
-flat_map-map g f [] = refl
-flat_map-map g f (x ∷ xs) = ap (λ ys. g (f x) ++ ys) (flat_map-map g f xs)

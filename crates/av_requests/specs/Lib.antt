@@ -1,2 +1,4 @@
 pub mod Requests
 pub mod Skipping
+pub mod Refusals
+pub mod Olds

@@ -1,6 +1,8 @@
 //! The files of a folder beside those that would take their places.
-ghost use Rattle.std.specs.Prelude.{IfOk, List, Option, ℕ};
+ghost use Rattle.std.specs.Prelude.{◌≡◌, ◌⊎◌, IfErr, IfOk, List, Option, ℕ};
 ghost use Rattle.av_changes.specs.Changes.{AreChangesOf};
+ghost use Rattle.av_folders.specs.Folders.{IsFolderFault};
+ghost use Rattle.av_requests.specs.Olds.{AreUnreadOlds, IsUnreadOld};
 
 use av_changes::{Change, add_change};
 use av_commands::failure::Failure;
@@ -36,7 +38,9 @@ fn read_old<R: Files + AllocGlobal>(
     rt: &R,
     folder: &str,
     region: RegionPos,
-) -> Result<Option<Vec<u8>>, Failure> {
+) -> Result<Option<Vec<u8>>, Failure>
+    ensures { IfErr result (λ e. IsUnreadOld region e.fault) }
+{
     let path = path_of(rt.alloc(), folder, region)?;
     match read_present(rt, path.as_str()) {
         Ok(bytes) => Ok(bytes),
@@ -48,12 +52,16 @@ fn read_old<R: Files + AllocGlobal>(
 }
 
 /// What files would change in a folder, in their order.
+///
+/// # Errors
+/// `Device` with the name of the first file that is there and can't be read, without the folder's; and want of memory.
 pub fn changes_in<R: Files + AllocGlobal>(
     rt: &R,
     folder: &str,
     files: &[RegionFile],
 ) -> Result<Vec<Change>, Failure>
-    ensures { IfOk result (λ changes. (olds : List (Option (List ℕ))) × AreChangesOf files.now olds changes.items) }
+    ensures ok { IfOk result (λ changes. (olds : List (Option (List ℕ))) × AreChangesOf files.now olds changes.items) }
+    ensures err { IfErr result (λ e. AreUnreadOlds files.now e.fault) }
 {
     let mut changes = Vec::new(rt.alloc());
     for file in files {
@@ -63,8 +71,10 @@ pub fn changes_in<R: Files + AllocGlobal>(
     Ok(changes)
 }
 
-/// Looks whether a folder is there.
-pub fn look_for<R: Files + AllocGlobal>(rt: &R, folder: &str) -> Result<(), Failure> {
+/// Looks whether a folder is there. The error is `Device` with its name, or want of memory.
+pub fn look_for<R: Files + AllocGlobal>(rt: &R, folder: &str) -> Result<(), Failure>
+    ensures { IfErr result (λ e. IsFolderFault folder.now e.fault) }
+{
     let error = match fs::metadata(rt, folder) {
         Ok(found) if found.is_dir() => return Ok(()),
         Ok(_) => ErrorKind::NotADirectory.into(),

@@ -5,7 +5,7 @@ ghost use Rattle.std.specs.Io.KnownBytes.{Appends};
 ghost use Rattle.std.specs.Str.{bytes_eq};
 ghost use Rattle.av_region_files.specs.declared.files.RegionFile.{RegionFile};
 ghost use Rattle.av_folders.specs.Folders.{IsUnreadFolder};
-ghost use Rattle.av_requests.specs.Skipping.{AreOthers, IsSkipped, is_among, names_of, others, skipped_text};
+ghost use Rattle.av_requests.specs.Skipping.{AreOthers, IsFirstNoSkip, IsNoSkip, IsSkipped, is_among, names_of, others, skipped_text};
 
 use av_commands::failure::{Failure, UnreadFile};
 use av_commands::manner::Manner;
@@ -32,6 +32,11 @@ pub enum NoSkip<'a> {
 }
 
 impl<'a> From<AllocError> for NoSkip<'a> {
+    ghost use Rattle.std.specs.Prelude.{◌≡◌};
+    ghost use Rattle.av_requests.specs.declared.skipping.NoSkip.TheVariants.{Memory};
+
+    ghost from_gives = { λ _ e. e ≡ Memory };
+
     fn from(_: AllocError) -> NoSkip<'a> {
         NoSkip::Memory
     }
@@ -43,7 +48,8 @@ fn judge_skip<'a, R: Files + AllocGlobal>(
     folder: &str,
     name: &'a str,
 ) -> Result<(), NoSkip<'a>>
-    ensures { OnOk result (IsSkipped name.now) }
+    ensures ok { OnOk result (IsSkipped name.now) }
+    ensures err { IfErr result (IsNoSkip name.entry) }
 {
     if region_of_name(rt.alloc(), name)?.is_none() {
         return Err(NoSkip::Unnamed(name));
@@ -55,13 +61,14 @@ fn judge_skip<'a, R: Files + AllocGlobal>(
     }
 }
 
-/// Whether the files of these names can be skipped.
+/// Whether the files of these names can be skipped. The first that can't be is answered.
 pub fn judge_skips<'a, R: Files + AllocGlobal>(
     rt: &R,
     folder: &str,
     names: &[&'a str],
 ) -> Result<(), NoSkip<'a>>
-    ensures { OnOk result (All (λ n. IsSkipped n.now) names.now) }
+    ensures ok { OnOk result (All (λ n. IsSkipped n.now) names.now) }
+    ensures err { IfErr result (IsFirstNoSkip names.now) }
 {
     for name in names {
         judge_skip(rt, folder, *name)?;

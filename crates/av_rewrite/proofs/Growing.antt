@@ -2,7 +2,7 @@
 use Rattle.std.proofs.Common.{◌≡◌, ◌++◌, ◌∷◌, ◌+◌, ◌⊎◌, ◌∙◌, [], List, Option, Some, ℕ, zero, suc, inl, inr, refl, length, map, ap, sym, subst}
 use Rattle.std.specs.List.{slice_get}
 use Rattle.std.proofs.lemmas.Option.{same_Some, none-some}
-use Rattle.std.proofs.lemmas.List.{length-append, map-append}
+use Rattle.std.proofs.lemmas.List.{map-append, length_push}
 use Rattle.av_region.specs.Region.{stamp_of}
 use Rattle.av_rewrite.specs.Regions.{AreMadeOf, AreStamps, IsMadeOf}
 
@@ -24,19 +24,16 @@ pushed_each P xs x n many new old i y e = elim (pushed xs x y i e) [
   | inr last ↦ subst (λ j. P j y) (sym (last.0 ∙ many)) (subst (λ z. P n z) (sym last.1) new)
 ]
 
-pub one_longer : {X : Type 0} (xs : List X) (x : X) (n : ℕ) → length xs ≡ n → length (xs ++ x ∷ []) ≡ n + 1
-one_longer xs x n many = length-append xs (x ∷ []) ∙ ap (λ k. k + 1) many
-
 pub one_more : (Made : ℕ → List ℕ → List ℕ → Type 0) (region : List ℕ) (n : ℕ) (xs : List (Option (List ℕ))) (x : Option (List ℕ))
     → AreMadeOf Made region n xs → IsMadeOf Made region n x → AreMadeOf Made region (n + 1) (xs ++ x ∷ [])
 one_more Made region n xs x old new = record {
-  many = one_longer xs x n old.many;
+  many = length_push xs x ∙ ap (λ k. k + 1) old.many;
   each = pushed_each (IsMadeOf Made region) xs x n old.many new old.each;
 }
 
 pub one_more_stamp : (region : List ℕ) (n : ℕ) (xs : List ℕ) (x : ℕ) → AreStamps region n xs → x ≡ stamp_of region n → AreStamps region (n + 1) (xs ++ x ∷ [])
 one_more_stamp region n xs x old new = record {
-  many = one_longer xs x n old.many;
+  many = length_push xs x ∙ ap (λ k. k + 1) old.many;
   each = pushed_each (λ i s. s ≡ stamp_of region i) xs x n old.many new old.each;
 }
 

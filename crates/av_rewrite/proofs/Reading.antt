@@ -1,5 +1,6 @@
 -- What was read of each chunk, while the table of states grows.
-use Rattle.std.proofs.Common.{◌≡◌, ◌++◌, ◌∷◌, ◌+◌, [], List, ℕ, sym, subst}
+use Rattle.std.proofs.Common.{◌≡◌, ◌++◌, ◌∷◌, ◌+◌, [], List, ℕ, sym, subst, ap, ◌∙◌}
+use Rattle.std.proofs.lemmas.List.{length_push}
 use Rattle.av_types.specs.declared.place.Height.{Height}
 use Rattle.av_state.specs.BlockState.{BlockState}
 use Rattle.av_section.specs.Reading.{OnlyGrows}
@@ -7,7 +8,7 @@ use Rattle.av_section.proofs.Numbers.{OnlyGrows-trans}
 use Rattle.av_rewrite.specs.declared.rewriting.Slot.{Slot}
 use Rattle.av_rewrite.specs.declared.rewriting.Slot.TheVariants.{Absent, Kept, Full}
 use Rattle.av_rewrite.specs.Rewriting.{AreSlots, IsSlotRead}
-use Rattle.av_rewrite.proofs.Growing.{one_longer, pushed_each}
+use Rattle.av_rewrite.proofs.Growing.{pushed_each}
 
 -- what was read stays what it was while the table grows
 slot_grown : (h : Height) (region : List ℕ) (old new : List BlockState) (index : ℕ) (slot : Slot) → OnlyGrows old new → IsSlotRead h region old index slot → IsSlotRead h region new index slot
@@ -29,6 +30,6 @@ pub one_more_slot : (h : Height) (region : List ℕ) (old new : List BlockState)
     → after ≡ before ++ slot ∷ [] → OnlyGrows old new → AreSlots h region old n before → IsSlotRead h region new n slot → AreSlots h region new (n + 1) after
 one_more_slot h region old new n before after slot pushed_is more known last =
     subst (λ (xs : List Slot). AreSlots h region new (n + 1) xs) (sym pushed_is) (record {
-      many = one_longer before slot n known.many;
+      many = length_push before slot ∙ ap (λ k. k + 1) known.many;
       each = pushed_each (IsSlotRead h region new) before slot n known.many last (λ i s e. slot_grown h region old new i s more (known.each i s e));
     })

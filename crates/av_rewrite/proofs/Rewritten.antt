@@ -6,7 +6,8 @@ use Rattle.av_types.specs.declared.place.ChunkPos.{ChunkPos}
 use Rattle.av_types.specs.declared.place.Height.{Height}
 use Rattle.av_types.specs.declared.tick.Entry.{Entry}
 use Rattle.av_tags.specs.Nbt.{Document}
-use Rattle.av_tags.specs.Shape.{◌>>=◌, or_else}
+use Rattle.av_types.specs.Options.{◌>>=◌}
+use Rattle.av_tags.specs.Shape.{or_else}
 use Rattle.av_nbt.specs.Writing.{IsWellFormed, written_document}
 use Rattle.av_nbt.proofs.Written.{written_document_spells}
 use Rattle.av_state.specs.BlockState.{BlockState, air}

@@ -1,5 +1,5 @@
 -- What the view of a seat allows.
-use Rattle.std.proofs.Common.{◌≡◌, ◌<◌, ◌+◌, ◌-◌, ℕ, Bool, true, false, ◌||◌, List, [], ◌∷◌, ◌++◌, length, length-append, append_assoc, Option, Some, None, sym, refl, ap, ◌∙◌, subst, inl, inr, arith, All, map}
+use Rattle.std.proofs.Common.{◌≡◌, ◌<◌, ◌+◌, ◌-◌, ℕ, Bool, true, false, ◌||◌, List, [], ◌∷◌, ◌++◌, length, length-append, append_assoc, Option, Some, None, sym, ap, ◌∙◌, subst, inl, inr, arith, All, map}
 use Rattle.crossbeam_queue.specs.Fifo.{Pushes, Pops, Forks, Learns}
 use Rattle.av_ring.specs.declared.view.View.{View}
 use Rattle.av_ring.specs.Ring.{Took, Shows, Counts, Kept, view_of, put, without_seat, seat_of, together, IsPart}
@@ -9,16 +9,9 @@ use Rattle.std.proofs.lemmas.Grind.{flat_map-append}
 use Rattle.std.proofs.lemmas.List.{append-nil, map-append}
 use Rattle.std.proofs.lemmas.List.Folds.{list_any-append}
 use Rattle.std.proofs.lemmas.List.Sorted.{length_permutation}
+use Rattle.std.proofs.Math.Bool.{or-false, or_assoc}
 use Rattle.av_ring.specs.Shown.{RingShown, SeatShown, seat_shown, seat_view, IsSeatOf}
 use Rattle.av_ring.proofs.Steps.{takes, puts_job, puts_end, hands, learns-shows, learns-counts}
-
-or_false : (b : Bool) → b ≡ (b || false)
-or_false true = refl
-or_false false = refl
-
-or_assoc : (a b c : Bool) → ((a || b) || c) ≡ (a || (b || c))
-or_assoc true b c = refl
-or_assoc false b c = refl
 
 module _ {J : Type 0} where
   seat-parts : (v : View J) (n : ℕ) (jobs taken : List J) (dry : Bool) → v ≡ seat_view n jobs taken dry → 0 < v.parts
@@ -77,7 +70,7 @@ module _ {J : Type 0} where
         ap (λ (x : View J). x.all) w_is,
         ap (λ (x : View J). x.heard) w_is ∙ (λ i. heard_is i ++ theirs i) ∙ append_assoc told (map (λ (r : SeatShown J). r.jobs) seen) (s.jobs ∷ []) ∙ ap (λ (l : List (List J)). told ++ l) (sym (map-append (λ (r : SeatShown J). r.jobs) seen (s ∷ []))),
         ap (λ (x : View J). x.taken) w_is ∙ (λ i. taken_is i ++ t i) ∙ append_assoc first some s.taken ∙ ap (λ (l : List J). first ++ (some ++ l)) (sym (append-nil s.taken)) ∙ ap (λ (l : List J). first ++ l) (sym (flat_map-append (λ (r : SeatShown J). r.taken) seen (s ∷ []))),
-        ap (λ (x : View J). x.dry) w_is ∙ (λ i. dry_is i || d i) ∙ or_assoc wet any s.dry ∙ ap (λ (b : Bool). wet || (any || b)) (or_false s.dry) ∙ ap (λ (b : Bool). wet || b) (sym (list_any-append (λ (r : SeatShown J). r.dry) seen (s ∷ []))),
+        ap (λ (x : View J). x.dry) w_is ∙ (λ i. dry_is i || d i) ∙ or_assoc wet any s.dry ∙ ap (λ (b : Bool). wet || (any || b)) (sym (or-false s.dry)) ∙ ap (λ (b : Bool). wet || b) (sym (list_any-append (λ (r : SeatShown J). r.dry) seen (s ∷ []))),
       )
 
   -- new seats are their ring's

@@ -1,5 +1,5 @@
 -- Each step keeps the rule of the ring.
-use Rattle.std.proofs.Common.{◌≡◌, ◌≢◌, ◌<◌, ◌+◌, ◌-◌, ◌||◌, ℕ, zero, suc, Bool, true, false, true≢false, List, [], ◌∷◌, ◌++◌, length, Option, Some, None, set, sym, refl, ap, ◌∙◌, subst, ◌⊎◌, inl, inr, ⊎_elim, append_assoc, arith}
+use Rattle.std.proofs.Common.{◌≡◌, ◌≢◌, ◌<◌, ◌+◌, ◌-◌, ℕ, zero, suc, true, false, true≢false, List, [], ◌∷◌, ◌++◌, length, Option, Some, None, set, sym, refl, ap, ◌∙◌, subst, ◌⊎◌, ⊎_elim, append_assoc, arith}
 use mathlib.Core.Option.{some, some-injective, some-ne-none}
 use lib.ListN.{get_elem?}
 use Rattle.std.proofs.lemmas.List.{append-nil}
@@ -7,23 +7,13 @@ use Rattle.std.specs.List.{flat_map, AllByRecursion}
 use Rattle.std.specs.List.Sorted.{IsPermutation}
 use Rattle.std.proofs.lemmas.Grind.{flat_map-append}
 use Rattle.std.proofs.lemmas.List.Sorted.{IsPermutation-refl, IsPermutation-append_left, IsPermutation-append_right, IsPermutation-trans, IsPermutation-sym, IsPermutation-middle, length_permutation}
+use Rattle.std.proofs.lemmas.Bool.{false_from_ne_true, or_cases}
+use Rattle.av_types.proofs.Each.{each_append}
 use Rattle.crossbeam_queue.specs.Fifo.{Pushes, Pops, Forks, Merges, Learns}
 use Rattle.crossbeam_queue.proofs.Lists.{at_snoc, set_else}
 use Rattle.av_ring.specs.declared.view.View.{View}
 use Rattle.av_ring.specs.Ring.{jobs_of, ends_of, InLine, filler, idle, seat_of, without_seat, together, put, Took, Shows, Counts, Fits, Kept}
 use Rattle.av_ring.proofs.Totals.{total_set, total_snoc, total_at, total_two, total_alone, each_set, flat_same, flat_grow, flat_part, flat_alone, flat_out}
-
-not_true : (b : Bool) → (b ≡ true → ⊥) → b ≡ false
-not_true true n = absurd (n refl)
-not_true false n = refl
-
-all_joined : {X : Type 0} (P : X → Type 0) (xs ys : List X) → AllByRecursion P xs → AllByRecursion P ys → AllByRecursion P (xs ++ ys)
-all_joined P [] ys a b = b
-all_joined P (x ∷ xs) ys a b = (a.0, all_joined P xs ys a.1 b)
-
-one_of : (a b : Bool) → (a || b) ≡ true → (a ≡ true) ⊎ (b ≡ true)
-one_of true b e = inl refl
-one_of false b e = inr e
 
 module _ {J : Type 0} where
   jobs_of-append : (items more : List (Option J)) → jobs_of (items ++ more) ≡ jobs_of items ++ jobs_of more
@@ -166,7 +156,7 @@ module _ {J : Type 0} where
               (record { idle_is = λ e. absurd (omega arith); told_is = mine.told_is; heard_is = mine.heard_is; dry_is = λ d. absurd (wet v mine d) })
               (λ j u n e. let theirs = k.each j u e in record { idle_is = theirs.idle_is; told_is = theirs.told_is; heard_is = theirs.heard_is; dry_is = λ d. absurd (wet u theirs d) });
         },
-        (refl, not_true v.dry (wet v mine), (part.0 ++ jobs_of items, subst Part (sym told) (part_more k.filled (flat_map taken views) v.taken part.0 (jobs_of items) x k.whole part.1))),
+        (refl, false_from_ne_true v.dry (wet v mine), (part.0 ++ jobs_of items, subst Part (sym told) (part_more k.filled (flat_map taken views) v.taken part.0 (jobs_of items) x k.whole part.1))),
       )
 
   -- an end is taken out
@@ -256,8 +246,8 @@ module _ {J : Type 0} where
             (record {
               idle_is = λ z. absurd (omega arith);
               told_is = λ lt. mine.told_is some_part;
-              heard_is = all_joined (λ (l : List J). l ≡ k.filled) v.heard (u.told ∷ u.heard) mine.heard_is ((theirs.told_is some_other).0, theirs.heard_is);
-              dry_is = λ d. ⊎_elim mine.dry_is theirs.dry_is (one_of v.dry u.dry d);
+              heard_is = each_append (λ (l : List J). l ≡ k.filled) v.heard (u.told ∷ u.heard) mine.heard_is ((theirs.told_is some_other).0, theirs.heard_is);
+              dry_is = λ d. ⊎_elim mine.dry_is theirs.dry_is (or_cases v.dry u.dry d);
             })
             (λ i y off f. k.each i y f) j x e);
       }

@@ -1,6 +1,7 @@
 -- Reading a list from the front: what was read stands before what the rest gives.
 use Rattle.std.proofs.Common.{◌≡◌, ℕ, ◌+◌, ◌<◌, List, [], ◌∷◌, ◌++◌, map, length, drop, get_or, Option, Some, None, option_map, String, Global, string_bytes, refl, ap, ◌∙◌, sym, append-nil}
 use Rattle.std.proofs.lemmas.List.{append_assoc, map-append}
+use Rattle.std.proofs.lemmas.Option.{none-some}
 use Rattle.toml.specs.Data.{as_str, as_table}
 use Rattle.toml.specs.View.{view, members_view, items_view}
 use Rattle.toml.specs.declared.value.Value.{Value}
@@ -10,7 +11,8 @@ use Rattle.av_state.specs.Views.{property_of, properties_of}
 use Rattle.av_state.specs.declared.state.Property.{Property as PropertyValue}
 use Rattle.av_rules.specs.declared.document.Version.{Version}
 use Rattle.av_rules.specs.declared.row.TableRow.{TableRow as TableRowValue}
-use Rattle.av_rules.specs.Document.{◌>>=◌, texts_of, table_row_in, table_rows_in}
+use Rattle.av_types.specs.Options.{◌>>=◌}
+use Rattle.av_rules.specs.Document.{texts_of, table_row_in, table_rows_in}
 use Rattle.av_rules.specs.Rows.{TableRow}
 use Rattle.av_rules.specs.Views.{table_row_of, table_rows_of}
 
@@ -35,10 +37,7 @@ front_more v xs x o rest all e h =
 
 -- a step of a chain that gave something, and one that gave nothing
 bind_some : {A B C : Type 0} (o : Option A) (f : A → Option B) (g : B → Option C) (b : B) → (o >>= f) ≡ Some b → (o >>= (λ a. f a >>= g)) ≡ g b
-bind_some None f g b h = absurd (none_is_some b h)
-  where
-    none_is_some : {B : Type 0} (b : B) → None ≡ Some b → ⊥
-    none_is_some b h = cc
+bind_some None f g b h = absurd (none-some b h)
 bind_some (Some a) f g b h = ap (λ p. p >>= g) h
 
 bind_none : {A B C : Type 0} (o : Option A) (f : A → Option B) (g : B → Option C) → (o >>= f) ≡ None → (o >>= (λ a. f a >>= g)) ≡ None

@@ -1,7 +1,7 @@
 -- What every Kinds keeps, for the crates above.
 use Rattle.std.proofs.Common.{◌≡◌, ℕ, zero, suc, ◌-◌, ◌<◌, ◌≤◌, List, [], ◌∷◌, length, take, get_or, Bool, true, refl, ap, ◌∙◌, sym, arith, nat_lt, nat_le}
 use Rattle.std.specs.List.{list_all}
-use Rattle.std.proofs.lemmas.List.{length-take}
+use Rattle.std.proofs.lemmas.List.{length-take, get_or-take}
 use Rattle.std.proofs.lemmas.Bool.{and_parts, ltb-true, leb-true}
 use Rattle.av_types.specs.declared.water.Wet.{Wet}
 use Rattle.av_types.specs.declared.water.Wet.TheVariants.{Dry, Source, Flow, Falling}
@@ -11,12 +11,6 @@ use Rattle.av_rules.specs.declared.kinds.Kinds.{Kinds}
 use Rattle.av_rules.specs.Rows.{water_row, shut_row}
 use Rattle.av_rules.specs.KindLists.{first_rows, first_wets, is_proper, is_lit_properly}
 use Rattle.av_rules.specs.Kinds.{row_at, wet_at, rows_in, wets_in, AreKinds}
-
-at_take : {A : Type 0} (n k : ℕ) (xs : List A) (d : A) → k < n → get_or (take n xs) k d ≡ get_or xs k d
-at_take zero k xs d h = absurd (omega arith)
-at_take (suc n) k [] d h = refl
-at_take (suc n) zero (x ∷ xs) d h = refl
-at_take (suc n) (suc k) (x ∷ xs) d h = at_take n k xs d (omega arith)
 
 passes : {A : Type 0} (p : A → Bool) (xs : List A) (n : ℕ) (d : A) → list_all p xs ≡ true → p d ≡ true → p (get_or xs n d) ≡ true
 passes p [] n d all one = one
@@ -59,9 +53,9 @@ are_kinds k =
     let l = k.listed in
     let ten : length (take 10 (rows_in k)) ≡ 10 = ap length l.rows_begin in
     let row : (n : ℕ) → n < 10 → row_at k n ≡ get_or first_rows n shut_row =
-    λ n h. sym (at_take 10 n (rows_in k) shut_row h) ∙ ap (λ (xs : List Row). get_or xs n shut_row) l.rows_begin in
+    λ n h. sym (get_or-take 10 (rows_in k) n shut_row h) ∙ ap (λ (xs : List Row). get_or xs n shut_row) l.rows_begin in
     let wet : (n : ℕ) → n < 10 → wet_at k n ≡ get_or first_wets n Dry =
-    λ n h. sym (at_take 10 n (wets_in k) Dry h) ∙ ap (λ (xs : List Wet). get_or xs n Dry) l.wets_begin in
+    λ n h. sym (get_or-take 10 (wets_in k) n Dry h) ∙ ap (λ (xs : List Wet). get_or xs n Dry) l.wets_begin in
     let lit : (n : ℕ) → is_lit_properly (row_at k n) ≡ true = λ n. passes is_lit_properly (rows_in k) n shut_row l.lit_properly refl in
     record {
       counted = l.a_row_each;

@@ -1,8 +1,8 @@
 -- Rows and wetness made for each state.
-use Rattle.std.proofs.Common.{◌≡◌, ℕ, zero, suc, ◌+◌, ◌-◌, ◌<◌, ◌≤◌, List, [], ◌∷◌, ◌++◌, length, map, take, Bool, true, false, ◌&&◌, Option, Some, None, cond, refl, ap, ◌∙◌, sym, arith, nat_lt, eqb}
+use Rattle.std.proofs.Common.{◌≡◌, ℕ, zero, suc, ◌+◌, ◌-◌, ◌<◌, ◌≤◌, List, [], ◌∷◌, ◌++◌, length, map, take, Bool, true, false, Option, Some, None, cond, refl, ap, ◌∙◌, sym, arith, nat_lt, eqb}
 use Rattle.std.specs.List.{list_all, slice_get}
-use Rattle.std.proofs.lemmas.List.{length-map, map-append}
-use Rattle.std.proofs.lemmas.Bool.{le-leb, lt-ltb, ltb-true}
+use Rattle.std.proofs.lemmas.List.{length-map, map-append, take-map}
+use Rattle.std.proofs.lemmas.Bool.{le-leb, lt-ltb, ltb-true, and_from}
 use Rattle.std.proofs.lemmas.Option.{none-some, same_Some}
 use Rattle.av_types.specs.declared.water.Wet.{Wet}
 use Rattle.av_types.specs.declared.water.Wet.TheVariants.{Dry, Source, Flow, Falling}
@@ -35,11 +35,8 @@ all_map : {A B : Type 0} (p : B → Bool) (f : A → B) → ((x : A) → p (f x)
 all_map p f h [] = refl
 all_map p f h (x ∷ xs) = rw (h x, all_map p f h xs) refl
 
-both : {b c : Bool} → b ≡ true → c ≡ true → (b && c) ≡ true
-both h k = rw (h, k) refl
-
 lit : (r : Row) → r.opacity ≤ 15 → r.emission ≤ 15 → is_lit_properly r ≡ true
-lit r o e = both (le-leb r.opacity 15 o) (le-leb r.emission 15 e)
+lit r o e = and_from _ _ (le-leb r.opacity 15 o) (le-leb r.emission 15 e)
 
 lit_first : (ts : List TableRowValue) (s : BlockState) → is_lit_properly (first_row (table_rows_of ts) s) ≡ true
 lit_first [] s = refl
@@ -54,7 +51,7 @@ lit_row r s =
 proper_low : (b : Bool) (n : ℕ) → nat_lt n 8 ≡ b → eqb n 0 ≡ false → is_proper (cond b (Flow (8 - n)) Falling) ≡ true
 proper_low true n e z =
     let low : n < 8 = ltb-true n 8 e in
-    both (lt-ltb 0 (8 - n) (omega arith)) (lt-ltb (8 - n) 8 (above n z low))
+    and_from _ _ (lt-ltb 0 (8 - n) (omega arith)) (lt-ltb (8 - n) 8 (above n z low))
   where
     above : (n : ℕ) → eqb n 0 ≡ false → n < 8 → 8 - n < 8
     above zero z h = absurd (z_is_one z)
@@ -77,11 +74,6 @@ proper_wet s = elim (bytes_eq s.name water_name) as (λ b. is_proper (cond b (we
 
 proper_in : (t : BlockTable) (s : BlockState) → is_proper (wet_in t s) ≡ true
 proper_in t s = elim ((row_of t s).wet) as (λ b. is_proper (cond b Source (wet_of s)) ≡ true) [ true ↦ refl | false ↦ proper_wet s ]
-
-take-map : {A B : Type 0} (f : A → B) (n : ℕ) (xs : List A) → take n (map f xs) ≡ map f (take n xs)
-take-map f zero xs = refl
-take-map f (suc n) [] = refl
-take-map f (suc n) (x ∷ xs) = ap (λ l. f x ∷ l) (take-map f n xs)
 
 -- the rows and the wetness of the states of a table are a list of kinds
 pub IsKindList-from : (r : Rules) (xs : List BlockState) (rows : List Row) (wets : List Wet) → IsStateList xs → rows ≡ map (row_of (table_of r)) xs → wets ≡ map (wet_in (table_of r)) xs → IsKindList (length xs) rows wets

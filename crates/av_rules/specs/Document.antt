@@ -1,18 +1,15 @@
 -- The block table that a TOML document spells. What the TOML reader answers for a document decides.
-use Rattle.std.specs.Prelude.{ℕ, ℤ, pos, negsuc, ◌+ℤ◌, int_le, List, [], ◌∷◌, ◌++◌, Bool, true, false, ◌&&◌, ◌||◌, ◌==◌, if◌then◌else◌, Option, Some, None, option_and_then, nat_lt, codes}
+use Rattle.std.specs.Prelude.{ℕ, ℤ, pos, negsuc, ◌+ℤ◌, int_le, List, [], ◌∷◌, ◌++◌, Bool, true, false, ◌&&◌, ◌||◌, ◌==◌, if◌then◌else◌, Option, Some, None, nat_lt, codes}
 use Rattle.std.specs.List.{list_any}
 use Rattle.std.specs.Str.{bytes_eq}
 use Rattle.toml.specs.Data.{Data, Items, no_items, item, Members, no_members, member, get_member, as_str, as_integer, as_bool, as_array, as_table}
 use Rattle.toml.specs.Parse.{parse_document}
+use Rattle.av_types.specs.Options.{◌>>=◌}
 use Rattle.av_state.specs.BlockState.{Property, air_name, water_name}
 use Rattle.av_rules.specs.declared.document.Version.{Version}
 use Rattle.av_rules.specs.declared.document.Version.TheVariants.{One, Two, Three}
 use Rattle.av_rules.specs.declared.row.Row.{Row}
 use Rattle.av_rules.specs.Rows.{TableRow, BlockTable}
-
-infixl 10 ◌>>=◌
-abbrev pub ◌>>=◌ : {A B : Type 0} → Option A → (A → Option B) → Option B
-o >>= f = option_and_then f o
 
 -- ---- what stands at a key
 

@@ -2,6 +2,7 @@
 use Rattle.std.proofs.Common.{◌≡◌, ◌∙◌, ℕ, suc, ◌<◌, List, [], ◌∷◌, ◌++◌, length, map, Bool, true, false, cond, Option, Some, None, slice_get, slice_index_or, option_map, refl, ap, sym, subst}
 use Rattle.std.specs.List.{AllByRecursion, flat_map, list_any}
 use Rattle.std.proofs.lemmas.Option.{none-some, slice_get_within, get_or_from_slice_get}
+use Rattle.std.proofs.lemmas.List.{append_assoc, append-nil}
 use Rattle.av_types.specs.declared.place.Pos.{Pos}
 use Rattle.av_types.specs.declared.fault.Fault.{Fault}
 use Rattle.av_types.specs.declared.fault.Fault.TheVariants.{BadEdit, EditTick, EditOutside, TooManyStates}
@@ -24,19 +25,11 @@ record Grown (old new : List BlockState) : Type 0 where
   more : List BlockState
   is : new ≡ old ++ more
 
-assoc : {X : Type 0} (xs ys zs : List X) → (xs ++ ys) ++ zs ≡ xs ++ (ys ++ zs)
-assoc [] ys zs = refl
-assoc (x ∷ xs) ys zs = ap (λ l. x ∷ l) (assoc xs ys zs)
-
-append_nil : {X : Type 0} (xs : List X) → xs ≡ xs ++ []
-append_nil [] = refl
-append_nil (x ∷ xs) = ap (λ l. x ∷ l) (append_nil xs)
-
 grown_not : (t : List BlockState) → Grown t t
-grown_not t = record { more = []; is = append_nil t }
+grown_not t = record { more = []; is = sym (append-nil t) }
 
 grown_on : (t u v : List BlockState) → Grown t u → Grown u v → Grown t v
-grown_on t u v a b = record { more = a.more ++ b.more; is = b.is ∙ (ap (λ l. l ++ b.more) a.is ∙ assoc t a.more b.more) }
+grown_on t u v a b = record { more = a.more ++ b.more; is = b.is ∙ (ap (λ l. l ++ b.more) a.is ∙ append_assoc t a.more b.more) }
 
 grown_if : (b : Bool) (t : List BlockState) (s : BlockState) → Grown t (cond b t (t ++ s ∷ []))
 grown_if true t s = grown_not t

@@ -7,7 +7,7 @@ use Rattle.std.proofs.lemmas.List.{get_or-map, length-replicate, length-take-le}
 use Rattle.std.proofs.lemmas.List.Elements.{All-from_recursion}
 use Rattle.std.proofs.lemmas.Slice.Zip.{AllZip-long}
 use Rattle.av_types.specs.Division.{divided}
-use Rattle.av_types.specs.Places.{chunk_of, place_of, is_block_of, is_section_of}
+use Rattle.av_types.specs.Places.{chunk_of, place_of, is_block_of, is_section_of, section_index}
 use Rattle.av_types.specs.declared.place.Pos.{Pos}
 use Rattle.av_types.specs.declared.place.ChunkPos.{ChunkPos}
 use Rattle.av_types.specs.declared.place.Height.{Height}
@@ -20,7 +20,6 @@ use Rattle.av_rules.specs.Rows.{BlockTable, row_of, shut_row}
 use Rattle.av_rules.specs.Kinds.{table_in, row_at, kind_count}
 use Rattle.av_rules.specs.declared.row.Row.{Row}
 use Rattle.av_rules.specs.declared.kinds.Kinds.{Kinds}
-use Rattle.av_chunk.specs.Rest.{offset_of}
 use Rattle.av_chunk.specs.Light.{section_count}
 use Rattle.av_chunk.specs.Writing.{light_of}
 use Rattle.av_chunk.specs.declared.light.ChunkLight.{ChunkLight}
@@ -60,7 +59,7 @@ section_length bytes count i e low =
 light_length : (l : ChunkLight) (h : Height) (y : ℤ) → section_count l ≡ h.sections → is_section_of h y ≡ true → length (light_of l h y) ≡ 2048
 light_length l h y count inside =
     let low = offset_below h y inside in
-    section_length l.bytes.items l.sections (offset_of h y) l.whole (omega (arith, count, low))
+    section_length l.bytes.items l.sections (section_index h y) l.whole (omega (arith, count, low))
 
 counted : (h : Height) (ls : List ChunkLight) (i : ℕ) (y : ℤ) → AllByRecursion (λ l. section_count l ≡ h.sections) ls → is_section_of h y ≡ true → length (section_light h (slice_get ls i) y) ≡ 2048
 counted h [] i y all inside = dark_length

@@ -2,11 +2,10 @@
 use Rattle.std.proofs.Common.{◌≡◌, ◌≢◌, ℕ, ◌<◌, ◌≤◌, ◌+◌, nat_eq, List, [], ◌∷◌, ◌++◌, length, get_or, set, take, replicate, Bool, true, false, cond, AllPairs, refl, sym, ap, ◌∙◌, arith, true≢false, inl, inr, length-append, get_or-set_same, get_or-set_other}
 use Rattle.std.specs.List.{list_any}
 use Rattle.std.proofs.lemmas.Bool.{cases_eq, cases_lt, cases_order, ne_eqb}
-use Rattle.std.proofs.lemmas.List.{get_or_append_left, get_or-replicate, length-replicate, length-set}
+use Rattle.std.proofs.lemmas.List.{get_or_append_left, get_or-replicate, length-replicate, length-set, map_more}
 use Rattle.std.proofs.Math.Seq.{get_or-append_seam}
 use Rattle.av_section.specs.Distinct.{with_number, with_numbers}
 use Rattle.av_section.specs.WrittenPalette.{KnowsIndices, numbers_of}
-use Rattle.av_section.proofs.Written.{map_more}
 
 any_push : (p : ℕ → Bool) (xs : List ℕ) (y : ℕ) → list_any p xs ≡ false → p y ≡ false → list_any p (xs ++ y ∷ []) ≡ false
 any_push p [] y h e = rw e refl

@@ -6,7 +6,8 @@ use Rattle.std.proofs.lemmas.List.{get_or_append_left}
 use Rattle.std.proofs.Math.Seq.{get_or-append_seam}
 use Rattle.av_tags.specs.Nbt.{Nbt, NamedTag}
 use Rattle.av_tags.specs.Place.{tag_of}
-use Rattle.av_tags.specs.Shape.{◌>>=◌, text_of, each}
+use Rattle.av_types.specs.Options.{◌>>=◌}
+use Rattle.av_tags.specs.Shape.{text_of, each}
 use Rattle.av_tags.proofs.Each.{each_more, each_parts}
 use Rattle.av_state.specs.BlockState.{Property, BlockState, air, in_order, meant, storable}
 use Rattle.av_state.specs.StateList.{number_in, with_state, with_states}

@@ -8,7 +8,6 @@ pub mod FirstPlaces
 pub mod PackedLemmas
 pub mod Ready
 pub mod Refusals
-pub mod Written
 pub mod WrittenStates
 pub mod WrittenOne
 pub mod FirstUse

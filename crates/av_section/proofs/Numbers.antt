@@ -113,12 +113,13 @@ module _ {A : Type 0} (v : A → BlockState) (entries : List A) (old : List Bloc
       → AreNumbered (map v (take i entries)) old now numbers → IsOneTooMany now (v (get_or entries i d)) → AreTooMany (map v entries) old
   too_many i d now numbers low fine a s =
       let all = each_has meant (map v entries) fine in
-      let parts = each_splits meant v entries i d all.ys a.forms s.form low all.are a.forms_are s.is_meant in
-      let longer : with_state now s.form ≡ now ++ s.form ∷ [] = rw (number_in-none now s.form s.is_new) refl in
-      let most = length-grows (with_state now s.form) (with_states (with_state now s.form) parts.rest) (with_states-grows (with_state now s.form) parts.rest) in
-      let whole : with_states old all.ys ≡ with_states (with_state now s.form) parts.rest =
-      ap (with_states old) parts.is ∙ with_states-append old a.forms (s.form ∷ parts.rest) ∙ ap (λ l. with_states l (s.form ∷ parts.rest)) (sym a.states) in
-      record { forms = all.ys; forms_are = all.are; too_many = omega (arith, s.is_full, ap length whole, ap length longer, length-append now (s.form ∷ []), most) }
+      let form = s.is_new.form in
+      let parts = each_splits meant v entries i d all.ys a.forms form low all.are a.forms_are s.is_new.is_meant in
+      let longer : with_state now form ≡ now ++ form ∷ [] = rw (number_in-none now form s.is_new.no_number) refl in
+      let most = length-grows (with_state now form) (with_states (with_state now form) parts.rest) (with_states-grows (with_state now form) parts.rest) in
+      let whole : with_states old all.ys ≡ with_states (with_state now form) parts.rest =
+      ap (with_states old) parts.is ∙ with_states-append old a.forms (form ∷ parts.rest) ∙ ap (λ l. with_states l (form ∷ parts.rest)) (sym a.states) in
+      record { forms = all.ys; forms_are = all.are; too_many = omega (arith, s.is_full, ap length whole, ap length longer, length-append now (form ∷ []), most) }
 
   -- a state that has no form
   pub no_form : (i : ℕ) (d : A) → i < length entries → meant (v (get_or entries i d)) ≡ None → each meant (map v entries) ≡ None

@@ -1,21 +1,18 @@
 -- One more number of a list, each once.
-use Rattle.std.proofs.Common.{◌≡◌, ℕ, zero, suc, ◌<◌, ◌+◌, nat_eq, List, [], ◌∷◌, ◌++◌, length, get_or, take, Bool, true, false, ◌||◌, Contains, refl, sym, ap, ◌∙◌, arith, true≢false, length-append, if◌then◌else◌}
+use Rattle.std.proofs.Common.{◌≡◌, ℕ, zero, suc, ◌<◌, ◌+◌, nat_eq, List, [], ◌∷◌, ◌++◌, length, get_or, take, Bool, true, false, Contains, refl, sym, ap, ◌∙◌, arith, true≢false, length-append, if◌then◌else◌}
 use Rattle.std.specs.List.{list_any}
 use Rattle.std.proofs.lemmas.Bool.{eq-eqb, eqb-true}
 use Rattle.std.proofs.lemmas.List.{take_more}
 use Rattle.std.proofs.lemmas.List.Elements.{All-push, All-weaker, Contains-push, Contains-append_left}
 use Rattle.std.proofs.lemmas.Map.Views.{Contains-from_any}
+use Rattle.std.proofs.Math.Bool.{or-true}
 use Rattle.av_section.specs.Distinct.{AreEachOnce, with_number}
 use Rattle.av_section.proofs.Distinct.{Distinct-push}
-
-or_true : (b : Bool) → b || true ≡ true
-or_true true = refl
-or_true false = refl
 
 pub any_at : (ks : List ℕ) (n k : ℕ) → k < length ks → get_or ks k n ≡ n → list_any (nat_eq n) ks ≡ true
 any_at [] n k low e = absurd (omega arith)
 any_at (x ∷ ks) n zero low e = rw (eq-eqb n x (sym e)) refl
-any_at (x ∷ ks) n (suc k) low e = rw (any_at ks n k (omega arith) e) (or_true (nat_eq n x))
+any_at (x ∷ ks) n (suc k) low e = rw (any_at ks n k (omega arith) e) (or-true (nat_eq n x))
 
 pub not_among : (ks : List ℕ) (n : ℕ) → list_any (nat_eq n) ks ≡ false → Contains ks n → ⊥
 not_among ks n h c = true≢false (sym (any_at ks n c.0 c.1 c.2) ∙ h)

@@ -1,17 +1,12 @@
 -- Edits of a palette and of the indices into it.
-use Rattle.std.proofs.Common.{◌≡◌, ℕ, zero, suc, ◌<◌, ◌≤◌, ◌/◌, List, [], ◌∷◌, ℤ, pos, ◌++◌, length, get_or, take, replicate, Contains, refl, sym, ap, subst, ◌∙◌, inl, inr, arith}
+use Rattle.std.proofs.Common.{◌≡◌, ℕ, zero, suc, ◌<◌, ◌≤◌, ◌/◌, List, [], ◌∷◌, ℤ, pos, length, get_or, replicate, Contains, refl, sym, ap, subst, ◌∙◌, inl, inr, arith}
 use Rattle.std.proofs.lemmas.List.{length-replicate}
-use Rattle.std.proofs.Math.Seq.{take-append_seam}
 use Rattle.std.proofs.lemmas.Bool.{cases_eq}
 use Rattle.std.proofs.lemmas.List.Elements.{All-cons, All-nil}
 use Rattle.av_pack.proofs.Laws.{packed_at-zeros}
 use Rattle.av_pack.proofs.Slots.{slot_in_range}
 use Rattle.av_pack.specs.Packing.{bits_for, longs_for, packed_at, SetsEntry}
 use Rattle.av_section.specs.Packed.{IsPackedSection, number_in}
-
--- a whole list written over another
-pub written_back : {A : Type 0} (n : ℕ) (new rest : List A) → length new ≡ n → take n (new ++ rest) ≡ new
-written_back n new rest e = subst (λ k. take k (new ++ rest) ≡ new) e (take-append_seam new rest)
 
 -- the places need some longs
 pub none_is_not_many : (longs : List ℤ) (bits : ℕ) → 4 ≤ bits → bits ≤ 16 → length longs ≡ longs_for bits → longs ≡ [] → ⊥

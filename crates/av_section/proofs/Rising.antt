@@ -4,14 +4,15 @@ use Rattle.std.specs.List.{dedup}
 use Rattle.std.specs.List.Sorted.{IsBinarySearchResult, IsPermutation, IsSorted, IsStrictlyIncreasing}
 use Rattle.std.specs.Ordering.{nat_cmp}
 use Rattle.std.specs.Result.{IsOk}
-use Rattle.std.proofs.lemmas.Bool.{cases_lt, eq-eqb, eqb-true, ne_eqb}
+use Rattle.std.proofs.lemmas.Bool.{cases_lt, ne_eqb}
 use Rattle.std.proofs.lemmas.Cmp.{nat_eq_equiv}
 use Rattle.std.proofs.lemmas.List.{get_or_default}
-use Rattle.std.proofs.lemmas.List.Elements.{All-contains}
+use Rattle.std.proofs.lemmas.List.Elements.{All-contains, Contains-get_or}
 use Rattle.std.proofs.lemmas.List.Kept.{AllPairs-from_increasing, Contains-dedup_nat, Contains-from_dedup}
 use Rattle.std.proofs.lemmas.List.Sorted.{Contains-permutation, IsPermutation-sym, length_permutation, searched}
 use Rattle.std.proofs.lemmas.Map.Keys.{IsDistinct-IsPermutation, IsDistinct-from_apart, IsStrictlyIncreasing-dedup}
 use Rattle.std.proofs.lemmas.Map.Made.{AllPairs-from_IsDistinct}
+use Rattle.std.proofs.lemmas.Bool.Decides.{Decides-eqb}
 use Rattle.av_section.specs.Distinct.{AreEachOnce, AreOwnPlaces, ArePlaces, IsRisingOf}
 
 -- ---- what is left of a list where numbers beside each other are taken once
@@ -40,28 +41,22 @@ dedup_same (x ∷ xs) h = from_same x xs (omega (arith, h))
 
 -- ---- the numbers of a list in order, each once
 
-itself : (xs : List ℕ) (k d : ℕ) → k < length xs → Contains xs (get_or xs k d)
-itself xs k d low = (k, low, get_or_default xs k (get_or xs k d) d low)
-
 rising_apart : (xs : List ℕ) → IsStrictlyIncreasing xs → AllPairs (λ x y. x ≢ y) xs
 rising_apart xs h i j d lt low e = let less = AllPairs-from_increasing xs h i j d lt low in absurd (omega (arith, less, e))
-
-tells : (a b : ℕ) → (nat_eq a b ≡ true → a ≡ b) × (a ≡ b → nat_eq a b ≡ true)
-tells a b = (eqb-true a b, eq-eqb a b)
 
 moved_apart : (numbers sorted : List ℕ) → IsPermutation numbers sorted → IsStrictlyIncreasing sorted → AllPairs (λ x y. x ≢ y) numbers
 moved_apart numbers sorted moved h =
     let apart = IsDistinct-from_apart nat_eq sorted (λ i j d lt low. ne_eqb (get_or sorted i d) (get_or sorted j d) (rising_apart sorted h i j d lt low)) in
-    AllPairs-from_IsDistinct tells numbers (IsDistinct-IsPermutation nat_eq nat_eq_equiv.symm sorted numbers (IsPermutation-sym numbers sorted moved) apart)
+    AllPairs-from_IsDistinct Decides-eqb numbers (IsDistinct-IsPermutation nat_eq nat_eq_equiv.symm sorted numbers (IsPermutation-sym numbers sorted moved) apart)
 
 pub rising_of : (numbers sorted rising : List ℕ) → IsPermutation numbers sorted → IsSorted nat_cmp sorted → rising ≡ dedup nat_eq sorted → IsRisingOf numbers rising
 rising_of numbers sorted rising moved order is =
     let long = length_permutation numbers sorted moved in
     record {
       rises = rw is (IsStrictlyIncreasing-dedup sorted order);
-      there = λ k d low. rw is (Contains-dedup_nat sorted (get_or numbers k d) (Contains-permutation numbers sorted (get_or numbers k d) moved (itself numbers k d low)));
+      there = λ k d low. rw is (Contains-dedup_nat sorted (get_or numbers k d) (Contains-permutation numbers sorted (get_or numbers k d) moved (Contains-get_or numbers k d low)));
       short = omega (arith, ap length is, dedup_short sorted, long);
-      among = rw is (λ k d low. Contains-permutation sorted numbers (get_or (dedup nat_eq sorted) k d) (IsPermutation-sym numbers sorted moved) (Contains-from_dedup nat_eq sorted (get_or (dedup nat_eq sorted) k d) (itself (dedup nat_eq sorted) k d low)));
+      among = rw is (λ k d low. Contains-permutation sorted numbers (get_or (dedup nat_eq sorted) k d) (IsPermutation-sym numbers sorted moved) (Contains-from_dedup nat_eq sorted (get_or (dedup nat_eq sorted) k d) (Contains-get_or (dedup nat_eq sorted) k d low)));
       apart = λ e.
           let same : dedup nat_eq sorted ≡ sorted = dedup_same sorted (sym (ap length is) ∙ e ∙ sym long) in
           moved_apart numbers sorted moved (subst IsStrictlyIncreasing same (IsStrictlyIncreasing-dedup sorted order));
@@ -69,7 +64,7 @@ rising_of numbers sorted rising moved order is =
 
 -- as many as the numbers: none is there twice
 pub once_itself : (numbers rising : List ℕ) → IsRisingOf numbers rising → All (λ x. x < 65536) numbers → length rising ≡ length numbers → AreEachOnce numbers numbers
-once_itself numbers rising r small e = record { distinct = r.apart e; small = small; there = itself numbers; short = omega arith; same = λ q. refl }
+once_itself numbers rising r small e = record { distinct = r.apart e; small = small; there = Contains-get_or numbers; short = omega arith; same = λ q. refl }
 
 pub own_are_places : (numbers places : List ℕ) → AreOwnPlaces (length numbers) places → ArePlaces numbers numbers places
 own_are_places numbers places o = record {

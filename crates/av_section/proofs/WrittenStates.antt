@@ -1,9 +1,10 @@
 -- The states of a written palette.
-use Rattle.std.proofs.Common.{◌≡◌, ◌≢◌, ℕ, zero, suc, ◌<◌, ◌≤◌, ◌+◌, nat_eq, if◌then◌else◌, List, [], ◌∷◌, ◌++◌, map, length, get_or, slice_get, Some, Bool, true, false, cond, All, AllPairs, refl, sym, ap, subst, ◌∙◌, arith, inl, inr}
+use Rattle.std.proofs.Common.{◌≡◌, ◌≢◌, ℕ, zero, suc, ◌<◌, ◌≤◌, ◌+◌, nat_eq, if◌then◌else◌, List, [], ◌∷◌, ◌++◌, map, length, get_or, Some, Bool, true, false, cond, All, AllPairs, refl, sym, ap, subst, ◌∙◌, arith, inl, inr}
 use Rattle.std.specs.List.{list_any, range_with_len}
 use Rattle.std.proofs.lemmas.Bool.{cases_eq, ne_eqb, eq-eqb, lt-ltb}
 use Rattle.std.proofs.lemmas.List.{map-append, length-map, same_lists, get_or-map, get_or_default}
 use Rattle.std.proofs.lemmas.List.Elements.{All-push, All-head, All-tail, All-nil}
+use Rattle.std.proofs.lemmas.Option.{slice_get-get_or}
 use Rattle.av_section.specs.Distinct.{with_number, with_numbers}
 use Rattle.av_pack.specs.Packing.{packed_at, unpacked}
 use Rattle.av_state.specs.BlockState.{BlockState, air}
@@ -18,11 +19,6 @@ use Rattle.av_pack.proofs.Laws.{length-unpacked, get_or-unpacked}
 use Rattle.av_section.specs.WrittenPalette.{IsWritten, numbers_of}
 use Rattle.av_section.proofs.Distinct.{Distinct-push}
 use Rattle.av_section.proofs.Once.{not_among}
-
-get_some : {A : Type 0} (xs : List A) (n : ℕ) (d : A) → n < length xs → slice_get xs n ≡ Some (get_or xs n d)
-get_some [] n d low = absurd (omega arith)
-get_some (x ∷ xs) zero d low = refl
-get_some (x ∷ xs) (suc n) d low = get_some xs n d (omega arith)
 
 distinct_if : (b : Bool) (ks : List ℕ) (n : ℕ) → list_any (nat_eq n) ks ≡ b → AllPairs (λ x y. x ≢ y) ks → AllPairs (λ x y. x ≢ y) (cond b ks (ks ++ n ∷ []))
 distinct_if true ks n e d = d
@@ -52,7 +48,7 @@ module _ (states : List BlockState) (l : IsStateList states) where
   ]
     where
       by : (b : Bool) → same_state (f n) (f m) ≡ b → n ≢ m → same_state (f n) (f m) ≡ nat_eq n m
-      by true h ne = absurd (ne (l.distinct n m ln lm (get_some states n air ln ∙ ap Some ((state-Decides (f n) (f m)).0 h) ∙ sym (get_some states m air lm))))
+      by true h ne = absurd (ne (l.distinct n m ln lm (slice_get-get_or states n air ln ∙ ap Some ((state-Decides (f n) (f m)).0 h) ∙ sym (slice_get-get_or states m air lm))))
       by false h ne = h ∙ sym (ne_eqb n m ne)
 
   any_same : (n : ℕ) (ks : List ℕ) → n < length states → All (λ k. k < length states) ks → list_any (same_state (f n)) (map f ks) ≡ list_any (nat_eq n) ks

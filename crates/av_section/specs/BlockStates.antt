@@ -2,7 +2,8 @@
 use Rattle.std.specs.Prelude.{ℕ, ℤ, ◌==◌, nat_lt, length, List, [], ◌∷◌, ◌++◌, Option, Some, None, Bool, true, false, ◌&&◌, if◌then◌else◌, map, replicate, slice_index, slice_index_or}
 use Rattle.std.specs.List.{list_all}
 use Rattle.av_tags.specs.Nbt.{Nbt, long_array}
-use Rattle.av_tags.specs.Shape.{◌>>=◌, longs_of, each, lacks, or_else}
+use Rattle.av_types.specs.Options.{◌>>=◌}
+use Rattle.av_tags.specs.Shape.{longs_of, each, lacks, or_else}
 use Rattle.av_state.specs.BlockState.{BlockState, air, meant}
 use Rattle.av_state.specs.StateList.{number_in, with_states}
 use Rattle.av_pack.specs.Packing.{bits_for, longs_for, unpacked, packed}

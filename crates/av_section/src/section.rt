@@ -114,7 +114,7 @@ impl Section {
         requires few { length numbers.items ≤ 4096 }
         requires fit { IsSome (indices_in (length numbers.items) longs.now) }
         ensures ok { IfOk result (IsPlaced numbers.items (indices_in (length numbers.items) longs.now)) }
-        ensures err { IfErr result (λ e. e ≡ OutOfMemory) }
+        ensures memory { IfErr result (λ e. e ≡ OutOfMemory) }
     {
         if longs.is_empty() {
             let section = Section::filled(alloc, numbers[0])?;
@@ -210,7 +210,7 @@ impl Section {
     /// Refuses with OutOfMemory alone.
     pub fn filled(alloc: Global, number: u16) -> Result<Self, Fault>
         ensures ok { IfOk result (λ s. IsFilled s number) }
-        ensures err { IfErr result (λ e. e ≡ OutOfMemory) }
+        ensures memory { IfErr result (λ e. e ≡ OutOfMemory) }
     {
         let mut palette = Vec::new(alloc);
         palette.push(number)?;
@@ -240,7 +240,7 @@ impl Section {
     pub fn prepare(&mut self, numbers: &[u16]) -> Result<(), Fault>
         ensures same { KeepsPlaces self.old self.new }
         ensures ok { OnOk result (All (CanSet self.new) numbers.now) }
-        ensures err { IfErr result (λ e. e ≡ OutOfMemory) }
+        ensures memory { IfErr result (λ e. e ≡ OutOfMemory) }
 
         // Numbers that can be set already take no memory.
         ensures succeeds { All (CanSet self.old) numbers.now → IsOk result }
@@ -347,7 +347,7 @@ impl Section {
         requires { HasNumbersBelow self.now (length (states table.now)) }
         ensures palette { IfOk result (λ tags. view tags.0 ≡ palette_tag (section_states (states table.now) self.now)) }
         ensures longs { IfOk result (λ tags. option_map view tags.1 ≡ data_tag (section_states (states table.now) self.now)) }
-        ensures err { IfErr result (λ e. e ≡ OutOfMemory) }
+        ensures memory { IfErr result (λ e. e ≡ OutOfMemory) }
     {
         if self.palette.len() == 1 {
             return Ok(self.write_one(alloc, table)?);

@@ -1,16 +1,16 @@
 -- Where the light of a block stands among a chunk's half bytes.
-use Rattle.std.proofs.Common.{◌≡◌, ℕ, ℤ, pos, negsuc, ◌+◌, ◌-◌, ◌*◌, ◌/◌, ◌%◌, ◌<◌, ◌+ℤ◌, ◌-ℤ◌, ◌*ℤ◌, ◌<ℤ◌, ◌≤ℤ◌, ◌&&◌, true, cond, List, length, get_or, drop, refl, sym, ap, ◌∙◌, arith}
-use Rattle.std.specs.Prelude.{int_le, int_lt, slice_range, ◌==◌}
+use Rattle.std.proofs.Common.{◌≡◌, ℕ, ℤ, pos, negsuc, ◌+◌, ◌-◌, ◌*◌, ◌/◌, ◌%◌, ◌<◌, ◌+ℤ◌, ◌-ℤ◌, ◌*ℤ◌, ◌<ℤ◌, ◌≤ℤ◌, true, cond, List, length, get_or, drop, refl, sym, ap, ◌∙◌, arith, nat_abs}
+use Rattle.std.specs.Prelude.{slice_range, ◌==◌}
 use Rattle.std.proofs.lemmas.Int.{ints}
 use Rattle.std.proofs.lemmas.List.{get_or-take, get_or-drop}
+use Rattle.av_document.proofs.Numbers.{le_and_lt_from}
 use Rattle.av_types.specs.Division.{divided, remainder}
-use Rattle.av_types.specs.Places.{chunk_of, place_of, is_block_of}
+use Rattle.av_types.specs.Places.{chunk_of, place_of, is_block_of, section_index}
 use Rattle.av_types.specs.declared.place.Pos.{Pos}
 use Rattle.av_types.specs.declared.place.ChunkPos.{ChunkPos}
 use Rattle.av_types.specs.declared.place.Height.{Height}
 use Rattle.av_pack.specs.Nibbles.{nibble_at}
 use Rattle.av_document.proofs.Positions.{coordinate-of, remainder-lt, place_of-lt}
-use Rattle.av_chunk.specs.Rest.{natural, offset_of}
 use Rattle.av_flood.specs.Board.{light_of, light_at, own_block, HasLightSoFar}
 use Rattle.av_flood.specs.declared.board.Flood.{Flood}
 
@@ -26,20 +26,17 @@ record IsInside (m : ℤ) (count : ℕ) (q : ℤ) : Type 0 where
   low : m ≤ℤ q
   high : q <ℤ (m +ℤ pos count)
 
-both : (a b c d : ℤ) → int_le a b && int_lt c d ≡ true → (a ≤ℤ b) × (c <ℤ d)
-both a b c d h = grind (arith, ints)
-
 inside_of : (h : Height) (y : ℤ) → is_block_of h y ≡ true → IsInside h.min_section h.sections (divided y 16)
-inside_of h y e = let w = both h.min_section (divided y 16) (divided y 16) (h.min_section +ℤ pos h.sections) e in record { low = w.0; high = w.1 }
+inside_of h y e = let w = le_and_lt_from h.min_section (divided y 16) (divided y 16) (h.min_section +ℤ pos h.sections) e in record { low = w.0; high = w.1 }
 
-offset_is : (m q : ℤ) → m ≤ℤ q → q ≡ m +ℤ pos (natural (q -ℤ m))
+offset_is : (m q : ℤ) → m ≤ℤ q → q ≡ m +ℤ pos (nat_abs (q -ℤ m))
 offset_is m q low = on (q -ℤ m) refl where
-  on : (z : ℤ) → q -ℤ m ≡ z → q ≡ m +ℤ pos (natural z)
+  on : (z : ℤ) → q -ℤ m ≡ z → q ≡ m +ℤ pos (nat_abs z)
   on (pos n) e = omega (arith, ints)
   on (negsuc n) e = absurd (omega (arith, ints))
 
-offset_less : (m q : ℤ) (count : ℕ) → m ≤ℤ q → q <ℤ (m +ℤ pos count) → natural (q -ℤ m) < count
-offset_less m q count low high = on (natural (q -ℤ m)) (offset_is m q low) where
+offset_less : (m q : ℤ) (count : ℕ) → m ≤ℤ q → q <ℤ (m +ℤ pos count) → nat_abs (q -ℤ m) < count
+offset_less m q count low high = on (nat_abs (q -ℤ m)) (offset_is m q low) where
   on : (n : ℕ) → q ≡ m +ℤ pos n → n < count
   on n e = omega (arith, ints)
 
@@ -56,9 +53,9 @@ part_z o y z x l m n = let e : (4096 * o + (256 * y + 16 * z + x)) / 16 ≡ 256 
 lifted : (m : ℤ) (o r : ℕ) → pos 16 *ℤ m +ℤ pos (16 * o + r) ≡ pos 16 *ℤ (m +ℤ pos o) +ℤ pos r
 lifted m o r = omega (arith, ints)
 
-own_is : (c : ChunkPos) (h : Height) (p : Pos) → chunk_of p ≡ c → is_block_of h p.y ≡ true → own_block c h (4096 * offset_of h (divided p.y 16) + place_of p) ≡ p
+own_is : (c : ChunkPos) (h : Height) (p : Pos) → chunk_of p ≡ c → is_block_of h p.y ≡ true → own_block c h (4096 * section_index h (divided p.y 16) + place_of p) ≡ p
 own_is c h p e i =
-    let o = offset_of h (divided p.y 16) in
+    let o = section_index h (divided p.y 16) in
     let ry = remainder p.y 16 in let rz = remainder p.z 16 in let rx = remainder p.x 16 in
     let yl = remainder-lt p.y in let zl = remainder-lt p.z in let xl = remainder-lt p.x in
     let x = ap (λ n. pos 16 *ℤ c.x +ℤ pos n) (part_x o ry rz rx yl zl xl) ∙ ap (λ d. pos 16 *ℤ d +ℤ pos rx) (sym (ap (λ d. d.x) e)) ∙ whole p.x in
@@ -82,9 +79,9 @@ in_section bytes o i less =
 -- the half byte of each block of the chunk is its light
 pub bytes_are : (f : Flood) (c : ChunkPos) (h : Height) (bytes : List ℕ) → f.chunk ≡ c → f.height ≡ h → length bytes ≡ 2048 * h.sections → HasLightSoFar (light_at f) bytes
     → (p : Pos) → chunk_of p ≡ c → is_block_of h p.y ≡ true
-    → nibble_at (slice_range bytes (2048 * offset_of h (divided p.y 16)) (2048 * offset_of h (divided p.y 16) + 2048)) (place_of p) ≡ light_of f p
+    → nibble_at (slice_range bytes (2048 * section_index h (divided p.y 16)) (2048 * section_index h (divided p.y 16) + 2048)) (place_of p) ≡ light_of f p
 bytes_are f c h bytes is_c is_h long halves p e i =
-    let o = offset_of h (divided p.y 16) in
+    let o = section_index h (divided p.y 16) in
     let n : place_of p < 4096 = place_of-lt p in
     let w = inside_of h p.y i in
     let less : o < h.sections = offset_less h.min_section (divided p.y 16) h.sections w.low w.high in

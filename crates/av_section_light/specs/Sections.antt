@@ -1,13 +1,12 @@
 -- A section as part of a world's grid, and where the light of a block stands.
 use Rattle.std.specs.Prelude.{ℕ, Option, Some, None}
 use Rattle.av_types.specs.Division.{divided}
-use Rattle.av_types.specs.Places.{place_of}
+use Rattle.av_types.specs.Places.{place_of, section_index}
 use Rattle.av_types.specs.declared.place.Pos.{Pos}
 use Rattle.av_types.specs.declared.place.Height.{Height}
 use Rattle.av_pack.specs.Nibbles.{nibble_at}
 use Rattle.av_section.specs.Section.{number_at, is_pending}
 use Rattle.av_section.specs.declared.section.Section.{Section}
-use Rattle.av_chunk.specs.Rest.{offset_of}
 use Rattle.av_chunk.specs.Light.{light_section}
 use Rattle.av_chunk.specs.declared.light.ChunkLight.{ChunkLight}
 use Rattle.av_cells.specs.Grid.{Filling}
@@ -21,4 +20,4 @@ filling_in (Some s) = Some (filling_of s)
 
 -- the half byte of a block, by its section and its place there
 abbrev pub half_byte : Height → ChunkLight → Pos → ℕ
-half_byte h l p = nibble_at (light_section l (offset_of h (divided p.y 16))) (place_of p)
+half_byte h l p = nibble_at (light_section l (section_index h (divided p.y 16))) (place_of p)

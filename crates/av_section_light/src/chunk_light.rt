@@ -30,7 +30,7 @@ pub fn flood_in<S: Sections>(
     ensures height { IfOk result (λ f. f.height ≡ S.tall sections.now) }
     ensures light { IfOk result (λ f. (p : Pos) → chunk_of p ≡ chunk
         → IsLight (terrain_of kinds.now (cells_of (S.grid sections.now))) p (light_of f p)) }
-    ensures fault { IfErr result (λ e. e ≡ OutOfMemory) }
+    ensures memory { IfErr result (λ e. e ≡ OutOfMemory) }
 {
     let blocks = Lit { sections, kinds };
     let flood = flooded(alloc, &blocks, chunk, used)?;
@@ -48,7 +48,7 @@ pub fn light_in<S: Sections>(
 ) -> Result<ChunkLight, Fault>
     requires { AreKnown (terrain_of kinds.now (cells_of (S.grid sections.now))) (S.lamps sections.now) chunk }
     ensures light { IfOk result (IsChunkLight kinds.now (cells_of (S.grid sections.now)) (S.tall sections.now) chunk) }
-    ensures fault { IfErr result (λ e. e ≡ OutOfMemory) }
+    ensures memory { IfErr result (λ e. e ≡ OutOfMemory) }
 {
     let flood = flood_in(alloc, sections, kinds, chunk, board.take())?;
     let bytes = flood.half_bytes(alloc)?;

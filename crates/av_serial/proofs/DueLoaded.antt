@@ -7,6 +7,7 @@ use Rattle.std.specs.List.{list_all, flat_map}
 use Rattle.std.proofs.lemmas.List.Folds.{list_all-append}
 use Rattle.std.proofs.lemmas.List.Elements.{All-head, All-tail}
 use Rattle.std.proofs.lemmas.Bool.{and_parts, and_from}
+use Rattle.std.proofs.Math.Bool.{or-true}
 use Rattle.av_types.specs.Division.{divided}
 use Rattle.av_types.specs.Places.{chunk_of, is_block_of}
 use Rattle.av_types.specs.declared.place.Pos.{Pos}
@@ -15,7 +16,7 @@ use Rattle.av_types.specs.declared.place.Height.{Height}
 use Rattle.av_types.specs.declared.tick.Entry.{Entry}
 use Rattle.av_types.proofs.SamePlaces.{same_chunk_is, same_chunk-refl}
 use Rattle.av_ticks.specs.Entries.{is_due, due_order}
-use Rattle.av_ticks.specs.Order.{inserted, ordered}
+use Rattle.av_types.specs.Order.{inserted, ordered}
 use Rattle.av_document.specs.Ticks.{lies_in}
 use Rattle.av_cells.specs.Positions.{same_chunk}
 use Rattle.av_land.specs.Land.{has_chunk, is_loaded}
@@ -48,14 +49,10 @@ all_flat : {X Y : Type 0} (q : Y → Bool) (f : X → List Y) (xs : List X) → 
 all_flat q f [] h = refl
 all_flat q f (x ∷ xs) h = list_all-append q (f x) (flat_map f xs) ∙ and_from (list_all q (f x)) (list_all q (flat_map f xs)) (h 0 x (omega arith)) (all_flat q f xs (λ j d below. h (suc j) d (omega arith)))
 
-or_right : (a : Bool) → a || true ≡ true
-or_right true = refl
-or_right false = refl
-
 has_at : (ps : List ChunkPos) (j : ℕ) (d : ChunkPos) → j < length ps → has_chunk ps (get_or ps j d) ≡ true
 has_at [] j d h = absurd (omega arith)
 has_at (p ∷ ps) zero d h = ap (λ b. b || has_chunk ps p) (same_chunk-refl p)
-has_at (p ∷ ps) (suc j) d h = ap (λ b. same_chunk p (get_or ps j d) || b) (has_at ps j d (omega arith)) ∙ or_right (same_chunk p (get_or ps j d))
+has_at (p ∷ ps) (suc j) d h = ap (λ b. same_chunk p (get_or ps j d) || b) (has_at ps j d (omega arith)) ∙ or-true (same_chunk p (get_or ps j d))
 
 one_loaded : (h : Height) (ps : List ChunkPos) (c : ChunkPos) (p : Pos) → has_chunk ps c ≡ true → lies_in c h p ≡ true → has_chunk ps (chunk_of p) && is_block_of h p.y ≡ true
 one_loaded h ps c p has lies =

@@ -1,5 +1,5 @@
 -- Runs, one tick more at a time.
-use Rattle.std.proofs.Common.{◌≡◌, ◌∙◌, ℕ, zero, suc, ◌+◌, ◌<◌, nat_eq, nat_le, nat_lt, ◌&&◌, OnErr, List, [], ◌∷◌, length, slice_get, true, Result, Ok, Err, OnOk, IfOk, All, refl, sym, ap, arith}
+use Rattle.std.proofs.Common.{◌≡◌, ◌∙◌, ℕ, zero, suc, ◌+◌, ◌<◌, nat_eq, nat_le, nat_lt, ◌&&◌, List, [], ◌∷◌, length, slice_get, true, All, refl, sym, ap, arith}
 use Rattle.std.specs.List.{flat_map}
 use Rattle.std.proofs.lemmas.List.Folds.{list_all-append}
 use Rattle.std.proofs.lemmas.Bool.{and_parts}
@@ -65,15 +65,3 @@ count_next k es m now total count w v e a s c =
 
 pub can_apply_all : (n : ℕ) (u v : World) (es : List Edit) → IsSamePlace u v → All (CanApply n u) es → All (CanApply n v) es
 can_apply_all n u v es same all = λ i d l. can_apply_on n u v _ same (all i d l)
-
-pub on_ok : {A E P Q : Type 0} (r : Result A E) → (P → Q) → OnOk r P → OnOk r Q
-on_ok (Ok x) f h = f h
-on_ok (Err e) f h = h
-
-pub if_ok : {A E : Type 0} {P Q : A → Type 0} (r : Result A E) → ((x : A) → P x → Q x) → IfOk r P → IfOk r Q
-if_ok (Ok x) f h = f x h
-if_ok (Err e) f h = h
-
-pub on_err_always : {A E P : Type 0} (r : Result A E) → P → OnErr r P
-on_err_always (Ok x) h = tt
-on_err_always (Err e) h = h

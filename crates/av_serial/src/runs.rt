@@ -169,7 +169,7 @@ pub fn run_ticks_with<F: Fn(&mut World, u32, &[Edit]) -> Result<u64, Fault>>(
     ensures sound { OnOk result (is_broken world.old ≡ false) }
     ensures stands { OnErr result ((world.new ≡ world.old) ⊎ (is_broken world.new ≡ true)) }
     ensures unchanged { is_broken world.old ≡ true → world.new ≡ world.old }
-    ensures fault { IfErr result (λ e. e ≡ (if is_broken world.old then Broken else OutOfMemory)) }
+    ensures err { IfErr result (λ e. e ≡ (if is_broken world.old then Broken else OutOfMemory)) }
 {
     if world.broken() {
         return Err(Fault::Broken);
@@ -198,7 +198,7 @@ pub fn run_ticks(
     ensures sound { OnOk result (is_broken world.old ≡ false) }
     ensures stands { OnErr result ((world.new ≡ world.old) ⊎ (is_broken world.new ≡ true)) }
     ensures unchanged { is_broken world.old ≡ true → world.new ≡ world.old }
-    ensures fault { IfErr result (λ e. e ≡ (if is_broken world.old then Broken else OutOfMemory)) }
+    ensures err { IfErr result (λ e. e ≡ (if is_broken world.old then Broken else OutOfMemory)) }
 {
     run_ticks_with(
         alloc,

@@ -52,7 +52,7 @@ pub fn apply(world: &mut World, kinds: &Kinds, now: u32, edit: &Edit) -> Result<
     ensures ready { is_broken world.old ≡ false → IsReady (kind_count kinds.now) world.new }
     ensures place { IsSamePlace world.old world.new }
     ensures whole_world { OnOk result (is_broken world.old ≡ false) }
-    ensures fault { IfErr result (λ e. e ≡ (if is_broken world.old then Broken else OutOfMemory)) }
+    ensures err { IfErr result (λ e. e ≡ (if is_broken world.old then Broken else OutOfMemory)) }
 {
     if world.broken() {
         return Err(Fault::Broken);

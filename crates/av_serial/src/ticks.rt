@@ -70,7 +70,7 @@ pub fn apply_all(world: &mut World, kinds: &Kinds, now: u32, edits: &[Edit]) -> 
     ensures begun { OnErr result (AreEditsBegun (kinds_of kinds.now) now edits.now (land_of world.old) (land_of world.new)) }
     ensures ready { IsReady (kind_count kinds.now) world.new }
     ensures place { IsSamePlace world.old world.new }
-    ensures fault { IfErr result (λ e. e ≡ OutOfMemory) }
+    ensures memory { IfErr result (λ e. e ≡ OutOfMemory) }
 {
     for edit in edits {
         apply_now(world, kinds, now, edit)?;
@@ -125,7 +125,7 @@ pub fn tick(world: &mut World, kinds: &Kinds, now: u32, edits: &[Edit]) -> Resul
     ensures sound { OnOk result (is_broken world.old ≡ false) }
     ensures broken { OnErr result (is_broken world.new ≡ true) }
     ensures unchanged { is_broken world.old ≡ true → world.new ≡ world.old }
-    ensures fault { IfErr result (λ e. e ≡ (if is_broken world.old then Broken else OutOfMemory)) }
+    ensures err { IfErr result (λ e. e ≡ (if is_broken world.old then Broken else OutOfMemory)) }
 {
     if world.broken() {
         return Err(Fault::Broken);

@@ -45,9 +45,3 @@ AllZip-views v [] [] h = refl
 AllZip-views v [] (y ∷ ys) h = absurd h
 AllZip-views v (x ∷ xs) [] h = absurd h
 AllZip-views v (x ∷ xs) (y ∷ ys) h = ap (λ z. z ∷ map v ys) h.0 ∙ ap (λ zs. v x ∷ zs) (AllZip-views v xs ys h.1)
-
-pub AllZip-same : (xs ys : List ℕ) → AllZip (λ x y. y ≡ x) xs ys → ys ≡ xs
-AllZip-same [] [] h = refl
-AllZip-same [] (y ∷ ys) h = absurd h
-AllZip-same (x ∷ xs) [] h = absurd h
-AllZip-same (x ∷ xs) (y ∷ ys) h = ap (λ z. z ∷ ys) h.0 ∙ ap (λ zs. x ∷ zs) (AllZip-same xs ys h.1)

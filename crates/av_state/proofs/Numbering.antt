@@ -1,18 +1,15 @@
 -- Numbering states one after the other.
-use Rattle.std.proofs.Common.{◌≡◌, ℕ, zero, suc, ◌+◌, ◌-◌, ◌<◌, ◌≤◌, List, [], ◌∷◌, ◌++◌, length, take, drop, map, Bool, true, false, ◌&&◌, ◌||◌, Option, Some, None, option_map, option_and_then, IfSome, Result, Ok, Err, OnOk, OnErr, cond, refl, ap, ◌∙◌, sym, arith, subst, length-append}
+use Rattle.std.proofs.Common.{◌≡◌, ℕ, zero, suc, ◌+◌, ◌-◌, ◌<◌, ◌≤◌, List, [], ◌∷◌, ◌++◌, length, take, drop, map, Bool, true, false, ◌||◌, Option, Some, None, option_map, option_and_then, IfSome, Result, Ok, Err, OnOk, OnErr, cond, refl, ap, ◌∙◌, sym, arith, subst, length-append}
 use Rattle.std.specs.List.{list_any, slice_get}
 use Rattle.std.specs.Str.{bytes_eq}
 use Rattle.std.specs.Cmp.Lexicographic.{pointwise}
 use Rattle.std.proofs.lemmas.Slice.Eq.{bytes_eq-Decides, slice_eq-Decides}
-use Rattle.std.proofs.lemmas.Bool.{and_parts, false≢true}
+use Rattle.std.proofs.lemmas.Bool.{and_parts, false≢true, and_from}
 use Rattle.std.specs.Bool.{Decides}
 use Rattle.std.proofs.lemmas.Option.{none-some, same_Some, slice_get_within}
 use Rattle.std.proofs.lemmas.List.{take-append-drop, take-append-le, length-take, map-append}
 use Rattle.av_state.specs.BlockState.{Property, BlockState, air, water, meant}
 use Rattle.av_state.specs.StateList.{same_property, same_state, first_states, most_states, number_in, with_state, with_states, IsStateList, Numbers, IsOneTooMany}
-
-both : {b c : Bool} → b ≡ true → c ≡ true → (b && c) ≡ true
-both h k = rw (h, k) refl
 
 property-Decides : (p q : Property) → Decides (same_property p q) (p ≡ q)
 property-Decides p q = (
@@ -20,7 +17,7 @@ property-Decides p q = (
       let e : p.key ≡ q.key = (bytes_eq-Decides p.key q.key).0 k in
       let f : p.value ≡ q.value = (bytes_eq-Decides p.value q.value).0 v in
       λ i. record { key = e i; value = f i }),
-  (λ e. both ((bytes_eq-Decides p.key q.key).1 (ap (λ (x : Property). x.key) e)) ((bytes_eq-Decides p.value q.value).1 (ap (λ (x : Property). x.value) e))),
+  (λ e. and_from _ _ ((bytes_eq-Decides p.key q.key).1 (ap (λ (x : Property). x.key) e)) ((bytes_eq-Decides p.value q.value).1 (ap (λ (x : Property). x.value) e))),
 )
 
 pub state-Decides : (s t : BlockState) → Decides (same_state s t) (s ≡ t)
@@ -30,7 +27,7 @@ state-Decides s t =
           let e : s.name ≡ t.name = (bytes_eq-Decides s.name t.name).0 k in
           let f : s.properties ≡ t.properties = lists.0 v in
           λ i. record { name = e i; properties = f i }),
-      (λ e. both ((bytes_eq-Decides s.name t.name).1 (ap (λ (x : BlockState). x.name) e)) (lists.1 (ap (λ (x : BlockState). x.properties) e))),
+      (λ e. and_from _ _ ((bytes_eq-Decides s.name t.name).1 (ap (λ (x : BlockState). x.name) e)) (lists.1 (ap (λ (x : BlockState). x.properties) e))),
     )
 
 pub same_state-refl : (s : BlockState) → same_state s s ≡ true
@@ -297,5 +294,6 @@ number_of-there xs (Some s) (Some n) e = number_in-there xs s n (sym e)
 -- a state that has a number is not one too many
 pub not_new : (xs : List BlockState) (s : BlockState) (n : ℕ) → meant s ≡ Some s → number_in xs s ≡ Some n → IsOneTooMany xs s → ⊥
 not_new xs s n m known full =
-    let same : full.form ≡ s = same_Some full.form s (sym full.is_meant ∙ m) in
-    none-some n (sym full.is_new ∙ ap (number_in xs) same ∙ known)
+    let new = full.is_new in
+    let same : new.form ≡ s = same_Some new.form s (sym new.is_meant ∙ m) in
+    none-some n (sym new.no_number ∙ ap (number_in xs) same ∙ known)

@@ -51,11 +51,9 @@ pub record Numbers (old : List BlockState) (s : BlockState) (new : List BlockSta
 pub record IsNew (states : List BlockState) (s : BlockState) : Type 0 where
   pub form : BlockState
   pub is_meant : meant s ≡ Some form
-  pub is_new : number_in states form ≡ None
+  pub no_number : number_in states form ≡ None
 
 -- the state is new, and the list has as many as it may have
 pub record IsOneTooMany (states : List BlockState) (s : BlockState) : Type 0 where
-  pub form : BlockState
-  pub is_meant : meant s ≡ Some form
-  pub is_new : number_in states form ≡ None
+  pub is_new : IsNew states s
   pub is_full : length states ≡ most_states

@@ -5,7 +5,7 @@ use Rattle.av_types.specs.Places.{IsInLimits}
 use Rattle.av_types.specs.declared.fault.Fault.{Fault}
 use Rattle.av_types.specs.declared.fault.Fault.TheVariants.{BadCount, RegionRange, RepeatedRegion}
 use Rattle.av_region_files.specs.Regions.{region_order, repeats_a_region}
-use Rattle.av_ticks.specs.Order.{ordered}
+use Rattle.av_types.specs.Order.{ordered}
 use Rattle.av_region_files.specs.declared.files.RegionFile.{RegionFile}
 
 -- by (z, x) of their regions

@@ -1,9 +1,11 @@
 -- A partial function at each element of a list.
-use Rattle.std.proofs.Common.{◌≡◌, ℕ, zero, suc, ◌<◌, ◌+◌, List, [], ◌∷◌, ◌++◌, map, length, get_or, take, Option, Some, None, refl, sym, ap, ◌∙◌, arith, Bool, true, false, ◌&&◌}
+use Rattle.std.proofs.Common.{◌≡◌, ℕ, zero, suc, ◌<◌, ◌+◌, List, [], ◌∷◌, ◌++◌, map, length, get_or, take, Option, Some, None, refl, sym, ap, ◌∙◌, arith, Bool, true, false}
 use Rattle.std.proofs.lemmas.Bool.{and_parts}
 use Rattle.std.proofs.lemmas.List.{length-map}
 use Rattle.std.specs.List.{list_all}
-use Rattle.av_tags.specs.Shape.{◌>>=◌, each}
+use Rattle.std.proofs.Math.Bool.{and-false}
+use Rattle.av_types.specs.Options.{◌>>=◌}
+use Rattle.av_tags.specs.Shape.{each}
 
 abbrev joined : {C : Type 0} → Option C → Option (List C) → Option (List C)
 joined o rest = o >>= λ y. rest >>= λ ys. Some (y ∷ ys)
@@ -61,11 +63,7 @@ module _ {A B : Type 0} (p : B → Bool) (v : A → B) where
   pub list_all_fails : (xs : List A) (i : ℕ) (d : A) → i < length xs → p (v (get_or xs i d)) ≡ false → list_all p (map v xs) ≡ false
   list_all_fails [] i d low e = absurd (omega arith)
   list_all_fails (x ∷ xs) zero d low e = rw e refl
-  list_all_fails (x ∷ xs) (suc i) d low e = rw (list_all_fails xs i d (omega arith) e) (none_and (p (v x)))
-    where
-      none_and : (b : Bool) → b && false ≡ false
-      none_and true = refl
-      none_and false = refl
+  list_all_fails (x ∷ xs) (suc i) d low e = rw (list_all_fails xs i d (omega arith) e) (and-false (p (v x)))
 
 -- as many as there were
 pub length-each : {B C : Type 0} (f : B → Option C) (xs : List B) (ys : List C) → each f xs ≡ Some ys → length ys ≡ length xs

@@ -1,5 +1,6 @@
 -- What a tag holds, where it is of the type that is wanted.
 use Rattle.std.specs.Prelude.{ℕ, ℤ, List, [], ◌∷◌, Option, Some, None, Bool, true, false}
+use Rattle.av_types.specs.Options.{◌>>=◌}
 use Rattle.av_tags.specs.Nbt.{Nbt, byte, int, text, list, compound, long_array, Items, no_items, item, Members, no_members, member, NamedTag}
 
 abbrev pub members_in : Members → List NamedTag
@@ -9,11 +10,6 @@ members_in (member n t ms) = record { name = n; tag = t } ∷ members_in ms
 abbrev pub items_in : Items → List Nbt
 items_in no_items = []
 items_in (item t ts) = t ∷ items_in ts
-
-infixl 10 ◌>>=◌
-abbrev pub ◌>>=◌ : {A B : Type 0} → Option A → (A → Option B) → Option B
-None >>= f = None
-(Some x) >>= f = f x
 
 abbrev pub text_of : Nbt → Option (List ℕ)
 text_of (text s) = Some s

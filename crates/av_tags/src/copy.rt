@@ -68,7 +68,7 @@ fn copy_tag(alloc: Global, tag: &Tag) -> Result<Tag, AllocError>
 /// A copy of the tags of a Compound, names and all. The only fault is `OutOfMemory`, where a growth was refused.
 pub fn copy_tags(alloc: Global, tags: &[Named]) -> Result<Vec<Named>, Fault>
     ensures copied { IfOk result (λ copies. named_views copies.items ≡ named_views tags.now) }
-    ensures err { IfErr result (λ e. e ≡ OutOfMemory) }
+    ensures memory { IfErr result (λ e. e ≡ OutOfMemory) }
 {
     Ok(copy_members(alloc, tags)?)
 }

@@ -41,7 +41,7 @@ pub fn exchange(tags: &mut Vec<Named>, named: Named) -> Result<Option<Tag>, Faul
     ensures placed { OnOk result (IsWithTag (named_view named) (named_views tags.old.items) (named_views tags.new.items)) }
     ensures before { IfOk result (λ t. option_map view t ≡ tag_of (named_view named).name (named_views tags.old.items)) }
     ensures err { OnErr result (tags.new.items ≡ tags.old.items) }
-    ensures fault { IfErr result (λ e. e ≡ OutOfMemory) }
+    ensures memory { IfErr result (λ e. e ≡ OutOfMemory) }
     ensures absent { OnErr result (tag_of (named_view named).name (named_views tags.old.items) ≡ None) }
     ensures full { OnErr result (vec_capacity tags.old ≤ vec_len tags.old) }
 {
@@ -62,7 +62,7 @@ pub fn exchange(tags: &mut Vec<Named>, named: Named) -> Result<Option<Tag>, Faul
 pub fn put(tags: &mut Vec<Named>, named: Named) -> Result<(), Fault>
     ensures placed { OnOk result (IsWithTag (named_view named) (named_views tags.old.items) (named_views tags.new.items)) }
     ensures err { OnErr result (tags.new.items ≡ tags.old.items) }
-    ensures fault { IfErr result (λ e. e ≡ OutOfMemory) }
+    ensures memory { IfErr result (λ e. e ≡ OutOfMemory) }
     ensures absent { OnErr result (tag_of (named_view named).name (named_views tags.old.items) ≡ None) }
     ensures full { OnErr result (vec_capacity tags.old ≤ vec_len tags.old) }
 {

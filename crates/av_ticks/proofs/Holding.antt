@@ -1,8 +1,8 @@
 -- What a set of positions holds.
-use Rattle.std.proofs.Common.{◌≡◌, ℕ, ◌==◌, ◌&&◌, ◌||◌, Bool, true, false, not, [], refl, sym, ap, ◌∙◌, arith, eq-eqb}
-use Rattle.std.proofs.lemmas.Bool.Decides.{nat_tests}
+use Rattle.std.proofs.Common.{◌≡◌, ℕ, ◌==◌, ◌&&◌, ◌||◌, Bool, true, false, not, [], refl, sym, ap, ◌∙◌, eq-eqb}
 use Rattle.std.specs.BTreeMap.{BTreeMap, get, is_at}
 use Rattle.std.specs.Map.{lookup}
+use Rattle.std.proofs.lemmas.Bool.{eqb-true}
 use Rattle.av_pack.specs.declared.places.PlaceSet.{PlaceSet}
 use Rattle.av_types.specs.Places.{section_of, place_of, same_pos}
 use Rattle.av_types.specs.declared.place.Pos.{Pos}
@@ -13,9 +13,6 @@ use Rattle.av_ticks.specs.declared.positions.Positions.{Positions}
 use Rattle.av_ticks.specs.Marked.{key_of, key_cmp, is_marked, marked_in}
 use Rattle.av_ticks.specs.Held.{holds}
 use Rattle.av_ticks.proofs.Marks.{key_is, key_at}
-
-same_number : (i j : ℕ) → (i == j) ≡ true → i ≡ j
-same_number i j e = grind (arith, nat_tests)
 
 -- a block is its section and its place there
 same_spot : (p q : Pos) → key_of p ≡ key_of q → place_of p ≡ place_of q → p ≡ q
@@ -29,7 +26,7 @@ same_in_section p q key = by (place_of q == place_of p) refl (same_pos q p) refl
   by : (b : Bool) → (place_of q == place_of p) ≡ b → (c : Bool) → same_pos q p ≡ c → b ≡ c
   by true e true h = refl
   by false e false h = refl
-  by true e false h = sym (same_pos_from q p (sym (same_spot p q key (sym (same_number (place_of q) (place_of p) e))))) ∙ h
+  by true e false h = sym (same_pos_from q p (sym (same_spot p q key (sym (eqb-true (place_of q) (place_of p) e))))) ∙ h
   by false e true h = sym e ∙ eq-eqb (place_of q) (place_of p) (ap place_of (same_pos_is q p h))
 
 -- a block of another section is another one

@@ -1,8 +1,9 @@
 -- The least time of some entries.
-use Rattle.std.proofs.Common.{◌≡◌, ℕ, ℤ, pos, int_le, ◌<◌, ◌^◌, ◌||◌, Bool, true, false, List, [], ◌∷◌, ◌++◌, refl, ap, ◌∙◌, arith}
+use Rattle.std.proofs.Common.{◌≡◌, ℕ, ℤ, pos, int_le, ◌<◌, ◌^◌, ◌||◌, false, List, [], ◌∷◌, ◌++◌, refl, ap, ◌∙◌, arith, sym}
 use Rattle.std.specs.Int.{int_min}
 use Rattle.std.specs.List.{fold, list_any}
 use Rattle.std.proofs.lemmas.Int.{ints}
+use Rattle.std.proofs.Math.Bool.{or-false, or_assoc}
 use Rattle.av_types.specs.declared.tick.Entry.{Entry}
 use Rattle.av_ticks.specs.Entries.{is_due, least_due}
 
@@ -10,19 +11,11 @@ pub least_push : (es : List Entry) (e : Entry) (a : ℤ) → fold (λ t e. int_m
 least_push [] e a = refl
 least_push (x ∷ es) e a = least_push es e (int_min a x.due)
 
-or_false : (b : Bool) → b ≡ b || false
-or_false true = refl
-or_false false = refl
-
-or_assoc : (a b c : Bool) → (a || b) || c ≡ a || (b || c)
-or_assoc true b c = refl
-or_assoc false b c = refl
-
 le_min : (a d t : ℤ) → int_le (int_min a d) t ≡ int_le a t || int_le d t
 le_min a d t = grind (arith, ints)
 
 least_reaches : (t a : ℤ) (es : List Entry) → int_le (fold (λ t e. int_min t e.due) a es) t ≡ int_le a t || list_any (λ e. int_le e.due t) es
-least_reaches t a [] = or_false (int_le a t)
+least_reaches t a [] = sym (or-false (int_le a t))
 least_reaches t a (e ∷ es) =
     least_reaches t (int_min a e.due) es
     ∙ (ap (λ b. b || list_any (λ e. int_le e.due t) es) (le_min a e.due t) ∙ or_assoc (int_le a t) (int_le e.due t) (list_any (λ e. int_le e.due t) es))

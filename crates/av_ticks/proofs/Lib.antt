@@ -5,4 +5,3 @@ pub mod Kept
 pub mod Least
 pub mod Lookup
 pub mod Marks
-pub mod OrderLemmas

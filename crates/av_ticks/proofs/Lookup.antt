@@ -1,11 +1,11 @@
 -- Positions that are apart.
-use Rattle.std.proofs.Common.{◌≡◌, Bool, true, false, List, [], ◌∷◌, ◌++◌, refl, sym, ◌∙◌, true≢false}
+use Rattle.std.proofs.Common.{◌≡◌, Bool, true, false, List, [], ◌∷◌, ◌++◌, refl, sym, ◌∙◌, true≢false, cond}
 use Rattle.av_types.specs.declared.place.Pos.{Pos}
 use Rattle.av_types.proofs.SamePlaces.{same_pos-turned}
 use Rattle.av_types.specs.declared.tick.Entry.{Entry}
 use Rattle.av_ticks.specs.Entries.{same_pos, is_pending, are_apart}
 
-is_pending-push : (p : Pos) (es : List Entry) (e : Entry) → is_pending p es ≡ false → same_pos p e.pos ≡ false → is_pending p (es ++ e ∷ []) ≡ false
+pub is_pending-push : (p : Pos) (es : List Entry) (e : Entry) → is_pending p es ≡ false → same_pos p e.pos ≡ false → is_pending p (es ++ e ∷ []) ≡ false
 is_pending-push p [] e h g = rw g
 is_pending-push p (x ∷ es) e h g = by (same_pos p x.pos) refl (λ i. is_pending-push p es e i g) where
   by : (b : Bool) → same_pos p x.pos ≡ b → (is_pending p es ≡ false → is_pending p (es ++ e ∷ []) ≡ false) → is_pending p ((x ∷ es) ++ e ∷ []) ≡ false
@@ -20,3 +20,8 @@ are_apart-push (x ∷ es) e apart new = by (same_pos e.pos x.pos) refl (is_pendi
   by true i c j rest = absurd (true≢false (rw i at new))
   by false i true j rest = absurd (true≢false (sym (rw j at apart)))
   by false i false j rest = rw (is_pending-push x.pos es e j (same_pos-turned x.pos e.pos ∙ i)) (rest (rw j at apart) (rw i at new))
+
+-- a test that is asked only where the first fails
+pub cond_neither : (b c : Bool) → cond b true c ≡ false → (b ≡ false) × (c ≡ false)
+cond_neither true c h = absurd (true≢false h)
+cond_neither false c h = (refl, h)

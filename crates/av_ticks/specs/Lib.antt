@@ -1,4 +1,3 @@
-pub mod Order
 pub mod Entries
 pub mod Marked
 pub mod Held

@@ -3,7 +3,7 @@ ghost use Rattle.std.specs.Prelude.{List};
 ghost use Rattle.av_types.specs.declared.tick.Entry.{Entry};
 ghost use Rattle.av_types.specs.declared.tick.Made.{Made};
 ghost use Rattle.av_ticks.specs.Entries.{due_order, made_order};
-ghost use Rattle.av_ticks.specs.Order.{ordered, IsStableSort};
+ghost use Rattle.av_types.specs.Order.{ordered, IsStableSort};
 
 /// A list of entries in order is its stable sort.
 pub fn ordered_is_stable_sort()

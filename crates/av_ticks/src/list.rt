@@ -69,7 +69,7 @@ impl TickList {
     ghost use Rattle.std.specs.Iterator.Adapters.{IterYieldsInOrder};
     ghost use Rattle.av_types.specs.declared.tick.Entry.{Entry};
     ghost use Rattle.av_ticks.specs.Entries.{due_order};
-    ghost use Rattle.av_ticks.specs.Order.{ordered};
+    ghost use Rattle.av_types.specs.Order.{ordered};
     ghost use Rattle.av_ticks.specs.Ticks.{entries, room};
 
     /// An empty list.
@@ -137,7 +137,7 @@ impl TickList {
     pub fn add(&mut self, entry: Entry) -> Result<bool, Fault>
         ensures added { IfOk result (λ added. added ≡ not (is_pending entry.pos (entries self.old))) }
         ensures entries { IfOk result (λ added. entries self.new ≡ (if added then entries self.old ++ entry ∷ [] else entries self.old)) }
-        ensures err { IfErr result (λ e. e ≡ OutOfMemory) }
+        ensures memory { IfErr result (λ e. e ≡ OutOfMemory) }
         ensures unchanged { OnErr result (entries self.new ≡ entries self.old) }
 
         // Where the position is pending it succeeds, and with room; and it uses up at most one place.
@@ -169,7 +169,7 @@ impl TickList {
     pub fn reserve(&mut self, additional: usize) -> Result<(), Fault>
         ensures entries { entries self.new ≡ entries self.old }
         ensures ok { OnOk result (additional ≤ room self.new) }
-        ensures err { IfErr result (λ e. e ≡ OutOfMemory) }
+        ensures memory { IfErr result (λ e. e ≡ OutOfMemory) }
         ensures succeeds { additional ≤ room self.old → IsOk result }
         ensures room { room self.old ≤ room self.new }
     {
@@ -182,7 +182,7 @@ impl TickList {
     pub fn reserve_indexed(&mut self, additional: usize) -> Result<(), Fault>
         ensures entries { entries self.new ≡ entries self.old }
         ensures ok { OnOk result (additional ≤ room self.new) }
-        ensures err { IfErr result (λ e. e ≡ OutOfMemory) }
+        ensures memory { IfErr result (λ e. e ≡ OutOfMemory) }
         ensures succeeds { additional ≤ room self.old → IsOk result }
         ensures room { room self.old ≤ room self.new }
     {
@@ -194,7 +194,7 @@ impl TickList {
     /// then by their place in the list. They stay in it. Refuses with OutOfMemory alone, and of an empty list never.
     pub fn take_due(&self, now: u32) -> Result<Vec<Entry>, Fault>
         ensures ok { IfOk result (λ due. due.items ≡ ordered due_order (filter (is_due now) (entries self.now))) }
-        ensures err { IfErr result (λ e. e ≡ OutOfMemory) }
+        ensures memory { IfErr result (λ e. e ≡ OutOfMemory) }
         ensures empty { entries self.now ≡ [] → IsOk result }
     {
         let alloc = self.store.allocator();

@@ -3,7 +3,7 @@ ghost use Rattle.std.specs.Prelude.{◌≡◌, [], IfOk, IfErr, IsOk, OnOk, ◌+
 ghost use Rattle.std.specs.List.{flat_map};
 ghost use Rattle.av_types.specs.declared.fault.Fault.TheVariants.{OutOfMemory};
 ghost use Rattle.av_ticks.specs.Entries.{made_order};
-ghost use Rattle.av_ticks.specs.Order.{ordered};
+ghost use Rattle.av_types.specs.Order.{ordered};
 
 use av_types::{Fault, Made};
 use std::alloc::{AllocError, Global};
@@ -35,7 +35,7 @@ fn concatenated(alloc: Global, parts: &[Vec<Made>]) -> Result<Vec<Made>, AllocEr
 /// Refuses with OutOfMemory alone, and where there is nothing never.
 pub fn merge_made(alloc: Global, parts: &[Vec<Made>]) -> Result<Vec<Made>, Fault>
     ensures ok { IfOk result (λ all. all.items ≡ ordered made_order (flat_map (λ part. part.items) parts.now)) }
-    ensures err { IfErr result (λ e. e ≡ OutOfMemory) }
+    ensures memory { IfErr result (λ e. e ≡ OutOfMemory) }
     ensures nothing { flat_map (λ part. part.items) parts.now ≡ [] → IsOk result }
 {
     let mut all = concatenated(alloc, parts)?;

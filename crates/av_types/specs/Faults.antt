@@ -1,5 +1,5 @@
--- The text of each fault, as it is printed.
-use Rattle.std.specs.Prelude.{ℕ, List, [], ◌∷◌, ◌++◌, Option, Some, None, min, codes, string_bytes}
+-- The text of each fault, as it is printed, and which of several is answered.
+use Rattle.std.specs.Prelude.{◌≡◌, ◌≢◌, ℕ, List, [], ◌∷◌, ◌++◌, Option, Some, None, min, codes, string_bytes}
 use Rattle.std.specs.Fmt.{decimal, signed_decimal}
 use Rattle.av_types.specs.declared.fault.Fault.{Fault}
 use Rattle.av_types.specs.declared.fault.Fault.TheVariants.{OutOfMemory, RegionRange, RepeatedRegion, ShortHeader, BadLocation, TruncatedChunk, BadLength, ExternalChunk, Compression, BadNbt, OldLayout, BadChunk, WrongPlace, BadPalette, BadPacked, BadTick, BadWaterLevel, TooManyStates, BadTable, BadEdit, EditTick, EditOutside, BadCount, ChunkTooLarge, Device, Broken}
@@ -69,3 +69,7 @@ lesser n (Some m) = min n m
 abbrev pub least : List ℕ → Option ℕ
 least [] = None
 least (n ∷ ns) = Some (lesser n (least ns))
+
+-- what is answered where something was refused: want of memory, or the fault of this number
+pub record IsRefusal (number : Option ℕ) (e : Fault) : Type 0 where
+  pub first : e ≢ OutOfMemory → number ≡ Some (fault_number e)

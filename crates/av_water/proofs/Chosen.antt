@@ -1,6 +1,6 @@
 -- The directions that are chosen by computing are the chosen ones.
 use Rattle.std.proofs.Common.{◌≡◌, ℕ, ◌<◌, ◌≤◌, nat_lt, nat_eq, Bool, true, false, ◌&&◌, cond, Option, Some, None, IsTrue, ◌⊎◌, inl, inr, ◌↔◌, refl, sym, ap, ◌∙◌, subst, arith}
-use Rattle.std.proofs.lemmas.Bool.{true≢false}
+use Rattle.std.proofs.lemmas.Bool.{cond-true}
 use Rattle.std.proofs.lemmas.Bool.Decides.{nat_tests}
 use Rattle.av_types.specs.declared.place.Pos.{Pos}
 use Rattle.av_types.specs.declared.water.Direction.{Direction}
@@ -24,28 +24,24 @@ least_above : (k : ℕ → Kind) (w : World) (p : Pos) (n : ℕ) → ((d : Direc
 unfolding least_rank
 least_above k w p n h = let a = h North in let b = h South in let c = h West in let d = h East in omega arith
 
-way_rank : (b : Bool) (n : ℕ) → b ≡ true → cond b n 6 ≡ n
-way_rank true n h = refl
-way_rank false n h = absurd (true≢false (sym h))
-
 entered_rank : (k : ℕ → Kind) (w : World) (p : Pos) (d : Direction) (o : Option ℕ) → can_enter k w (step p d) ≡ true → IsDrop k w (step p d) o → rank_at k w p d ≡ rank_of o
 unfolding rank_at
-entered_rank k w p d o h is = way_rank (can_enter k w (step p d)) (rank_of (drop_of k w (step p d))) h ∙ ap rank_of (sym (drop_is k w (step p d) o is))
+entered_rank k w p d o h is = cond-true (can_enter k w (step p d)) (rank_of (drop_of k w (step p d))) 6 h ∙ ap rank_of (sym (drop_is k w (step p d) o is))
 
 drop_most : (k : ℕ → Kind) (w : World) (q : Pos) (o : Option ℕ) → IsDrop k w q o → rank_of o ≤ 5
 drop_most k w q None h = omega arith
 drop_most k w q (Some n) h = let l = h.0 in omega arith
 
-way_of : (b : Bool) (n : ℕ) → cond b n 6 < 6 → b ≡ true
-way_of true n h = refl
-way_of false n h = absurd (omega arith)
+pub ranked_is_way : (b : Bool) (n : ℕ) → cond b n 6 < 6 → b ≡ true
+ranked_is_way true n h = refl
+ranked_is_way false n h = absurd (omega arith)
 
 ranked_way : (k : ℕ → Kind) (w : World) (p : Pos) (d : Direction) → rank_at k w p d < 6 → can_enter k w (step p d) ≡ true
 unfolding rank_at
-ranked_way k w p d h = way_of (can_enter k w (step p d)) (rank_of (drop_of k w (step p d))) h
+ranked_way k w p d h = ranked_is_way (can_enter k w (step p d)) (rank_of (drop_of k w (step p d))) h
 
-chosen_lt : (r l : ℕ) → (nat_lt r 6 && nat_eq r l) ≡ true → r < 6
-chosen_lt r l h = grind (arith, nat_tests)
+pub chosen_rank_below : (r l : ℕ) → (nat_lt r 6 && nat_eq r l) ≡ true → r < 6
+chosen_rank_below r l h = grind (arith, nat_tests)
 
 chosen_eq : (r l : ℕ) → (nat_lt r 6 && nat_eq r l) ≡ true → r ≡ l
 chosen_eq r l h = grind (arith, nat_tests)
@@ -74,7 +70,7 @@ best_of k w p d None is r l =
 chosen_is : (k : ℕ → Kind) (w : World) (p : Pos) (d : Direction) → is_chosen k w p d ≡ true → IsChosen k w p d
 unfolding is_chosen
 chosen_is k w p d h =
-    let less = chosen_lt (rank_at k w p d) (least_rank k w p) h in
+    let less = chosen_rank_below (rank_at k w p d) (least_rank k w p) h in
     let same = chosen_eq (rank_at k w p d) (least_rank k w p) h in
     let way = ranked_way k w p d less in
     record { enterable = way; best = best_of k w p d (drop_of k w (step p d)) (drop_of_is k w (step p d)) (entered_rank k w p d (drop_of k w (step p d)) way (drop_of_is k w (step p d))) same }

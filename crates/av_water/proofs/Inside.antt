@@ -1,8 +1,7 @@
 -- What a turn writes: loaded blocks of its reach.
-use Rattle.std.proofs.Common.{◌≡◌, ℕ, zero, suc, ◌<◌, nat_le, nat_lt, nat_eq, List, [], ◌∷◌, ◌++◌, length, slice_index_or, Bool, true, false, not, ◌&&◌, ◌||◌, cond, Some, None, refl, sym, ap, ◌∙◌, subst, arith}
+use Rattle.std.proofs.Common.{◌≡◌, ℕ, zero, suc, ◌<◌, nat_le, List, [], ◌∷◌, ◌++◌, length, slice_index_or, Bool, true, false, not, ◌||◌, cond, Some, None, refl, sym, ap, ◌∙◌, subst, arith}
 use Rattle.std.specs.List.{All}
 use Rattle.std.proofs.lemmas.Bool.{and_parts}
-use Rattle.std.proofs.lemmas.Bool.Decides.{nat_tests}
 use Rattle.av_types.specs.declared.place.Pos.{Pos}
 use Rattle.av_types.specs.declared.tick.Entry.{Entry}
 use Rattle.av_types.specs.declared.water.Direction.{Direction}
@@ -13,10 +12,10 @@ use Rattle.av_cells.specs.declared.kind.Kind.{Kind}
 use Rattle.av_cells.specs.Positions.{step, below, around, same_pos, ForAround, InReach}
 use Rattle.av_cells.specs.World.{World, with_number, with_entry_if}
 use Rattle.av_cells.specs.Rule.{wet_at, can_enter, has_hole, sources_beside, incoming_at}
-use Rattle.av_cells.specs.Turn.{Change, change, entry_of, wakes, woken, woken_all, set_awake, rank_at, is_chosen, least_rank, planned, number_of_wet, set_planned, spread, onward, renewed, same_wet, turn}
+use Rattle.av_cells.specs.Turn.{Change, change, entry_of, wakes, woken, woken_all, set_awake, is_chosen, planned, number_of_wet, set_planned, spread, onward, renewed, same_wet, turn}
 use Rattle.av_water.specs.Frame.{Kept, InLoadedReach, IsMadeBy}
 use Rattle.av_cells.proofs.Loaded.{wet_is_loaded}
-use Rattle.av_water.proofs.Plans.{enterable_is_loaded, side_is_loaded}
+use Rattle.av_water.proofs.Plans.{enterable_is_loaded, chosen_is_loaded}
 use Rattle.av_water.proofs.Readiness.{around_itself, around_below, around_side}
 
 abbrev AllMade : (Entry → Type 0) → List Entry → Type 0
@@ -87,13 +86,6 @@ set_inside k w now p q n c here r s =
       };
       made = s.made;
     })
-
-chosen_parts : (r l : ℕ) → (nat_lt r 6 && nat_eq r l) ≡ true → r < 6
-chosen_parts r l h = grind (arith, nat_tests)
-
-chosen_is_loaded : (k : ℕ → Kind) (w : World) (p : Pos) (d : Direction) → is_chosen k w p d ≡ true → w.loaded (step p d) ≡ true
-unfolding is_chosen
-chosen_is_loaded k w p d h = side_is_loaded k w p d (rank_at k w p d) refl (chosen_parts (rank_at k w p d) (least_rank k w p) h)
 
 if_inside : (w : World) (now : ℕ) (p : Pos) (b : Bool) (x y : Change) → (b ≡ true → IsInside w now p x) → IsInside w now p y → IsInside w now p (cond b x y)
 if_inside w now p true x y s t = s refl

@@ -1,5 +1,5 @@
 -- What a side is to be set to.
-use Rattle.std.proofs.Common.{◌≡◌, ℕ, ◌<◌, ◌&&◌, Option, Some, None, refl, sym, ap, ◌∙◌, subst, arith, Bool, true, false, cond, nat_lt, nat_eq}
+use Rattle.std.proofs.Common.{◌≡◌, ℕ, ◌<◌, Option, Some, None, refl, sym, ap, ◌∙◌, subst, true, false, cond}
 use Rattle.std.proofs.lemmas.Bool.{and_parts}
 use Rattle.av_types.specs.declared.place.Pos.{Pos}
 use Rattle.av_types.specs.declared.water.Direction.{Direction}
@@ -12,15 +12,11 @@ use Rattle.av_cells.proofs.Loaded.{open_is_loaded}
 use Rattle.av_types.specs.Water.{is_wet}
 use Rattle.av_water.specs.Sides.{IsPlanFor}
 use Rattle.std.proofs.Common.{not}
-use Rattle.std.proofs.lemmas.Bool.Decides.{nat_tests}
+use Rattle.av_water.proofs.Chosen.{chosen_rank_below, ranked_is_way}
 
 pub enterable_is_loaded : (k : ℕ → Kind) (w : World) (q : Pos) → can_enter k w q ≡ true → w.loaded q ≡ true
 unfolding can_enter
 enterable_is_loaded k w q h = open_is_loaded k w q (and_parts (opens_at k w q) (not (is_wet (wet_at k w q))) h).0
-
-ranked_is_way : (b : Bool) (n : ℕ) → cond b n 6 < 6 → b ≡ true
-ranked_is_way true n h = refl
-ranked_is_way false n h = absurd (omega arith)
 
 pub side_is_loaded : (k : ℕ → Kind) (w : World) (p : Pos) (d : Direction) (r : ℕ) → r ≡ rank_at k w p d → r < 6 → w.loaded (step p d) ≡ true
 unfolding rank_at
@@ -41,13 +37,10 @@ no_plan k w p d h =
       water = λ n e. none_some _ n None refl e;
     }
 
-chosen_is_near : (r l : ℕ) → (nat_lt r 6 && nat_eq r l) ≡ true → r < 6
-chosen_is_near r l h = grind (arith, nat_tests)
-
 -- a chosen side is loaded
 pub chosen_is_loaded : (k : ℕ → Kind) (w : World) (p : Pos) (d : Direction) → is_chosen k w p d ≡ true → w.loaded (step p d) ≡ true
 unfolding is_chosen
-chosen_is_loaded k w p d h = side_is_loaded k w p d (rank_at k w p d) refl (chosen_is_near (rank_at k w p d) (least_rank k w p) h)
+chosen_is_loaded k w p d h = side_is_loaded k w p d (rank_at k w p d) refl (chosen_rank_below (rank_at k w p d) (least_rank k w p) h)
 
 pub plan_some : (k : ℕ → Kind) (w : World) (p : Pos) (d : Direction) (n : ℕ) → is_chosen k w p d ≡ true → n ≡ number_of_wet (incoming_at k w (step p d)) → n < 10 → IsPlanFor k w p d (Some n)
 unfolding planned

@@ -1,6 +1,7 @@
 -- Sources stay: a turn sets no block that holds one.
-use Rattle.std.proofs.Common.{◌≡◌, ℕ, ◌<◌, nat_lt, nat_eq, List, [], ◌∷◌, Bool, true, false, not, ◌&&◌, ◌||◌, cond, Some, None, refl, sym, ap, ◌∙◌, subst, arith}
-use Rattle.std.proofs.lemmas.Bool.Decides.{nat_tests}
+use Rattle.std.proofs.Common.{◌≡◌, ℕ, ◌<◌, List, [], ◌∷◌, Bool, true, false, not, ◌&&◌, ◌||◌, cond, Some, None, refl, sym, ap, ◌∙◌, subst}
+use Rattle.std.proofs.lemmas.Bool.{or_parts}
+use Rattle.av_water.proofs.Chosen.{chosen_rank_below, ranked_is_way}
 use Rattle.av_types.specs.declared.place.Pos.{Pos}
 use Rattle.av_types.specs.declared.water.Direction.{Direction}
 use Rattle.av_types.specs.declared.water.Direction.TheVariants.{North, South, West, East}
@@ -61,20 +62,13 @@ set_stays k w now q n c none s =
     woken_all_stays k w now (around q) (change (with_number c.world q n) c.made)
     (record { loaded = s.loaded; number = λ x there. ap (λ b. cond b n (c.world.number x)) (elsewhere k w x q none there) ∙ s.number x there })
 
-chosen_parts : (r l : ℕ) → (nat_lt r 6 && nat_eq r l) ≡ true → r < 6
-chosen_parts r l h = grind (arith, nat_tests)
-
-ranked_is_way : (b : Bool) (n : ℕ) → cond b n 6 < 6 → b ≡ true
-ranked_is_way true n h = refl
-ranked_is_way false n h = absurd (omega arith)
-
 ranked_enters : (k : ℕ → Kind) (w : World) (p : Pos) (d : Direction) → rank_at k w p d < 6 → can_enter k w (step p d) ≡ true
 unfolding rank_at
 ranked_enters k w p d h = ranked_is_way (can_enter k w (step p d)) (rank_of (drop_of k w (step p d))) h
 
 chosen_enters : (k : ℕ → Kind) (w : World) (p : Pos) (d : Direction) → is_chosen k w p d ≡ true → can_enter k w (step p d) ≡ true
 unfolding is_chosen
-chosen_enters k w p d h = ranked_enters k w p d (chosen_parts (rank_at k w p d) (least_rank k w p) h)
+chosen_enters k w p d h = ranked_enters k w p d (chosen_rank_below (rank_at k w p d) (least_rank k w p) h)
 
 if_stays : (k : ℕ → Kind) (w : World) (b : Bool) (x y : Change) → (b ≡ true → Stays k w x) → (b ≡ false → Stays k w y) → Stays k w (cond b x y)
 if_stays k w true x y s t = s refl
@@ -105,10 +99,6 @@ onward_stays k w now p c s =
     if_stays k w _ _ _ (λ _. spread_stays k w now p _ fallen) (λ _. fallen))
     (λ _. if_stays k w _ _ _ (λ _. spread_stays k w now p c s) (λ _. s))
 
-or_left : (a b : Bool) → (a || b) ≡ false → a ≡ false
-or_left true b h = h
-or_left false b h = refl
-
 renewed_stays : (k : ℕ → Kind) (now : ℕ) (p : Pos) (w : World) → Stays k w (change w []) → Stays k w (renewed k now p (change w []))
 unfolding renewed
 renewed_stays k now p w s =
@@ -118,7 +108,7 @@ renewed_stays k now p w s =
     let x = set_awake k now p n (change w []) in
     if_stays k w (a || b) (onward k now p (change w [])) (cond (is_wet (incoming_at k w p)) (onward k now p x) x)
     (λ _. onward_stays k w now p (change w []) s)
-    (λ e. let fresh = set_stays k w now p n (change w []) (or_left a b e) s in
+    (λ e. let fresh = set_stays k w now p n (change w []) (or_parts a b e).0 s in
     if_stays k w (is_wet (incoming_at k w p)) (onward k now p x) x (λ _. onward_stays k w now p x fresh) (λ _. fresh))
 
 pub turn_stays : (k : ℕ → Kind) (now : ℕ) (p : Pos) (w : World) → Stays k w (turn k now p w)

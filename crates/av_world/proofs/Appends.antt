@@ -38,22 +38,19 @@ can_append w (m ∷ ms) loaded fresh apart = (
       (λ i j d lt l. apart (suc i) (suc j) d (omega arith) (omega arith)),
 )
 
-pub nat_eq_self : (n : ℕ) → nat_eq n n ≡ true
-nat_eq_self n = eq-eqb n n refl
-
 -- an entry counts for its own chunk
 pub own_counts : (c : ChunkPos) (n : ℕ) → cond (same_chunk c c) 1 0 + n ≡ 1 + n
 own_counts c n = ap (λ b. cond b 1 0 + n) (same_chunk-refl c)
 
 pub index_counts : (j k n : ℕ) → j ≡ k → cond (nat_eq j k) 1 0 + n ≡ 1 + n
-index_counts j k n e = ap (λ m. cond (nat_eq m k) 1 0 + n) e ∙ ap (λ b. cond b 1 0 + n) (nat_eq_self k)
+index_counts j k n e = ap (λ m. cond (nat_eq m k) 1 0 + n) e ∙ ap (λ b. cond b 1 0 + n) (eq-eqb k k refl)
 
 -- entries of a chunk are of the chunk at its index
 pub count_in_at : (ps : List ChunkPos) (c : ChunkPos) (es : List Entry) → count_in c es ≤ count_at ps (slot ps c) es
 count_in_at ps c [] = omega arith
 count_in_at ps c (e ∷ es) = let more = count_in_at ps c es in let one = by (same_chunk c (chunk_of e.pos)) refl in omega (arith, more, one) where
   by : (b : Bool) → same_chunk c (chunk_of e.pos) ≡ b → cond b 1 0 ≤ cond (nat_eq (slot ps (chunk_of e.pos)) (slot ps c)) 1 0
-  by true s = subst (λ b. 1 ≤ cond b 1 0) (sym (ap (λ d. nat_eq (slot ps d) (slot ps c)) (sym (same_chunk_is c (chunk_of e.pos) s)) ∙ nat_eq_self (slot ps c))) (omega arith)
+  by true s = subst (λ b. 1 ≤ cond b 1 0) (sym (ap (λ d. nat_eq (slot ps d) (slot ps c)) (sym (same_chunk_is c (chunk_of e.pos) s)) ∙ eq-eqb (slot ps c) (slot ps c) refl)) (omega arith)
   by false s = omega arith
 
 pub count_at_most : (ps : List ChunkPos) (k : ℕ) (ms : List Made) → count_at ps k (entries_made ms) ≤ length ms

@@ -1,6 +1,7 @@
 -- The entries of all lists, chunk after chunk.
 use Rattle.std.proofs.Common.{◌≡◌, ℕ, zero, suc, ◌<◌, Bool, true, false, cond, List, [], ◌∷◌, ◌++◌, length, get_or, slice_get, filter, refl, sym, ap, ◌∙◌, arith, true≢false}
 use Rattle.std.specs.List.{flat_map}
+use Rattle.std.proofs.lemmas.List.Elements.{filter-append}
 use Rattle.av_types.specs.declared.place.ChunkPos.{ChunkPos}
 use Rattle.av_types.proofs.SamePlaces.{same_chunk_is, same_chunk-refl}
 use Rattle.av_ticks.specs.Ticks.{entries}
@@ -28,13 +29,6 @@ lists_flat (p ∷ ps) (c ∷ cs) long rising =
     (flat_map_same (lists_of (p ∷ ps) (c ∷ cs)) (lists_of ps cs) ps (λ j d below. ap (λ b. entries_in (slice_get (c ∷ cs) (cond b zero (suc (slot ps (get_or ps j d)))))) (apart p (get_or ps j d) (same_chunk p (get_or ps j d)) refl (rising 0 (suc j) d (omega arith) (omega arith))))
     ∙ lists_flat ps cs (omega arith) (λ i j d lt below. rising (suc i) (suc j) d (omega arith) (omega arith)))
 
-filter-append' : {X : Type 0} (t : X → Bool) (xs ys : List X) → filter t (xs ++ ys) ≡ filter t xs ++ filter t ys
-filter-append' t [] ys = refl
-filter-append' t (x ∷ xs) ys = by (t x) (filter-append' t xs ys) where
-  by : (b : Bool) → filter t (xs ++ ys) ≡ filter t xs ++ filter t ys → cond b (x ∷ filter t (xs ++ ys)) (filter t (xs ++ ys)) ≡ cond b (x ∷ filter t xs) (filter t xs) ++ filter t ys
-  by true h = ap (λ zs. x ∷ zs) h
-  by false h = h
-
 pub filter_flat : {X Y : Type 0} (t : Y → Bool) (f : X → List Y) (xs : List X) → filter t (flat_map f xs) ≡ flat_map (λ x. filter t (f x)) xs
 filter_flat t f [] = refl
-filter_flat t f (x ∷ xs) = filter-append' t (f x) (flat_map f xs) ∙ ap (λ ys. filter t (f x) ++ ys) (filter_flat t f xs)
+filter_flat t f (x ∷ xs) = filter-append t (f x) (flat_map f xs) ∙ ap (λ ys. filter t (f x) ++ ys) (filter_flat t f xs)

@@ -3,14 +3,15 @@ use Rattle.std.proofs.Common.{◌≡◌, ◌<◌, ◌≤ℤ◌, ◌<ℤ◌, ◌+
 use Rattle.std.proofs.lemmas.Int.{ints}
 use Rattle.std.proofs.lemmas.List.{get_or_default}
 use Rattle.std.proofs.lemmas.Option.{slice_get-get_or}
+use Rattle.std.proofs.lemmas.Bool.{and_from}
+use Rattle.av_document.proofs.Positions.{section_inside}
 use Rattle.av_types.specs.Division.{divided}
-use Rattle.av_types.specs.Places.{chunk_of, chunk_of_section, section_of, is_section_of, is_block_of}
+use Rattle.av_types.specs.Places.{chunk_of, chunk_of_section, section_of, is_section_of, is_block_of, section_index}
 use Rattle.av_types.specs.declared.place.Pos.{Pos}
 use Rattle.av_types.specs.declared.place.ChunkPos.{ChunkPos}
 use Rattle.av_types.specs.declared.place.SectionPos.{SectionPos}
 use Rattle.av_types.specs.declared.place.Height.{Height}
 use Rattle.av_section.specs.declared.section.Section.{Section}
-use Rattle.av_chunk.specs.Rest.{offset_of}
 use Rattle.av_chunk.specs.declared.chunk.Chunk.{Chunk}
 use Rattle.av_chunk.proofs.Heights.{offset_is, offset_below}
 use Rattle.av_cells.specs.Positions.{same_chunk}
@@ -53,8 +54,8 @@ here_is_some None h = absurd (true≢false (sym h))
 here_is_some (Some s) h = refl
 
 layer_is_here : (h : Height) (x : Chunk) (y : ℤ) → length x.sections.items ≡ h.sections → IsFull x → (b : Bool) → is_section_of h y ≡ b
-    → is_here (filling_in (cond b (get_or x.sections.items (offset_of h y) None) None)) ≡ b
-layer_is_here h x y count all true e = some_is_here (get_or x.sections.items (offset_of h y) None) (all (offset_of h y) None (rw count (offset_below h y e)))
+    → is_here (filling_in (cond b (get_or x.sections.items (section_index h y) None) None)) ≡ b
+layer_is_here h x y count all true e = some_is_here (get_or x.sections.items (section_index h y) None) (all (section_index h y) None (rw count (offset_below h y e)))
 layer_is_here h x y count all false e = refl
 
 pub whole_inserted : (h : Height) (ps qs : List ChunkPos) (g f : Grid) (c : ChunkPos) (x : Chunk) → f ≡ with_chunk g c (chunk_grid h x) → Inserts ps c qs → length x.sections.items ≡ h.sections
@@ -72,14 +73,8 @@ whole_inserted h ps qs g f c x is ins count whole all = λ i p. (ap (λ (k : Gri
 in_range : (a b c d : ℤ) → a ≤ℤ b → c <ℤ d → int_le a b && int_lt c d ≡ true
 in_range a b c d h g = grind (arith, ints)
 
-section_high : (h : Height) (k : ℕ) → k < h.sections → is_section_of h (h.min_section +ℤ pos k) ≡ true
-section_high h k l = in_range h.min_section (h.min_section +ℤ pos k) (h.min_section +ℤ pos k) (h.min_section +ℤ pos h.sections) (omega (arith, ints)) (omega (arith, ints))
-
-offset_number : (h : Height) (k : ℕ) → k < h.sections → offset_of h (h.min_section +ℤ pos k) ≡ k
-offset_number h k l = let e = offset_is h (h.min_section +ℤ pos k) (section_high h k l) in omega (arith, ints, e)
-
-both_true : (a b : Bool) → a ≡ true → b ≡ true → a && b ≡ true
-both_true a b h g = ap (λ x. x && b) h ∙ g
+offset_number : (h : Height) (k : ℕ) → k < h.sections → section_index h (h.min_section +ℤ pos k) ≡ k
+offset_number h k l = let e = offset_is h (h.min_section +ℤ pos k) (section_inside h k l) in omega (arith, ints, e)
 
 -- where a chunk and the number are there, a whole world has the section
 section_there : (w : World) → IsUncarved w → (s : SectionPos) → lands.has_chunk w.positions.items (chunk_of_section s) ≡ true → is_section_of w.height s.y ≡ true → is_here (grid w s) ≡ true
@@ -87,16 +82,16 @@ section_there w whole s has high =
     ap (λ t. is_here (grid w t)) (block_in s)
     ∙ ((λ i. whole i (block_of s))
     ∙ (ap (λ t. lands.has_chunk w.positions.items (chunk_of_section t) && is_section_of w.height t.y) (sym (block_in s))
-    ∙ both_true (lands.has_chunk w.positions.items (chunk_of_section s)) (is_section_of w.height s.y) has high))
+    ∙ and_from (lands.has_chunk w.positions.items (chunk_of_section s)) (is_section_of w.height s.y) has high))
 
 pub chunk_is_full : (w : World) (c : ChunkPos) (x : Chunk) → IsUncarved w → IsChunkOf w c x → lands.has_chunk w.positions.items c ≡ true → IsFull x
 chunk_is_full w c x whole of has = λ k d below.
     let low : k < w.height.sections = rw (← of.count) below in
-    let high = section_high w.height k low in
+    let high = section_inside w.height k low in
     let s : SectionPos = record { x = c.x; y = w.height.min_section +ℤ pos k; z = c.z } in
-    let here : is_here (filling_in (cond (is_section_of w.height s.y) (get_or x.sections.items (offset_of w.height s.y) None) None)) ≡ true = sym (ap is_here (of.sections s refl)) ∙ section_there w whole s has high in
+    let here : is_here (filling_in (cond (is_section_of w.height s.y) (get_or x.sections.items (section_index w.height s.y) None) None)) ≡ true = sym (ap is_here (of.sections s refl)) ∙ section_there w whole s has high in
     let at : is_here (filling_in (get_or x.sections.items k None)) ≡ true =
-    sym (ap (λ b. is_here (filling_in (cond b (get_or x.sections.items (offset_of w.height s.y) None) None))) high ∙ ap (λ j. is_here (filling_in (get_or x.sections.items j None))) (offset_number w.height k low)) ∙ here in
+    sym (ap (λ b. is_here (filling_in (cond b (get_or x.sections.items (section_index w.height s.y) None) None))) high ∙ ap (λ j. is_here (filling_in (get_or x.sections.items j None))) (offset_number w.height k low)) ∙ here in
     here_is_some (get_or x.sections.items k d) (subst (λ o. is_here (filling_in o) ≡ true) (sym (get_or_default x.sections.items k d None below)) at)
 
 -- and so has the chunk at an index

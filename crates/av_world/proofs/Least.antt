@@ -3,7 +3,8 @@ use Rattle.std.proofs.Common.{◌≡◌, ◌≢◌, ℕ, ℤ, pos, negsuc, ◌�
 use Rattle.std.specs.Int.{int_min}
 use Rattle.std.specs.List.{fold, list_any}
 use Rattle.std.proofs.lemmas.Int.{ints}
-use Rattle.std.proofs.lemmas.Bool.{and_from, eq-eqb}
+use Rattle.std.proofs.lemmas.Bool.{and_from, eq-eqb, or_left, or_right}
+use Rattle.std.proofs.lemmas.List.{append-nil}
 use Rattle.av_types.specs.declared.tick.Entry.{Entry}
 use Rattle.av_ticks.specs.Entries.{is_due, least_due}
 use Rattle.av_world.specs.Due.{at_least, is_reached, tick_of}
@@ -37,14 +38,6 @@ least_low a [] = refl
 least_low a (e ∷ es) =
     let first = below_trans (least_from a (e ∷ es)) (int_min a e.due) e.due (below_start (int_min a e.due) es) (min_below_other a e.due) in
     and_from (nat_le (tick_of (least_from a (e ∷ es))) (tick_of e.due)) (at_least (tick_of (least_from a (e ∷ es))) es) (tick_below (least_from a (e ∷ es)) e.due first) (least_low (int_min a e.due) es)
-
-or_left : (a b : Bool) → a ≡ true → a || b ≡ true
-or_left true b h = refl
-or_left false b h = absurd (true≢false (sym h))
-
-or_right : (a b : Bool) → b ≡ true → a || b ≡ true
-or_right true b h = refl
-or_right false b h = h
 
 least_reached : (a : ℤ) (es : List Entry) → (least_from a es ≡ a) ⊎ (is_reached (tick_of (least_from a es)) es ≡ true)
 least_reached a [] = inl refl
@@ -83,9 +76,5 @@ nothing_picked now (e ∷ es) none = by (is_due now e) refl (λ n. nothing_picke
   by true s rest n = absurd (true≢false n)
   by false s rest n = rw s (rest n)
 
-append_none : {X : Type 0} (xs : List X) → xs ≡ xs ++ []
-append_none [] = refl
-append_none (x ∷ xs) = ap (λ ys. x ∷ ys) (append_none xs)
-
 pub nothing_pushed : (now : ℕ) (xs es : List Entry) → list_any (is_due now) es ≡ false → xs ≡ xs ++ filter (is_due now) es
-nothing_pushed now xs es none = append_none xs ∙ ap (λ ys. xs ++ ys) (sym (nothing_picked now es none))
+nothing_pushed now xs es none = sym (append-nil xs) ∙ ap (λ ys. xs ++ ys) (sym (nothing_picked now es none))

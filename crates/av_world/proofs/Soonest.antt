@@ -2,36 +2,31 @@
 use Rattle.std.proofs.Common.{◌≡◌, ℕ, zero, suc, ◌<◌, ◌≤◌, ◌+◌, ℤ, pos, negsuc, int_le, nat_eq, nat_le, ◌||◌, ◌⊎◌, inl, inr, Bool, true, false, cond, List, [], ◌∷◌, length, get_or, take, filter, refl, sym, ap, subst, ◌∙◌, arith}
 use Rattle.std.specs.List.{flat_map, list_any}
 use Rattle.std.proofs.lemmas.Int.{ints}
-use Rattle.std.proofs.lemmas.Bool.{and_parts, and_from, eq-eqb, eqb-true}
+use Rattle.std.proofs.lemmas.Bool.{and_parts, and_from, eq-eqb, eqb-true, or_right, le-leb, leb-true}
 use Rattle.std.proofs.lemmas.List.{take_more}
 use Rattle.std.proofs.lemmas.List.Folds.{list_all_more, list_all-append, list_any-append}
+use Rattle.std.proofs.Math.Bool.{or-false, or_assoc}
 use Rattle.av_types.specs.declared.tick.Entry.{Entry}
 use Rattle.av_ticks.specs.Entries.{is_due}
 use Rattle.av_world.specs.Due.{at_least, is_reached, tick_of}
-
-le_true : (a b : ℕ) → a ≤ b → nat_le a b ≡ true
-le_true a b h = grind (arith, ints)
-
-true_le : (a b : ℕ) → nat_le a b ≡ true → a ≤ b
-true_le a b h = grind (arith, ints)
 
 pub at_least_weaker : (m n : ℕ) (es : List Entry) → m ≤ n → at_least n es ≡ true → at_least m es ≡ true
 at_least_weaker m n [] h a = refl
 at_least_weaker m n (e ∷ es) h a =
     let parts = and_parts (nat_le n (tick_of e.due)) (at_least n es) a in
-    let first : n ≤ tick_of e.due = true_le n (tick_of e.due) parts.0 in
-    and_from (nat_le m (tick_of e.due)) (at_least m es) (le_true m (tick_of e.due) (omega arith)) (at_least_weaker m n es h parts.1)
+    let first : n ≤ tick_of e.due = leb-true n (tick_of e.due) parts.0 in
+    and_from (nat_le m (tick_of e.due)) (at_least m es) (le-leb m (tick_of e.due) (omega arith)) (at_least_weaker m n es h parts.1)
 
 pub at_least_next : (m n : ℕ) (es : List Entry) (i : ℕ) (d : Entry) → i < length es → m ≤ n → m ≤ tick_of (get_or es i d).due → at_least n (take i es) ≡ true → at_least m (take (i + 1) es) ≡ true
 at_least_next m n es i d h less due a =
-    list_all_more (λ e. nat_le m (tick_of e.due)) es i d h ∙ and_from (at_least m (take i es)) (nat_le m (tick_of (get_or es i d).due)) (at_least_weaker m n (take i es) less a) (le_true m (tick_of (get_or es i d).due) due)
+    list_all_more (λ e. nat_le m (tick_of e.due)) es i d h ∙ and_from (at_least m (take i es)) (nat_le m (tick_of (get_or es i d).due)) (at_least_weaker m n (take i es) less a) (le-leb m (tick_of (get_or es i d).due) due)
 
 -- before that tick nothing is due
 pub none_due : (t n : ℕ) (es : List Entry) → t < n → at_least n es ≡ true → filter (is_due t) es ≡ []
 none_due t n [] h a = refl
 none_due t n (e ∷ es) h a =
     let parts = and_parts (nat_le n (tick_of e.due)) (at_least n es) a in
-    ap (λ b. cond b (e ∷ filter (is_due t) es) (filter (is_due t) es)) (not_yet e.due (true_le n (tick_of e.due) parts.0)) ∙ none_due t n es h parts.1 where
+    ap (λ b. cond b (e ∷ filter (is_due t) es) (filter (is_due t) es)) (not_yet e.due (leb-true n (tick_of e.due) parts.0)) ∙ none_due t n es h parts.1 where
       not_yet : (z : ℤ) → n ≤ tick_of z → int_le z (pos t) ≡ false
       not_yet (pos d) l = grind (arith, ints)
       not_yet (negsuc d) l = absurd (omega arith)
@@ -47,25 +42,13 @@ at_least_flat f m n (x ∷ xs) (suc i) d h less one a =
 
 -- ---- the soonest tick is that of an entry
 
-or_false : (b : Bool) → b || false ≡ b
-or_false true = refl
-or_false false = refl
-
-or_right : (a b : Bool) → b ≡ true → a || b ≡ true
-or_right true b h = refl
-or_right false b h = h
-
 or_more : (a b c : Bool) → (b ≡ true → c ≡ true) → a || b ≡ true → a || c ≡ true
 or_more true b c h was = refl
 or_more false b c h was = h was
 
-or_assoc : (a b c : Bool) → a || (b || c) ≡ (a || b) || c
-or_assoc true b c = refl
-or_assoc false b c = refl
-
 any_more : (t : Entry → Bool) (es : List Entry) (i : ℕ) (d : Entry) → i < length es → list_any t (take (i + 1) es) ≡ list_any t (take i es) || t (get_or es i d)
 any_more t es i d low =
-    ap (list_any t) (take_more es i d low) ∙ (list_any-append t (take i es) (get_or es i d ∷ []) ∙ ap (λ b. list_any t (take i es) || b) (or_false (t (get_or es i d))))
+    ap (list_any t) (take_more es i d low) ∙ (list_any-append t (take i es) (get_or es i d ∷ []) ∙ ap (λ b. list_any t (take i es) || b) (or-false (t (get_or es i d))))
 
 pub reached_next : (most old new : ℕ) (es : List Entry) (i : ℕ) (d : Entry) → i < length es → (new ≡ old) ⊎ (new ≡ tick_of (get_or es i d).due)
     → nat_eq old most || is_reached old (take i es) ≡ true → nat_eq new most || is_reached new (take (i + 1) es) ≡ true
@@ -78,13 +61,13 @@ reached_next most old new es i d low (inr here) was =
 
 any_flat : {X : Type 0} (f : X → List Entry) (t : Entry → Bool) (xs : List X) (i : ℕ) (d : X) → i < length xs → list_any t (flat_map f (take (i + 1) xs)) ≡ list_any t (flat_map f (take i xs)) || list_any t (f (get_or xs i d))
 any_flat f t [] i d low = absurd (omega arith)
-any_flat f t (x ∷ xs) zero d low = list_any-append t (f x) [] ∙ or_false (list_any t (f x))
+any_flat f t (x ∷ xs) zero d low = list_any-append t (f x) [] ∙ or-false (list_any t (f x))
 any_flat f t (x ∷ xs) (suc i) d low =
     let step : suc i + 1 ≡ suc (i + 1) = omega arith in
     let last = list_any t (f (get_or xs i d)) in
     rw step (list_any-append t (f x) (flat_map f (take (i + 1) xs))
     ∙ (ap (λ b. list_any t (f x) || b) (any_flat f t xs i d (omega arith))
-    ∙ (or_assoc (list_any t (f x)) (list_any t (flat_map f (take i xs))) last
+    ∙ (sym (or_assoc (list_any t (f x)) (list_any t (flat_map f (take i xs))) last)
     ∙ ap (λ b. b || last) (sym (list_any-append t (f x) (flat_map f (take i xs)))))))
 
 pub reached_flat : {X : Type 0} (f : X → List Entry) (most old new : ℕ) (xs : List X) (i : ℕ) (d : X) → i < length xs → nat_eq new old || is_reached new (f (get_or xs i d)) ≡ true

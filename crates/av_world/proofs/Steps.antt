@@ -12,10 +12,6 @@ use Rattle.av_world.specs.Views.{site, room, IsWorldKept, IsSamePlaces, CanSetAt
 use Rattle.av_world.specs.Turned.{corners, HasRoomAt, HasChunkRoom, CanSetAll}
 use Rattle.av_world.specs.declared.worlds.World.{World}
 
-pub on_ok : {A E : Type 0} (r : Result A E) (P Q : Type 0) → OnOk r P → (P → Q) → OnOk r Q
-on_ok (Ok x) P Q h f = f h
-on_ok (Err e) P Q h f = h
-
 pub IsWorldKept-refl : (w : World) → IsWorldKept w w
 IsWorldKept-refl w = record { height = refl; positions = refl; broken = refl; grid_is = refl; lists_are = refl; room_grows = λ c. omega arith; prepared = λ s n g. g }
 

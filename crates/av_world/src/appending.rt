@@ -145,7 +145,7 @@ impl World {
         ensures same_blocks { OnErr result (blocks self.new ≡ blocks self.old) }
         ensures same_land { OnErr result (land_of self.new ≡ land_of self.old) }
         ensures kept { OnErr result (IsWorldKept self.old self.new) }
-        ensures fault { IfErr result (λ e. e ≡ (if is_broken self.old then Broken else OutOfMemory)) }
+        ensures err { IfErr result (λ e. e ≡ (if is_broken self.old then Broken else OutOfMemory)) }
     {
         if self.broken {
             return Err(Fault::Broken);

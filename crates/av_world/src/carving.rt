@@ -111,7 +111,7 @@ impl World {
         ensures unbroken { OnOk result (is_broken self.old ≡ false) }
         ensures unchanged { OnErr result (grid self.new ≡ grid self.old) }
         ensures kept { OnErr result (IsWorldKept self.old self.new) }
-        ensures fault { IfErr result (λ e. e ≡ (if is_broken self.old then Broken else OutOfMemory)) }
+        ensures err { IfErr result (λ e. e ≡ (if is_broken self.old then Broken else OutOfMemory)) }
     {
         if self.broken {
             return Err(Fault::Broken);

@@ -1,15 +1,13 @@
 //! Changes of one section of a chunk.
 ghost use Rattle.std.specs.Prelude.{IsOk, ◌≡◌, ◌<◌, ◌≤◌, ◌+◌, ◌++◌, ◌∷◌, [], length, slice_index_or, slice_set, option_copied, Some, None, true, false, OnOk};
-ghost use Rattle.av_types.specs.Places.{is_section_of, place_of};
+ghost use Rattle.av_types.specs.Places.{is_section_of, place_of, section_index, is_block_of};
 ghost use Rattle.av_section.specs.declared.section.Section.{Section};
 ghost use Rattle.av_ticks.specs.Entries.{is_pending};
 ghost use Rattle.av_ticks.specs.Ticks.{entries, room};
-ghost use Rattle.av_chunk.specs.Rest.{offset_of};
 ghost use Rattle.av_world.specs.Sections.{layer_at, CanSetIn};
 ghost use Rattle.av_world.specs.Changes.{SlotSets, SlotAdds, SlotKeeps, HaveNumbers, SlotRemoves, ClearsSlots, leaves_at};
 ghost use Rattle.std.specs.Prelude.{All, filter, not};
 ghost use Rattle.std.specs.List.{list_any};
-ghost use Rattle.av_types.specs.Places.{is_block_of};
 ghost use Rattle.av_ticks.specs.Entries.{is_due};
 
 use av_chunk::Chunk;
@@ -31,7 +29,7 @@ pub(crate) fn is_high(height: Height, at: SectionPos) -> bool
 #[inline(always)]
 pub(crate) fn offset(height: Height, at: SectionPos) -> usize
     requires { is_section_of height at.y ≡ true }
-    ensures value { result ≡ offset_of height at.y }
+    ensures value { result ≡ section_index height at.y }
     ensures bound { result < height.sections }
 {
     (at.y - height.min_section) as usize

@@ -4,7 +4,7 @@ ghost use Rattle.std.specs.List.{flat_map};
 ghost use Rattle.av_types.specs.declared.fault.Fault.TheVariants.{OutOfMemory, Broken};
 ghost use Rattle.av_types.specs.declared.place.SectionPos.{SectionPos};
 ghost use Rattle.av_ticks.specs.Entries.{is_due, due_order};
-ghost use Rattle.av_ticks.specs.Order.{ordered};
+ghost use Rattle.av_types.specs.Order.{ordered};
 ghost use Rattle.av_ticks.specs.Ticks.{entries};
 ghost use Rattle.av_land.specs.Tick.{due_entries, without_due};
 ghost use Rattle.av_world.specs.Changes.{SameNumbers};
@@ -153,7 +153,7 @@ impl World {
         ensures unchanged_land { OnErr result (land_of self.new ≡ land_of self.old) }
         ensures unchanged { OnErr result (blocks self.new ≡ blocks self.old) }
         ensures kept { OnErr result (IsWorldKept self.old self.new) }
-        ensures fault { IfErr result (λ e. e ≡ (if is_broken self.old then Broken else OutOfMemory)) }
+        ensures err { IfErr result (λ e. e ≡ (if is_broken self.old then Broken else OutOfMemory)) }
     {
         if self.broken {
             return Err(Fault::Broken);

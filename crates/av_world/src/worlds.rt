@@ -68,7 +68,7 @@ impl World {
         ensures same_grid { OnErr result (grid self.new ≡ grid self.old) }
         ensures same_lists { OnErr result (lists self.new ≡ lists self.old) }
         ensures same_positions { OnErr result (positions_of self.new ≡ positions_of self.old) }
-        ensures fault { IfErr result (λ e. e ≡ OutOfMemory) }
+        ensures memory { IfErr result (λ e. e ≡ OutOfMemory) }
     {
         let index = place(self.positions.as_slice(), at);
         self.positions.reserve(1)?;

@@ -1,7 +1,7 @@
 -- Flat chunks, and worlds of air, water and stone.
 use Rattle.std.proofs.Common.{◌≡◌, ℕ, zero, suc, ◌<◌, ◌≤◌, ◌==◌, ℤ, Bool, true, false, cond, IsTrue, is_some, List, [], ◌∷◌, get_or, Option, Some, None, refl, sym, ap, subst, ◌∙◌, All, arith, true≢false}
 use Rattle.std.proofs.lemmas.List.Elements.{All-tail, All-weaker}
-use Rattle.av_types.specs.Places.{chunk_of, section_of, place_of, is_section_of}
+use Rattle.av_types.specs.Places.{chunk_of, section_of, place_of, is_section_of, section_index}
 use Rattle.av_types.specs.declared.place.Pos.{Pos}
 use Rattle.av_types.specs.declared.place.ChunkPos.{ChunkPos}
 use Rattle.av_types.specs.declared.place.SectionPos.{SectionPos}
@@ -12,7 +12,6 @@ use Rattle.av_section.specs.Section as section
 use Rattle.av_section.specs.declared.section.Section.{Section}
 use Rattle.av_ticks.specs.Entries.{is_pending}
 use Rattle.av_document.specs.Ticks.{lies_in}
-use Rattle.av_chunk.specs.Rest.{offset_of}
 use Rattle.av_chunk.specs.declared.chunk.Chunk.{Chunk}
 use Rattle.av_cells.specs.Grid.{Grid, is_here, number_in, pending_in, cells_of, only}
 use Rattle.av_cells.specs.Positions.{same_chunk, same_pos}
@@ -61,8 +60,8 @@ calm_at (o ∷ ss) (suc i) h = calm_at ss i (All-tail IsCalmSlot o ss h)
 
 calm_layer : (h : Height) (x : Chunk) (y : ℤ) → IsFlat h x → IsCalmOr (layer_at h x.sections.items y)
 calm_layer h x y f = by (is_section_of h y) where
-  by : (b : Bool) → IsCalmOr (cond b (get_or x.sections.items (offset_of h y) None) None)
-  by true = calm_at x.sections.items (offset_of h y) f.calm
+  by : (b : Bool) → IsCalmOr (cond b (get_or x.sections.items (section_index h y) None) None)
+  by true = calm_at x.sections.items (section_index h y) f.calm
   by false = tt
 
 quiet : (o : Option Section) (i : ℕ) → IsCalmOr o → IsTrue (is_here (filling_in o)) → pending_in (filling_in o) i ≡ false

@@ -1,6 +1,6 @@
 -- A part of a world stays one while its blocks are set and entries are put aside.
-use Rattle.std.proofs.Common.{◌≡◌, ℕ, Bool, true, false, cond, not, IsTrue, List, [], ◌∷◌, ◌++◌, refl, sym, ap, subst, ◌∙◌, true≢false}
-use Rattle.std.proofs.lemmas.Bool.{and_parts}
+use Rattle.std.proofs.Common.{◌≡◌, ℕ, Bool, true, false, cond, not, IsTrue, List, [], ◌∷◌, ◌++◌, refl, sym, ap, subst, ◌∙◌}
+use Rattle.std.proofs.lemmas.Bool.{and_parts, not-true}
 use Rattle.av_types.specs.declared.place.Pos.{Pos}
 use Rattle.av_types.specs.declared.place.ChunkPos.{ChunkPos}
 use Rattle.av_types.specs.declared.place.Height.{Height}
@@ -18,10 +18,6 @@ use Rattle.av_world.proofs.Leaving.{part_added}
 listed_push : (x : Lists) (es : List Entry) (e : Entry) → listed_all x (es ++ e ∷ []) ≡ listed_if true (listed_all x es) e
 listed_push x [] e = refl
 listed_push x (y ∷ es) e = listed_push (listed_if true x y) es e
-
-not_true : (b : Bool) → not b ≡ true → b ≡ false
-not_true true h = absurd (true≢false (sym h))
-not_true false h = refl
 
 module _ (h : Height) (ps : List ChunkPos) (l : Lists) where
   moved : (b m : World) (x y : Lists) → m ≡ b → y ≡ x → IsPartOf h ps l b x → IsPartOf h ps l m y
@@ -43,7 +39,7 @@ module _ (h : Height) (ps : List ChunkPos) (l : Lists) where
     by true s =
         let parts = and_parts (is_wet (wet_at k c.world p)) (not (c.world.pending p)) s in
         subst (IsPartOf h ps l (with_entry_if true c.world (entry_of p now))) (sym (listed_push x c.made (entry_of p now)))
-        (part_added h ps l c.world (listed_all x c.made) (entry_of p now) (wet_is_loaded k c.world p parts.0) (not_true (c.world.pending p) parts.1) part)
+        (part_added h ps l c.world (listed_all x c.made) (entry_of p now) (wet_is_loaded k c.world p parts.0) (not-true (c.world.pending p) parts.1) part)
     by false s = part
 
   all_woken : (k : ℕ → Kind) (now : ℕ) (qs : List Pos) (x : Lists) (c : Change) → IsPartOf h ps l c.world (listed_all x c.made) → IsPartOf h ps l (woken_all k now qs c).world (listed_all x (woken_all k now qs c).made)

@@ -32,7 +32,7 @@ fn lay_stone(section: &mut Section)
 fn with_stone(mut section: Section) -> Result<Section, Fault>
     requires { IsCalm section }
     ensures calm { IfOk result IsCalm }
-    ensures fault { IfErr result (λ e. e ≡ OutOfMemory) }
+    ensures memory { IfErr result (λ e. e ≡ OutOfMemory) }
 {
     section.prepare(&[STONE])?;
     lay_stone(&mut section);
@@ -42,7 +42,7 @@ fn with_stone(mut section: Section) -> Result<Section, Fault>
 /// The section of a number.
 fn flat_section(alloc: Global, number: i32) -> Result<Section, Fault>
     ensures calm { IfOk result IsCalm }
-    ensures fault { IfErr result (λ e. e ≡ OutOfMemory) }
+    ensures memory { IfErr result (λ e. e ≡ OutOfMemory) }
 {
     let section = Section::filled(alloc, 0)?;
     if number == UNDERGROUND {
@@ -54,7 +54,7 @@ fn flat_section(alloc: Global, number: i32) -> Result<Section, Fault>
 /// A chunk with stone at y 63, air elsewhere and no entries.
 pub fn flat_chunk(alloc: Global, height: Height) -> Result<Chunk, Fault>
     ensures flat { IfOk result (IsFlat height) }
-    ensures fault { IfErr result (λ e. e ≡ OutOfMemory) }
+    ensures memory { IfErr result (λ e. e ≡ OutOfMemory) }
 {
     let mut sections = Vec::new(alloc);
     for index in 0..height.sections {

@@ -6,7 +6,7 @@ ghost use Rattle.av_types.specs.Places.{IsInLimits};
 ghost use Rattle.av_state.specs.BlockState.{BlockState};
 ghost use Rattle.av_state.specs.Table.{states};
 ghost use Rattle.av_section.specs.Reading.{OnlyGrows};
-ghost use Rattle.av_ticks.specs.Order.{ordered};
+ghost use Rattle.av_types.specs.Order.{ordered};
 ghost use Rattle.av_files.specs.Files.{File, in_order, regions_rise};
 ghost use Rattle.av_files.specs.FirstFault.{IsFilesFaultAfter};
 ghost use Rattle.av_files.specs.Layers.{IsLoadAfter};

@@ -1,6 +1,6 @@
 use Rattle.std.proofs.Common.{rules}
 use Rattle.std.proofs.lemmas.List.Sorted.{answers_always}
-use Rattle.av_ticks.proofs.OrderLemmas.{sorted_is_ordered}
+use Rattle.av_types.proofs.OrderLemmas.{sorted_is_ordered}
 use Rattle.av_census.specs.Census.{most_first}
 use Rattle.av_census.proofs.Adding.{most_laws}
 use Rattle.av_census.proofs.tally.sorted.Goals as goal

@@ -1,4 +1,5 @@
 use Rattle.std.proofs.Common.{option_map}
+use Rattle.av_types.proofs.Exits.{err_from}
 use Rattle.av_types.specs.Places.{chunk_of}
 use Rattle.av_state.specs.States.{state_of}
 use Rattle.av_state.specs.StateList.{first_states}
@@ -6,7 +7,7 @@ use Rattle.av_state.specs.Table.{states}
 use Rattle.av_chunk.specs.Reading.{IsLoaded}
 use Rattle.av_chunk.specs.Payload.{IsPayloadReading}
 use Rattle.av_chunk.specs.Block.{IsPayloadRefused}
-use Rattle.av_chunk.proofs.Found.{denoted_by, err_from}
+use Rattle.av_chunk.proofs.Found.{denoted_by}
 use Rattle.av_chunk.proofs.block.block_in_payload.Goals as goal
 
 pub returns-in_err-read_payload-clause-err : goal.returns-in_err-read_payload-clause-err

@@ -4,7 +4,7 @@ use Rattle.av_types.specs.Division.{divided}
 use Rattle.av_types.specs.Water.{is_source}
 use Rattle.av_rules.specs.Kinds.{kind_count}
 use Rattle.av_section.specs.Section.{number_at}
-use Rattle.av_chunk.specs.Rest.{offset_of}
+use Rattle.av_types.specs.Places.{section_index}
 use Rattle.av_chunk.specs.Views.{section_in, number_in}
 use Rattle.av_chunk.specs.Writing.{is_source_number}
 use Rattle.av_chunk.proofs.Written.{number_in-there}
@@ -15,7 +15,7 @@ wet-requires c =
     let fits : FitsSigned w32 c.section.result.y = search rules in
     let y : c.section.result.y ≡ divided c.args.pos.y 16 = ap (λ s. s.y) c.section.ensures in
     let wide : to_z w32 (of_z w32 c.section.result.y) ≡ c.section.result.y = to_z-of_z fits in
-    let index : c.offset_of-index.result ≡ offset_of c.args.height (divided c.args.pos.y 16) = c.offset_of-index.ensures.value ∙ ap (offset_of c.args.height) (wide ∙ y) in
+    let index : c.section_index-index.result ≡ section_index c.args.height (divided c.args.pos.y 16) = c.section_index-index.ensures.value ∙ ap (section_index c.args.height) (wide ∙ y) in
     let there : section_in c.args.height c.args.chunk.now (divided c.args.pos.y 16) ≡ Some c.in-Some.section.now =
     ap (λ n. slice_index_or c.args.chunk.now.sections.items n None) (sym index) ∙ sym c.in-Some.ensures in
     let number : number_in c.args.height c.args.chunk.now c.args.pos ≡ Some c.get.result =
@@ -28,7 +28,7 @@ returns-in-Some c =
     let fits : FitsSigned w32 c.section.result.y = search rules in
     let y : c.section.result.y ≡ divided c.args.pos.y 16 = ap (λ s. s.y) c.section.ensures in
     let wide : to_z w32 (of_z w32 c.section.result.y) ≡ c.section.result.y = to_z-of_z fits in
-    let index : c.offset_of-index.result ≡ offset_of c.args.height (divided c.args.pos.y 16) = c.offset_of-index.ensures.value ∙ ap (offset_of c.args.height) (wide ∙ y) in
+    let index : c.section_index-index.result ≡ section_index c.args.height (divided c.args.pos.y 16) = c.section_index-index.ensures.value ∙ ap (section_index c.args.height) (wide ∙ y) in
     let there : section_in c.args.height c.args.chunk.now (divided c.args.pos.y 16) ≡ Some c.in-Some.section.now =
     ap (λ n. slice_index_or c.args.chunk.now.sections.items n None) (sym index) ∙ sym c.in-Some.ensures in
     let number : number_in c.args.height c.args.chunk.now c.args.pos ≡ Some c.get.result =

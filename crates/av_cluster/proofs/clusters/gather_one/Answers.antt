@@ -1,6 +1,6 @@
 use Rattle.std.proofs.Common.{arith, refl, ap, sym, subst, ◌∙◌, ◌≡◌, ℕ, suc, ◌+◌, ◌<◌, length, get_or, set, List, ◌++◌, ◌∷◌, [], pos}
 use Rattle.std.proofs.lemmas.Option.{slice_get-get_or}
-use Rattle.std.proofs.lemmas.List.{length-map}
+use Rattle.std.proofs.lemmas.List.{length-map, get_or_read}
 use Rattle.av_play.specs.declared.event.Placed.{Placed}
 use Rattle.av_cluster.specs.Clusters.{parts_of, AreBare}
 use Rattle.av_cluster.proofs.Shares.{bare_more}
@@ -8,7 +8,7 @@ use Rattle.av_cluster.specs.Forest.{first, IsFalling}
 use Rattle.av_cluster.specs.Gathering.{IsGathered}
 use Rattle.av_types.specs.declared.tick.Entry.{Entry}
 use Rattle.av_cluster.proofs.Joinings.{placed_at}
-use Rattle.av_cluster.proofs.Gathers.{are_first, label_below, any_default, gathered_first, gathered_next}
+use Rattle.av_cluster.proofs.Gathers.{are_first, label_below, gathered_first, gathered_next}
 use Rattle.av_cluster.proofs.clusters.gather_one.Goals as goal
 
 -- what is gathered after one more entry, said of lists alone
@@ -27,7 +27,7 @@ next_case es ps fall n d l numbers parts h f v e c g =
     let x : Placed = record { place = n; entry = get_or es n d } in
     let b = label_below es (first ps) (are_first ps fall (length es)) n l (λ k. e (v ∙ k)) in
     let cn = h.count in
-    let c0 : c ≡ get_or numbers (first ps n) 0 = any_default numbers f c (omega arith) g ∙ ap (λ k. get_or numbers k 0) v in
+    let c0 : c ≡ get_or numbers (first ps n) 0 = get_or_read numbers f c (omega arith) g 0 ∙ ap (λ k. get_or numbers k 0) v in
     let r = gathered_next es (first ps) (are_first ps fall (length es)) n numbers parts h x (placed_at es n (get_or es n d) (slice_get-get_or es n d l)) refl l (λ k. e (v ∙ k)) c c0 in
     let s : suc n ≡ n + 1 = omega arith in
     (r.0, λ numbers2 parts2 en ep. subst (λ m. IsGathered es (first ps) m numbers2 parts2) s (subst (λ qs. IsGathered es (first ps) (suc n) numbers2 qs) (sym ep) (subst (λ ms. IsGathered es (first ps) (suc n) ms (set parts c (get_or parts c [] ++ x ∷ []))) (sym en) r.1)))

@@ -3,13 +3,13 @@ use Rattle.std.proofs.Common.{arith, refl, sym, subst, ap, ◌∙◌, ◌≡◌,
 use Rattle.std.specs.List.{Contains}
 use Rattle.std.specs.Map.{keys_of}
 use Rattle.std.specs.Prelude.{pos}
-use Rattle.std.proofs.lemmas.List.{get_or-map, get_or_default}
+use Rattle.std.proofs.lemmas.List.{get_or-map, get_or_default, take_more}
 use Rattle.std.proofs.lemmas.Map.Entries.{length-keys_of}
 use Rattle.av_cluster.specs.Clusters.{parts_of, sections_of, AreShared, IsGiven}
 use Rattle.av_cluster.specs.Joining.{owner_in, key_of}
 use Rattle.av_cluster.proofs.Indexed.{entry_owner}
 use Rattle.av_cluster.proofs.Onces.{once_none, once_more, key_fresh}
-use Rattle.av_cluster.proofs.Joinings.{taken_more, taken_all}
+use Rattle.av_cluster.proofs.Joinings.{taken_all}
 use Rattle.av_cluster.proofs.Shares.{shared_none, shared_more, part_inside}
 use Rattle.av_cluster.proofs.clusters.share.Goals as goal
 
@@ -44,7 +44,7 @@ loop-entry-preserved c =
     let key : get_or ks i x.0 ≡ key_of s = get_or-map (λ y. y.0) es i x x.0 within ∙ ap (λ y. y.0) (sym at) ∙ sym c.of_key.ensures in
     let owner = entry_owner es fs i ((pos 0, pos 0, pos 0), 0) s told.entries told.distinct c.loop-entry-test.true c.of_key.ensures in
     let given = subst (λ r. IsGiven r numbers s old new) (sym owner) c.in_ok-give.ensures.sections in
-    let taken : take (i + 1) ks ≡ take i ks ++ key_of s ∷ [] = taken_more ks i x.0 low ∙ ap (λ k. take i ks ++ k ∷ []) key in
+    let taken : take (i + 1) ks ≡ take i ks ++ key_of s ∷ [] = take_more ks i x.0 low ∙ ap (λ k. take i ks ++ k ∷ []) key in
     let inside : (k : ℕ) → owner_in es s ≡ Some k → get_or numbers k 0 < length old = λ k e. part_inside c.loop-entry.clusters.items (parts_of c.args.clusters.now.items) (get_or numbers k 0) inv.parts (c.requires.numbers k (c.requires.owners s k e)) in
     record {
       parts = c.in_ok-give.ensures.parts ∙ inv.parts;

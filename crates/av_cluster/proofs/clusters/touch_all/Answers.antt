@@ -1,7 +1,8 @@
 use Rattle.std.proofs.Common.{arith, ◌∙◌}
+use Rattle.std.proofs.lemmas.List.{take_more}
 use Rattle.av_world.specs.Near.{cells_near}
 use Rattle.av_world.specs.Views.{grid}
-use Rattle.av_cluster.proofs.Joinings.{within_none, taken_more, owner_inside}
+use Rattle.av_cluster.proofs.Joinings.{within_none, owner_inside}
 use Rattle.av_cluster.proofs.CornerLists.{corner_noted, corners_noted, item_of, owned_is_there}
 use Rattle.av_cluster.proofs.clusters.touch_all.Goals as goal
 
@@ -20,7 +21,7 @@ touch-requires-clause-loaded c = owned_is_there (grid c.args.world.now) _ _ _ _ 
 pub loop-corner-preserved : goal.loop-corner-preserved
 loop-corner-preserved c =
     corner_noted (grid c.args.world.now) c.args.entries.now c.args.place _ c.requires.place _ _ _ _ _ _ _
-    (taken_more c.as_slice-corner-items.result.now c.loop-corner.corner-index _ c.loop-corner-test.true)
+    (take_more c.as_slice-corner-items.result.now c.loop-corner.corner-index _ c.loop-corner-test.true)
     (item_of c.as_slice-corner-items.result.now _ (c.as_slice-corner-items.ensures.value ∙ c.corners-corners.ensures) c.loop-corner.corner-index c.loop-corner-test.true _)
     c.loop-corner.invariant
     c.in_ok-touch.ensures

@@ -1,7 +1,8 @@
 use Rattle.std.proofs.Common.{◌≡◌, ap, sym, subst, ◌∙◌, ◌++◌, vec_len}
 use Rattle.std.specs.List.{flat_map}
+use Rattle.std.proofs.lemmas.Result.{IfOk-weaker}
 use Rattle.av_ticks.specs.Entries.{made_order}
-use Rattle.av_ticks.specs.Order.{ordered}
+use Rattle.av_types.specs.Order.{ordered}
 use Rattle.av_cells.specs.Kinds.{kinds_of}
 use Rattle.av_world.specs.Views.{grid, blocks, lists}
 use Rattle.av_world.specs.ParcelViews.{blocks as parcel_blocks}
@@ -11,7 +12,6 @@ use Rattle.av_crew.specs.Parts.{picks_of}
 use Rattle.av_crew.proofs.Numbers.{jobs_differ}
 use Rattle.av_crew.proofs.Others.{kept_carved, kept_mended}
 use Rattle.av_crew.proofs.Steps.{none_refused}
-use Rattle.av_crew.proofs.Totals.{if_ok}
 use Rattle.av_crew.proofs.Whole.{jobs_able, dones_in, gathered}
 use Rattle.av_crew.proofs.ticking.turn_parts.Goals as goal
 
@@ -28,8 +28,8 @@ returns-clause-ok g c =
     let dones = c.in_ok-dones.dones.items in
     let mended = subst (λ l. blocks c.mend_all.new.world ≡ mended_all (λ d. parcel_blocks d.parcel) l dones (blocks mid)) c.carve_all.ensures.same.lists_are c.mend_all.ensures.mended in
     let listed = ap (flat_map (λ m. m.items)) c.as_slice.ensures.value ∙ c.mend_all.ensures.made ∙ ap (λ ms. ms ++ flat_map (λ d. d.made.items) dones) (ap (flat_map (λ m. m.items)) c.in_ok-made.ensures.items) in
-    if_ok _ _ (λ made is entries cut. gathered (kinds_of c.args.kinds.now) c.args.now (grid c.args.world.now) entries c.args.clusters.items cut (lists c.args.world.now) c.args.world.now.lawful.tied (grid mid) (subst (λ n. IsCarved (grid c.args.world.now) (picks_of c.args.clusters.items) n (grid mid)) c.args.clusters.ok.0 c.carve_all.ensures.carved)
-    c.carve_all.new.jobs.items e.jobs (sym c.carve_all.new.jobs.ok.0 ∙ e.count ∙ c.args.clusters.ok.0) dones c.in_ok-dones.ensures.ok (none_refused dones (sym c.mend_all.ensures.refused ∙ c.if-mend_all.false)) (blocks c.mend_all.new.world) mended made.items (is ∙ ap (ordered made_order) listed)) c.merge_made.result c.merge_made.ensures.ok
+    IfOk-weaker c.merge_made.result _ _ (λ made is entries cut. gathered (kinds_of c.args.kinds.now) c.args.now (grid c.args.world.now) entries c.args.clusters.items cut (lists c.args.world.now) c.args.world.now.lawful.tied (grid mid) (subst (λ n. IsCarved (grid c.args.world.now) (picks_of c.args.clusters.items) n (grid mid)) c.args.clusters.ok.0 c.carve_all.ensures.carved)
+    c.carve_all.new.jobs.items e.jobs (sym c.carve_all.new.jobs.ok.0 ∙ e.count ∙ c.args.clusters.ok.0) dones c.in_ok-dones.ensures.ok (none_refused dones (sym c.mend_all.ensures.refused ∙ c.if-mend_all.false)) (blocks c.mend_all.new.world) mended made.items (is ∙ ap (ordered made_order) listed)) c.merge_made.ensures.ok
 
 pub work_all-requires-clause-numbers : goal.work_all-requires-clause-numbers
 work_all-requires-clause-numbers g c κs within = jobs_differ (grid c.args.world.now) (parts_of c.args.clusters.items) (picks_of c.args.clusters.items) 0 c.carve_all.new.jobs.items c.in_ok-carve_all.ensures.jobs

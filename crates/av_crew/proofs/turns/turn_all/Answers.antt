@@ -1,11 +1,12 @@
 use Rattle.std.proofs.Common.{◌∙◌}
-use Rattle.av_crew.proofs.MoreTurned.{one_more, no_more, on_err}
+use Rattle.av_types.proofs.Exits.{on_err_from}
+use Rattle.av_crew.proofs.MoreTurned.{one_more, no_more}
 use Rattle.av_crew.proofs.turns.turn_all.Goals as goal
 
 pub returns-in_err-turn_one-clause-err : goal.returns-in_err-turn_one-clause-err
 returns-in_err-turn_one-clause-err g c =
     let e = c.in_err-turn_one.ensures in
-    on_err c.from_residual.result _
+    on_err_from c.from_residual.result
     (record {
       count = c.loop-entry.entry-index;
       fewer = c.loop-entry-test.true;

@@ -1,7 +1,7 @@
-use Rattle.std.proofs.Common.{◌≡◌, ℕ, ◌&&◌, Bool, true, false, refl, sym, ap, ◌∙◌}
-use Rattle.std.proofs.lemmas.Bool.{and_parts, true≢false}
+use Rattle.std.proofs.Common.{◌≡◌, ℕ, ◌&&◌, Bool, true, false, refl, sym, ◌∙◌}
+use Rattle.std.proofs.lemmas.Bool.{and_parts}
 use Rattle.av_cells.specs.Kinds.{kinds_of}
-use Rattle.av_cells.specs.Rule.{can_pass, can_drop}
+use Rattle.av_cells.specs.Rule.{can_pass}
 use Rattle.av_drop.specs.Board.{spot, is_on}
 use Rattle.av_drop.proofs.fronts.advance.Goals as goal
 

@@ -2,10 +2,8 @@ use Rattle.std.proofs.Common.{◌≡◌, ◌+◌, sym, ap, ◌∙◌, arith}
 use Rattle.av_cells.specs.Kinds.{kinds_of}
 use Rattle.av_cells.specs.Positions.{step}
 use Rattle.av_cells.specs.Rule.{can_pass, can_drop}
-use Rattle.av_drop.specs.Board.{spot}
 use Rattle.av_drop.proofs.Ahead.{first_is_front, next_is_front, drops_is}
 use Rattle.av_drop.proofs.Nearest.{none_at_first, none_at_next}
-use Rattle.av_drop.proofs.Spots.{side_spot}
 use Rattle.av_drop.proofs.Walks.{first_is_drop, none_is_drop}
 use Rattle.av_drop.proofs.search.drop_distance.Goals as goal
 

@@ -6,13 +6,13 @@ use Rattle.av_edits.specs.Edits.{fault_of, table_of, edits_in}
 use Rattle.av_edits.proofs.ReadOn.{drop_next, faults_next, faults_stop, tables_next, read_next, lines_next, grows_on}
 use Rattle.av_edits.proofs.reading.read_lines.Goals as goal
 
-pub returns-in_err-edit-clause-fault : goal.returns-in_err-edit-clause-fault
-returns-in_err-edit-clause-fault g c =
+pub returns-in_err-edit-clause-err : goal.returns-in_err-edit-clause-err
+returns-in_err-edit-clause-err g c =
     let p = err_from_is_err_and c.from_residual.result c.from_residual.ensures.1 in
     let L = (g.C.Cells.world c.args.cells.now).loaded in
     let t = states c.loop-index.table in
     let next = drop_next (λ x. x.now) strip_carriage_return c.args.lines.now c.loop-index.index _ c.loop-index-test.true in
-    rw (p.1, p.2) (λ n. faults_stop L c.args.ticks t (c.loop-index.index + 1) _ _ _ _ _ next (ap (fault_of L c.args.ticks t (c.loop-index.index + 1)) (sym c.without_return.ensures) ∙ c.in_err-edit.ensures.fault n) c.loop-index.invariant.faults)
+    rw (p.1, p.2) (λ n. faults_stop L c.args.ticks t (c.loop-index.index + 1) _ _ _ _ _ next (ap (fault_of L c.args.ticks t (c.loop-index.index + 1)) (sym c.without_return.ensures) ∙ c.in_err-edit.ensures.err n) c.loop-index.invariant.faults)
 
 pub returns-in_err-push_some-clause-grows : goal.returns-in_err-push_some-clause-grows
 returns-in_err-push_some-clause-grows g c = grows_on (states c.args.table.now) (states c.loop-index.table) (states c.read_line.new.table) c.loop-index.invariant.grows c.read_line.ensures.grows

@@ -1,8 +1,9 @@
 use Rattle.std.proofs.Common.{◌≡◌, ◌∙◌, ◌<◌, ap, sym, subst, arith, ◌∷◌, [], List, length, map, take}
+use Rattle.av_types.proofs.Exits.{on_err_from}
 use Rattle.av_exchange.specs.Steps.{with_steps, Step}
 use Rattle.av_exchange.specs.Exchange.{placed}
 use Rattle.av_exchange.specs.Outcomes.{name_of}
-use Rattle.av_exchange.proofs.History.{left_by, no_steps, then_steps}
+use Rattle.av_exchange.proofs.History.{no_steps, then_steps}
 use Rattle.av_exchange.proofs.Stepwise.{first_placed, one_more_placed, placed_by}
 use Rattle.av_exchange.proofs.exchange.move_all.Goals as goal
 
@@ -22,7 +23,7 @@ loop-file-preserved g c =
 
 pub returns-in_err-move_over-clause-err : goal.returns-in_err-move_over-clause-err
 returns-in_err-move_over-clause-err g c =
-    left_by c.from_residual.result (record {
+    on_err_from c.from_residual.result (record {
       left = map placed (map name_of (take c.loop-file.file-index c.args.moves.now));
       some = first_placed c.loop-file.file-index c.args.moves.now;
       steps = c.in_err-move_over.ensures.err ∙ c.loop-file.invariant;

@@ -1,12 +1,13 @@
 use Rattle.std.proofs.Common.{◌≡◌, ◌∙◌, ◌∷◌, [], refl, subst, List, ℕ}
+use Rattle.av_types.proofs.Exits.{on_err_from}
 use Rattle.av_exchange.specs.Steps.{Moved, Synced, Written, with_steps}
 use Rattle.av_exchange.specs.Names.{journal_name, new_journal, new_journal_name}
-use Rattle.av_exchange.proofs.History.{left_by, then_steps}
+use Rattle.av_exchange.proofs.History.{then_steps}
 use Rattle.av_exchange.proofs.exchange.record.Goals as goal
 
 pub returns-in_err-move_over-clause-err : goal.returns-in_err-move_over-clause-err
 returns-in_err-move_over-clause-err g c =
-    left_by c.from_residual-in_err-move_over.result (record {
+    on_err_from c.from_residual-in_err-move_over.result (record {
       left = Written new_journal_name c.as_bytes.result.now ∷ Synced ∷ [];
       beside = (new_journal refl, (tt, tt));
       steps = c.in_err-move_over.ensures.err

@@ -1,10 +1,11 @@
 use Rattle.std.proofs.Common.{◌∷◌, []}
+use Rattle.av_types.proofs.Exits.{on_err_from}
 use Rattle.av_exchange.specs.Steps.{Synced}
 use Rattle.av_exchange.specs.Outcomes.{in_part}
-use Rattle.av_exchange.proofs.History.{left_by, then_steps}
+use Rattle.av_exchange.proofs.History.{then_steps}
 use Rattle.av_exchange.proofs.exchange.settle_behind.Goals as goal
 
 pub returns-in_err-settle-clause-err : goal.returns-in_err-settle-clause-err
 returns-in_err-settle-clause-err g c =
     let part = c.in_err-settle.ensures.err in
-    left_by c.from_residual-in_err-settle.result (in_part part.left part.some (then_steps _ _ _ (Synced ∷ []) part.left c.in_ok-sync.ensures.ok part.steps))
+    on_err_from c.from_residual-in_err-settle.result (in_part part.left part.some (then_steps _ _ _ (Synced ∷ []) part.left c.in_ok-sync.ensures.ok part.steps))

@@ -1,9 +1,11 @@
 use Rattle.std.proofs.Common.{◌≡◌, ◌∙◌, ap, sym, subst, refl, [], List, ℕ, None, Some, length, map, string_bytes}
+use Rattle.std.proofs.lemmas.List.{length-map}
+use Rattle.av_types.proofs.Exits.{on_err_from}
 use Rattle.av_exchange.specs.Steps.{all_of, with_steps}
 use Rattle.av_exchange.specs.Exchange.{finishing}
 use Rattle.av_exchange.specs.Outcomes.{HasStopped, name_of, stopped}
-use Rattle.av_exchange.proofs.History.{left_by, no_steps}
-use Rattle.av_exchange.proofs.Stepwise.{as_many, told_journal, told_none}
+use Rattle.av_exchange.proofs.History.{no_steps}
+use Rattle.av_exchange.proofs.Stepwise.{told_journal, told_none}
 use Rattle.av_exchange.proofs.repairing.finish_left.Goals as goal
 
 pub returns-in_default-clause-ok : goal.returns-in_default-clause-ok
@@ -15,7 +17,7 @@ returns-in_err-finish-clause-err g c =
     let told = rw c.in-Some-2.is at c.in_ok-names.ensures in
     let moved : map name_of c.as_slice-2.result.now ≡ names =
     ap (map name_of) c.as_slice-2.ensures.value ∙ (c.in_ok-moves.ensures ∙ ap (map string_bytes) c.as_slice.ensures.value) in
-    left_by c.from_residual-in_err-finish.result
+    on_err_from c.from_residual-in_err-finish.result
     (stopped (Some names) [] (told_journal _ _ c.in-Some.text _ names c.in-Some.is c.as_str.ensures.value told.0 told.1 c.in_ok-text.ensures) tt
     (subst (λ (ns : List (List ℕ)). HasStopped (finishing ns) (g.F.Folder.history c.args.folder.now) (g.F.Folder.history c.finish.new.folder)) moved c.in_err-finish.ensures.err))
 
@@ -29,5 +31,5 @@ returns-clause-ok g c =
       journal = Some names;
       journaled = told_journal _ _ c.in-Some.text _ names c.in-Some.is c.as_str.ensures.value told.0 told.1 c.in_ok-text.ensures;
       steps = c.in_ok-finish.ensures.ok ∙ ap (λ (ns : List (List ℕ)). with_steps (g.F.Folder.history c.args.folder.now) (all_of (finishing ns))) moved;
-      count = ap Some (c.len.ensures ∙ (sym c.as_slice-2.ensures.len ∙ (sym (as_many name_of c.as_slice-2.result.now) ∙ ap length moved)));
+      count = ap Some (c.len.ensures ∙ (sym c.as_slice-2.ensures.len ∙ (sym (length-map c.as_slice-2.result.now name_of) ∙ ap length moved)));
     }

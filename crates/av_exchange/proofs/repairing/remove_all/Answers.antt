@@ -1,6 +1,7 @@
 use Rattle.std.proofs.Common.{◌≡◌, ◌∙◌, ◌<◌, ap, sym, subst, arith, ◌∷◌, [], List, length, map, take, string_bytes}
+use Rattle.av_types.proofs.Exits.{on_err_from}
 use Rattle.av_exchange.specs.Steps.{with_steps, Step, Removed}
-use Rattle.av_exchange.proofs.History.{left_by, no_steps, then_steps}
+use Rattle.av_exchange.proofs.History.{no_steps, then_steps}
 use Rattle.av_exchange.proofs.Stepwise.{first_removed, one_more_removed, sweep_part}
 use Rattle.av_exchange.proofs.repairing.remove_all.Goals as goal
 
@@ -19,7 +20,7 @@ loop-name-preserved g c =
 
 pub returns-in_err-remove-clause-err : goal.returns-in_err-remove-clause-err
 returns-in_err-remove-clause-err g c =
-    left_by c.from_residual.result (record {
+    on_err_from c.from_residual.result (record {
       left = map Removed (map string_bytes (take c.loop-name.name-index c.args.names.now));
       cut_off = sweep_part (map string_bytes c.args.names.now) _ (first_removed c.loop-name.name-index c.args.names.now);
       steps = c.in_err-remove.ensures.err ∙ c.loop-name.invariant;

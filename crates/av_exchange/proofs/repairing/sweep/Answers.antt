@@ -1,6 +1,7 @@
 use Rattle.std.proofs.Common.{◌∙◌, ap, sym, [], map, string_bytes}
+use Rattle.av_types.proofs.Exits.{on_err_from}
 use Rattle.av_exchange.specs.Steps.{Removed, ended, with_steps}
-use Rattle.av_exchange.proofs.History.{left_by, no_steps}
+use Rattle.av_exchange.proofs.History.{no_steps}
 use Rattle.av_exchange.proofs.Crash.{all_some}
 use Rattle.av_exchange.proofs.Stepwise.{sweep_part}
 use Rattle.av_exchange.proofs.Swept.{none_at_all, none_behind}
@@ -8,16 +9,16 @@ use Rattle.av_exchange.proofs.repairing.sweep.Goals as goal
 
 pub returns-in_err-names-clause-err : goal.returns-in_err-names-clause-err
 returns-in_err-names-clause-err g c =
-    left_by c.from_residual.result (record { gone = []; beside = tt; stopped = record { left = []; cut_off = ended; steps = no_steps _ } })
+    on_err_from c.from_residual.result (record { gone = []; beside = tt; stopped = record { left = []; cut_off = ended; steps = no_steps _ } })
 
 pub returns-in_err-beside-clause-err : goal.returns-in_err-beside-clause-err
 returns-in_err-beside-clause-err g c =
-    left_by c.from_residual-in_err-beside.result (record { gone = []; beside = tt; stopped = record { left = []; cut_off = ended; steps = no_steps _ } })
+    on_err_from c.from_residual-in_err-beside.result (record { gone = []; beside = tt; stopped = record { left = []; cut_off = ended; steps = no_steps _ } })
 
 pub returns-in_err-sync-clause-err : goal.returns-in_err-sync-clause-err
 returns-in_err-sync-clause-err g c =
     let gone = map string_bytes c.in_ok-beside.beside.items in
-    left_by c.from_residual-in_err-sync.result (record {
+    on_err_from c.from_residual-in_err-sync.result (record {
       gone = gone;
       beside = c.in_ok-beside.ensures.beside;
       stopped = record { left = map Removed gone; cut_off = sweep_part gone _ (all_some _); steps = c.in_err-sync.ensures.err ∙ (c.in_ok-remove_all.ensures.ok ∙ ap (λ (xs : _). with_steps (g.F.Folder.history c.args.folder.now) (map Removed (map string_bytes xs))) c.as_slice.ensures.value) };

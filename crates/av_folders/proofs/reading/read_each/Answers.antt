@@ -1,18 +1,12 @@
-use Rattle.std.proofs.Common.{◌≡◌, ◌∙◌, ◌⊎◌, ◌<◌, ap, sym, subst, arith, inl, inr, ℕ, List, Result, Ok, Err, IfErr, length, map, string_bytes}
-use Rattle.std.specs.Prelude.{IsErrAnd}
+use Rattle.std.proofs.Common.{◌≡◌, ◌∙◌, ◌⊎◌, ◌<◌, ap, sym, subst, arith, inl, inr, ℕ, List, length, map, string_bytes}
 use Rattle.std.proofs.lemmas.List.{take_all}
+use Rattle.av_types.proofs.Exits.{err_from}
 use Rattle.av_types.specs.declared.fault.Fault.{Fault}
 use Rattle.av_types.specs.declared.fault.Fault.TheVariants.{OutOfMemory}
 use Rattle.av_sink.specs.Account.{IsDevice}
-use Rattle.av_commands.specs.declared.failure.Failure.{Failure}
 use Rattle.av_folders.specs.declared.reading.Listed.{Listed}
 use Rattle.av_folders.specs.Folders.{IsListed, IsUnreadFolder, memory, file}
 use Rattle.av_folders.proofs.reading.read_each.Goals as goal
-
--- an error that is passed on
-if_err : {T : Type 0} (r : Result T Failure) (e : Failure) (P : Fault → Type 0) → IsErrAnd r (λ x. x ≡ e) → P e.fault → IfErr r (λ x. P x.fault)
-if_err (Ok v) e P is p = absurd is
-if_err (Err x) e P is p = subst (λ (f : Failure). P f.fault) (sym is) p
 
 of_file : (folder : List ℕ) (l : Listed) (e : Fault) → IsListed l → (e ≡ OutOfMemory) ⊎ IsDevice (string_bytes l.name) e → IsUnreadFolder folder e
 of_file folder l e named (inl is) = memory is
@@ -23,7 +17,7 @@ returns-in_err-read_region-clause-unread g c =
     let l = c.file-item.result in
     let within : c.loop-file.file-index < length c.args.listed.now = omega arith in
     let named : IsListed l = subst (λ (x : Listed). IsListed x) (sym c.file-item.is) (c.requires c.loop-file.file-index l within) in
-    if_err c.from_residual.result c.in_err-read_region.field-0.0 (IsUnreadFolder c.args.folder.now) c.from_residual.ensures.1
+    err_from c.from_residual.result c.in_err-read_region.field-0.0 (λ e. IsUnreadFolder c.args.folder.now e.fault) c.from_residual.ensures.1
     (of_file c.args.folder.now l c.in_err-read_region.field-0.0.fault named c.in_err-read_region.ensures.unread)
 
 pub returns-clause-read : goal.returns-clause-read

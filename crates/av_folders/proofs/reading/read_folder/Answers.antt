@@ -1,19 +1,13 @@
-use Rattle.std.proofs.Common.{◌≡◌, sym, subst, inl, inr, ℕ, List, Result, Ok, Err, IfErr, All, map}
-use Rattle.std.specs.Prelude.{IsErrAnd}
+use Rattle.std.proofs.Common.{◌≡◌, sym, subst, inl, inr, ℕ, List, All, map}
 use Rattle.std.proofs.lemmas.Result.{IfOk-weaker}
 use Rattle.std.proofs.lemmas.List.Elements.{recursion_from_All}
+use Rattle.av_types.proofs.Exits.{err_from}
 use Rattle.av_types.specs.declared.place.RegionPos.{RegionPos}
 use Rattle.av_types.specs.declared.fault.Fault.{Fault}
-use Rattle.av_commands.specs.declared.failure.Failure.{Failure}
 use Rattle.av_folders.specs.declared.reading.Listed.{Listed}
 use Rattle.av_folders.specs.Folders.{AreInNameOrder, IsListed, IsFolderFault, IsUnreadFolder, memory, listing}
 use Rattle.av_folders.proofs.Orders.{in_name_order}
 use Rattle.av_folders.proofs.reading.read_folder.Goals as goal
-
--- an error that is passed on
-if_err : {T : Type 0} (r : Result T Failure) (e : Failure) (P : Fault → Type 0) → IsErrAnd r (λ x. x ≡ e) → P e.fault → IfErr r (λ x. P x.fault)
-if_err (Ok v) e P is p = absurd is
-if_err (Err x) e P is p = subst (λ (f : Failure). P f.fault) (sym is) p
 
 of_listing : (folder : List ℕ) (e : Fault) → IsFolderFault folder e → IsUnreadFolder folder e
 of_listing folder e (inl is) = memory is
@@ -24,7 +18,7 @@ read_each-files-requires g c = subst (λ (xs : List Listed). All IsListed xs) (s
 
 pub returns-in_err-listed-clause-unread : goal.returns-in_err-listed-clause-unread
 returns-in_err-listed-clause-unread g c =
-    if_err c.from_residual.result c.in_err-listed.field-0.0 (IsUnreadFolder c.args.folder.now) c.from_residual.ensures.1
+    err_from c.from_residual.result c.in_err-listed.field-0.0 (λ e. IsUnreadFolder c.args.folder.now e.fault) c.from_residual.ensures.1
     (of_listing c.args.folder.now c.in_err-listed.field-0.0.fault c.in_err-listed.ensures.unlisted)
 
 pub returns-clause-read : goal.returns-clause-read

@@ -1,7 +1,8 @@
 use Rattle.std.proofs.Common.{◌≡◌, List, [], ◌∷◌, ◌++◌, Option, get_or, subst, All}
+use Rattle.av_world.proofs.Steps.{IsSamePlaces-trans}
 use Rattle.av_world.specs.declared.parcels.Parcel.{Parcel}
 use Rattle.av_inter.specs.Cut.{AreCut, HoldsPartOf}
-use Rattle.av_inter.proofs.Cutting.{cut_less, same_trans, slot_same, all_front}
+use Rattle.av_inter.proofs.Cutting.{cut_less, slot_same, all_front}
 use Rattle.av_inter.proofs.parcels.mend_all.Goals as goal
 
 pub loop-slot-preserved : goal.loop-slot-preserved
@@ -13,5 +14,5 @@ loop-slot-preserved c =
           (all_front (HoldsPartOf c.loop-slot.world) c.pop.new.self.items c.in-Some.slot (subst (λ (l : List (Option Parcel)). All (HoldsPartOf c.loop-slot.world) l) was i.parts) k d l);
       cut = λ g secs can cut. cut_less g secs can c.loop-slot.world c.mend_one.new.world c.pop.new.self.items c.in-Some.slot
           (subst (λ (l : List (Option Parcel)). AreCut g secs c.loop-slot.world l) was (i.cut g secs can cut)) e.same e.grid;
-      same = same_trans c.args.world.now c.loop-slot.world c.mend_one.new.world i.same e.same;
+      same = IsSamePlaces-trans c.args.world.now c.loop-slot.world c.mend_one.new.world i.same e.same;
     }

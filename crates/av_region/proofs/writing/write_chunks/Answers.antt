@@ -1,7 +1,8 @@
 use Rattle.std.proofs.Common.{◌∙◌, ◌++◌, option_map, sym, ap, arith}
+use Rattle.std.proofs.lemmas.List.Folds.{flat_map-map}
 use Rattle.av_region.specs.Layout.{chunk_bytes}
 use Rattle.av_region.proofs.Positions.{fails_everywhere}
-use Rattle.av_region.proofs.Steps.{pieces_end, flat_map-map}
+use Rattle.av_region.proofs.Steps.{pieces_end}
 use Rattle.av_region.proofs.writing.write_chunks.Goals as goal
 
 pub write_chunk-requires : goal.write_chunk-requires

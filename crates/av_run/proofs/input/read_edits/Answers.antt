@@ -22,5 +22,5 @@ returns-clause-ok c =
 
 pub returns-clause-err : goal.returns-clause-err
 returns-clause-err c =
-    if_err_then c.read.result c.read.ensures.fault
+    if_err_then c.read.result c.read.ensures.err
     (λ e bad other. subst (λ (l : Pos → Bool). first_in_edits l c.args.ticks (states c.args.table.now) c.args.text.now ≡ Some e) c.requires (bad other))

@@ -1,10 +1,9 @@
 use Rattle.std.proofs.Common.{arith, ap, sym, subst, ◌∙◌, ◌*◌, ◌+◌, ℕ, List}
 use Rattle.std.specs.Prelude.{slice_range}
 use Rattle.av_types.specs.Division.{divided}
-use Rattle.av_types.specs.Places.{place_of}
+use Rattle.av_types.specs.Places.{place_of, section_index}
 use Rattle.av_types.specs.declared.place.Height.{Height}
 use Rattle.av_pack.specs.Nibbles.{nibble_at}
-use Rattle.av_chunk.specs.Rest.{offset_of}
 use Rattle.av_cells.specs.Grid.{cells_of}
 use Rattle.av_flood.specs.Light.{IsLight}
 use Rattle.av_section_light.specs.Light.{terrain_of}
@@ -24,7 +23,7 @@ returns-clause-light g c =
     record {
       sections = c.from_bytes.ensures.sections ∙ ap (λ (k : Height). k.sections) c.height-height.ensures;
       blocks = λ p e i.
-          let o = offset_of h (divided p.y 16) in
+          let o = section_index h (divided p.y 16) in
           subst (IsLight t p) (sym (ap (λ (xs : List ℕ). nibble_at (slice_range xs (2048 * o) (2048 * o + 2048)) (place_of p)) c.from_bytes.ensures.bytes
           ∙ bytes_are c.in_ok-flood.flood c.args.chunk h c.in_ok-bytes.bytes.items made.chunk made.height (omega (arith, half.count, ap (λ (k : Height). k.sections) made.height, c.in_ok-bytes.bytes.ok.0)) half.halves p e i))
           (made.light p e);

@@ -1,6 +1,7 @@
 use Rattle.std.proofs.Common.{◌∙◌, ap, sym, refl, subst, All, List, inl, inr}
 use Rattle.std.specs.List.Sorted.{IsNonDecreasingBy}
 use Rattle.std.proofs.lemmas.List.Sorted.{All-permutation}
+use Rattle.av_types.proofs.Exits.{on_err_from}
 use Rattle.av_rules.specs.Kinds.{kind_count}
 use Rattle.av_cells.specs.Kinds.{kinds_of}
 use Rattle.av_land.specs.Tick.{run, run_count}
@@ -10,7 +11,6 @@ use Rattle.av_edits.specs.declared.edit.Edit.{Edit}
 use Rattle.av_edits.specs.Numbered.{number_sets}
 use Rattle.av_serial.specs.Ready.{CanApply}
 use Rattle.av_serial.specs.Schedule.{tick_of}
-use Rattle.av_serial.proofs.RunSteps.{on_err_always}
 use Rattle.av_serial.proofs.runs.run_ticks_with.Goals as goal
 
 pub run_sorted-requires-clause-edits : goal.run_sorted-requires-clause-edits
@@ -35,7 +35,7 @@ returns-clause-count g c =
     c.in_ok-run_sorted.ensures.count ∙ (ap (λ (es : List Edit). run_count k (number_sets es) c.args.n w) c.as_slice.ensures.value ∙ same.count)
 
 pub returns-in_err-run_sorted-clause-stands : goal.returns-in_err-run_sorted-clause-stands
-returns-in_err-run_sorted-clause-stands g c = on_err_always _ (inr c.in_err-run_sorted.ensures.broken)
+returns-in_err-run_sorted-clause-stands g c = on_err_from _ (inr c.in_err-run_sorted.ensures.broken)
 
 pub returns-in_err-sorted-clause-stands : goal.returns-in_err-sorted-clause-stands
-returns-in_err-sorted-clause-stands g c = on_err_always _ (inl refl)
+returns-in_err-sorted-clause-stands g c = on_err_from _ (inl refl)

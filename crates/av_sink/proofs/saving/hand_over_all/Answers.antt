@@ -1,17 +1,11 @@
-use Rattle.std.proofs.Common.{◌≡◌, ◌∙◌, ◌∷◌, ◌++◌, List, map, ap, sym, subst, IfErr, Result, Ok, Err}
-use Rattle.std.specs.Prelude.{IsErrAnd}
+use Rattle.std.proofs.Common.{◌≡◌, ◌∙◌, ◌∷◌, ◌++◌, List, map, ap, sym, subst}
 use Rattle.std.specs.Vec.Iter.{into_iter_items}
 use Rattle.std.proofs.lemmas.List.{map-append}
-use Rattle.av_types.specs.declared.fault.Fault.{Fault}
+use Rattle.av_types.proofs.Exits.{err_from}
 use Rattle.av_sink.specs.declared.saving.Named.{Named}
 use Rattle.av_sink.specs.Account.{with_failure, with_files}
 use Rattle.av_sink.specs.Saving.{IsStopped, device, entry_of}
 use Rattle.av_sink.proofs.saving.hand_over_all.Goals as goal
-
--- an error that is passed on
-if_err : {T : Type 0} (r : Result T Fault) (e : Fault) (P : Fault → Type 0) → IsErrAnd r (λ x. x ≡ e) → P e → IfErr r P
-if_err (Ok v) e P is p = absurd is
-if_err (Err x) e P is p = subst P (sym is) p
 
 pub returns-in_err-hand_over-clause-err : goal.returns-in_err-hand_over-clause-err
 returns-in_err-hand_over-clause-err g c =
@@ -26,5 +20,5 @@ returns-in_err-hand_over-clause-err g c =
     ap (map entry_of) (sym split) ∙ map-append entry_of c.loop-file.yielded (file ∷ rest) in
     let stopped : new ≡ with_failure (with_files old (map entry_of c.loop-file.yielded)) =
     c.in_err-hand_over.ensures.failed ∙ ap with_failure c.loop-file.invariant.taken in
-    if_err c.from_residual.result e (IsStopped old new (map entry_of c.args.all.items)) c.from_residual.ensures.1
+    err_from c.from_residual.result e (IsStopped old new (map entry_of c.args.all.items)) c.from_residual.ensures.1
     (device (map entry_of c.loop-file.yielded) (map entry_of rest) (entry_of file) all c.in_err-hand_over.ensures.named stopped)

@@ -3,7 +3,6 @@ use Rattle.std.proofs.lemmas.Bool.{false≢true, ltb-true}
 use Rattle.std.proofs.lemmas.List.{length-map}
 use Rattle.std.proofs.lemmas.Option.{slice_get-map, slice_get_read, slice_get_within, same_Some}
 use Rattle.av_state.specs.States.{state_of}
-use Rattle.av_state.specs.StateList.{same_state}
 use Rattle.av_state.proofs.Numbering.{state-Decides}
 use Rattle.av_state.proofs.index.has_number.Goals as goal
 

@@ -1,6 +1,6 @@
 use Rattle.std.proofs.Common.{◌≡◌, ℤ, rules}
 use Rattle.std.proofs.lemmas.Fn.{always_returns_same}
-use Rattle.av_ticks.proofs.OrderLemmas.{sorted_is_ordered}
+use Rattle.av_types.proofs.OrderLemmas.{sorted_is_ordered}
 use Rattle.av_region_files.specs.declared.files.RegionFile.{RegionFile}
 use Rattle.av_survey.proofs.Orders.{file_order, file_laws}
 use Rattle.av_survey.proofs.listing.sorted.Goals as goal

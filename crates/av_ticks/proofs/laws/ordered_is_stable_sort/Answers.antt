@@ -1,6 +1,6 @@
 use Rattle.av_ticks.specs.Entries.{due_order, made_order}
 use Rattle.av_ticks.proofs.EntryOrder.{due_laws, made_laws}
-use Rattle.av_ticks.proofs.OrderLemmas.{stable_sort}
+use Rattle.av_types.proofs.OrderLemmas.{stable_sort}
 use Rattle.av_ticks.proofs.laws.ordered_is_stable_sort.Goals as goal
 
 pub returns-clause-due : goal.returns-clause-due

@@ -3,9 +3,9 @@ use Rattle.std.proofs.Common.{◌≡◌, ℕ, rules, ◌∙◌, ap}
 use Rattle.std.proofs.lemmas.Fn.{always_returns_same}
 use Rattle.av_types.specs.declared.tick.Made.{Made}
 use Rattle.av_ticks.specs.Entries.{made_order}
-use Rattle.av_ticks.specs.Order.{ordered}
+use Rattle.av_types.specs.Order.{ordered}
 use Rattle.av_ticks.proofs.EntryOrder.{made_laws}
-use Rattle.av_ticks.proofs.OrderLemmas.{sorted_is_ordered}
+use Rattle.av_types.proofs.OrderLemmas.{sorted_is_ordered}
 use Rattle.av_ticks.proofs.merge.merge_made.Goals as goal
 
 pub returns-clause-ok : goal.returns-clause-ok

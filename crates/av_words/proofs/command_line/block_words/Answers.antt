@@ -1,11 +1,8 @@
-use Rattle.std.proofs.Common.{refl, codes, Option, Some, None, IfNone}
+use Rattle.std.proofs.Common.{refl, codes}
+use Rattle.av_words.proofs.Nones.{if_none_from}
 use Rattle.clap.specs.Words.{found_of, rows_of}
 use Rattle.av_words.proofs.Numbers.{stored}
 use Rattle.av_words.proofs.command_line.block_words.Goals as goal
-
-if_none : {T : Type 0} (o : Option T) (P : Type 0) → P → IfNone o P
-if_none None P p = p
-if_none (Some x) P p = tt
 
 pub returns-clause-values : goal.returns-clause-values
 returns-clause-values c =
@@ -22,13 +19,13 @@ returns-clause-values c =
     )
 
 pub returns-in_err-file-clause-none : goal.returns-in_err-file-clause-none
-returns-in_err-file-clause-none c = if_none c.from_residual.result _ (λ file at table explain h. c.in_err-file.ensures.none file h.0)
+returns-in_err-file-clause-none c = if_none_from c.from_residual.result _ (λ file at table explain h. c.in_err-file.ensures.none file h.0)
 
 pub returns-in_err-x-clause-none : goal.returns-in_err-x-clause-none
-returns-in_err-x-clause-none c = if_none c.from_residual-in_err-x.result _ (λ file at table explain h. c.in_err-x.ensures.none at.x h.1)
+returns-in_err-x-clause-none c = if_none_from c.from_residual-in_err-x.result _ (λ file at table explain h. c.in_err-x.ensures.none at.x h.1)
 
 pub returns-in_err-y-clause-none : goal.returns-in_err-y-clause-none
-returns-in_err-y-clause-none c = if_none c.from_residual-in_err-y.result _ (λ file at table explain h. c.in_err-y.ensures.none at.y h.2)
+returns-in_err-y-clause-none c = if_none_from c.from_residual-in_err-y.result _ (λ file at table explain h. c.in_err-y.ensures.none at.y h.2)
 
 pub returns-in_err-z-clause-none : goal.returns-in_err-z-clause-none
-returns-in_err-z-clause-none c = if_none c.from_residual-in_err-z.result _ (λ file at table explain h. c.in_err-z.ensures.none at.z h.3)
+returns-in_err-z-clause-none c = if_none_from c.from_residual-in_err-z.result _ (λ file at table explain h. c.in_err-z.ensures.none at.z h.3)

@@ -1,9 +1,6 @@
-use Rattle.std.proofs.Common.{refl, Option, Some, None, IfNone}
+use Rattle.std.proofs.Common.{refl}
+use Rattle.av_words.proofs.Nones.{if_none_from}
 use Rattle.av_words.proofs.command_line.map_words.Goals as goal
-
-if_none : {T : Type 0} (o : Option T) (P : Type 0) → P → IfNone o P
-if_none None P p = p
-if_none (Some x) P p = tt
 
 pub returns-clause-values : goal.returns-clause-values
 returns-clause-values c = (
@@ -19,7 +16,7 @@ returns-clause-values c = (
 )
 
 pub returns-in_err-input-clause-none : goal.returns-in_err-input-clause-none
-returns-in_err-input-clause-none c = if_none c.from_residual.result _ (λ i o t k l x h. c.in_err-input.ensures.none i h.0)
+returns-in_err-input-clause-none c = if_none_from c.from_residual.result _ (λ i o t k l x h. c.in_err-input.ensures.none i h.0)
 
 pub returns-in_err-picture-clause-none : goal.returns-in_err-picture-clause-none
-returns-in_err-picture-clause-none c = if_none c.from_residual-in_err-picture.result _ (λ i o t k l x h. c.in_err-picture.ensures.none o h.1)
+returns-in_err-picture-clause-none c = if_none_from c.from_residual-in_err-picture.result _ (λ i o t k l x h. c.in_err-picture.ensures.none o h.1)

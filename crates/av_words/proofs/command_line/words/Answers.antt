@@ -1,5 +1,6 @@
 use Rattle.std.proofs.Common.{◌≡◌, ◌∙◌, ap, inl, inr, sym, subst, map, List, Bor, Result, Ok, Err, IfErr}
 use Rattle.std.specs.Prelude.{IsErrAnd}
+use Rattle.av_types.proofs.Exits.{err_from}
 use Rattle.clap.specs.declared.error.Error.{Error}
 use Rattle.clap.specs.declared.error.kind.ErrorKind.TheVariants.{OutOfMemory}
 use Rattle.clap.specs.Words.{App, HasKind, Text, fault_of, is_simple, is_simple_and_free, kind_of, subcommand_of, takes}
@@ -9,10 +10,6 @@ use Rattle.av_words.proofs.command_line.words.Goals as goal
 
 texts : List (Bor Text) → List Text
 texts words = map (λ s. s.now) words
-
-if_err : {T : Type 0} (r : Result T Error) (e : Error) (P : Error → Type 0) → IsErrAnd r (λ x. x ≡ e) → P e → IfErr r P
-if_err (Ok v) e P is p = absurd is
-if_err (Err x) e P is p = subst P (sym is) p
 
 -- want of memory is a cause by itself
 of_memory : {T : Type 0} (r : Result T Error) (words : List Text) → IsErrAnd r (λ x. kind_of x ≡ OutOfMemory) → IfErr r (IsWordsRefusal words)
@@ -32,7 +29,7 @@ returns-in_err-matches-clause-refused c =
       kind = inl (subst (λ (a : App). HasKind (fault_of a words) c.in_err-matches.field-0.0) c.in_ok-program.ensures.app
           (c.in_err-matches.ensures.kinds (ap is_simple_and_free c.in_ok-program.ensures.app)));
     } in
-    if_err c.from_residual-in_err-matches.result c.in_err-matches.field-0.0 (IsWordsRefusal words) c.from_residual-in_err-matches.ensures.1 refusal
+    err_from c.from_residual-in_err-matches.result c.in_err-matches.field-0.0 (IsWordsRefusal words) c.from_residual-in_err-matches.ensures.1 refusal
 
 pub returns-clause-refused : goal.returns-clause-refused
 unfolding texts

@@ -1,21 +1,15 @@
-use Rattle.std.proofs.Common.{[], ◌≡◌, Ok, Err, true, false, refl, sym, ◌∙◌, ap, rules, codes, option_map}
+use Rattle.std.proofs.Common.{◌≡◌, Ok, Err, true, false, refl, sym, ◌∙◌, ap, rules, codes, option_map}
 use Rattle.av_tags.specs.Place.{tag_of, blank, emptied}
 use Rattle.av_tags.specs.View.{view, views, named_views, document}
 use Rattle.av_state.specs.Table.{states}
 use Rattle.av_document.specs.Chunk.{sections, ticks, root_tags}
 use Rattle.av_document.proofs.Tags.{tag_of-place_other}
 use Rattle.av_chunk.specs.Working.{admitted}
-use Rattle.av_ticks.specs.Ticks.{entries}
-use Rattle.av_chunk.specs.declared.chunk.Chunk.{Chunk}
 use Rattle.av_chunk.specs.Rest.{opened}
-use Rattle.av_chunk.specs.Views.{cells_of}
 use Rattle.av_types.specs.declared.fault.Fault.TheVariants.{OutOfMemory}
 use Rattle.av_chunk.specs.Reading.{IsChunkRefusal, IsAdmitted}
-use Rattle.av_chunk.specs.TicksRead.{AreTicks}
-use Rattle.av_chunk.specs.SectionsRead.{AreSectionsRead}
 use Rattle.av_chunk.proofs.Rows.{items_good}
-use Rattle.av_chunk.proofs.WaterIn.{in_height, water_in}
-use Rattle.av_chunk.proofs.Assembly.{Parts, denotes, loaded, members_in-of}
+use Rattle.av_chunk.proofs.Assembly.{members_in-of, taken_apart}
 use Rattle.av_chunk.proofs.Admitted.{admitted_true, admitted_false, admitted_fault, admitted_no_memory, whatever_fault, good_sections, good_apart, good_ticks, good_list, first_loaded}
 use Rattle.av_chunk.proofs.chunk.Chunk.read.Goals as goal
 
@@ -111,66 +105,28 @@ returns-in_err-read-clause-memory c =
     let fact : IsAdmitted c.args.height c.args.place (root_tags (document c.args.root)) = rw (members_in-of root) (admitted_true c.args.height c.args.place root is) in
     whatever_fault c.from_residual-in_err-read.result (λ e. e ≡ OutOfMemory) _ fact
 
-pub mark_pending-requires-clause-inside : goal.mark_pending-requires-clause-inside
-mark_pending-requires-clause-inside c =
-    let t = c.in_ok-read.ensures.ticks in
-    rw (c.as_slice.ensures, t.water) (in_height c.args.place c.args.height _ (water_in c.args.place c.args.height [] (opened (views c.items-2.result.items)) t.good refl))
+pub assembled-requires : goal.assembled-requires
+assembled-requires c =
+    let root = named_views c.args.root.tags.items in
+    let is : admitted c.args.height c.args.place root ≡ Ok true = rw c.deref.ensures.value at (sym c.admitted.ensures) ∙ (c.in_ok-admitted.was ∙ ap Ok c.if-not-branch.false) in
+    let rows : opened (views c.items.result.items) ≡ sections root = rw c.in_ok-sections.ensures.taken at c.items.ensures.rows in
+    let taken : option_map view c.in_ok-ticks.ticks ≡ tag_of (codes "fluid_ticks") root =
+    rw c.in_ok-sections.ensures.place at c.in_ok-ticks.ensures.taken ∙ tag_of-place_other (codes "fluid_ticks") (codes "sections") blank root refl in
+    let water : opened (views c.items-2.result.items) ≡ ticks root = rw taken at c.items-2.ensures.rows in
+    let left : named_views c.emptied-2.new.tags.items ≡ emptied (codes "fluid_ticks") (emptied (codes "sections") root) = rw c.in_ok-sections.ensures.place at c.in_ok-ticks.ensures.place in
+    let apart = taken_apart c.args.place c.args.height (document c.args.root) root (states c.args.table.now) (states c.read_parts.new.table) c.emptied-2.new.tags.items c.in_ok-read.read c.in_ok-read.ticks
+    c.requires (members_in-of root) (admitted_true c.args.height c.args.place root is) left (rw rows at c.in_ok-read.ensures.sections) (rw water at c.in_ok-read.ensures.ticks) c.read_parts.new.table.numbered.bounded in
+    (document c.args.root, states c.args.table.now, states c.read_parts.new.table, apart)
 
 pub returns-clause-ok : goal.returns-clause-ok
 returns-clause-ok c =
     let root = named_views c.args.root.tags.items in
     let is : admitted c.args.height c.args.place root ≡ Ok true = rw c.deref.ensures.value at (sym c.admitted.ensures) ∙ (c.in_ok-admitted.was ∙ ap Ok c.if-not-branch.false) in
-    let a = admitted_true c.args.height c.args.place root is in
     let rows : opened (views c.items.result.items) ≡ sections root = rw c.in_ok-sections.ensures.taken at c.items.ensures.rows in
     let taken : option_map view c.in_ok-ticks.ticks ≡ tag_of (codes "fluid_ticks") root =
     rw c.in_ok-sections.ensures.place at c.in_ok-ticks.ensures.taken ∙ tag_of-place_other (codes "fluid_ticks") (codes "sections") blank root refl in
     let water : opened (views c.items-2.result.items) ≡ ticks root = rw taken at c.items-2.ensures.rows in
-    let read : AreSectionsRead c.args.height (sections root) (states c.args.table.now) (states c.read_parts.new.table) c.in_ok-read.read = rw rows at c.in_ok-read.ensures.sections in
-    let turns : AreTicks c.args.place c.args.height (ticks root) c.in_ok-read.ticks = rw water at c.in_ok-read.ensures.ticks in
-    let tags : named_views c.emptied-2.new.tags.items ≡ emptied (codes "fluid_ticks") (emptied (codes "sections") root) = rw c.in_ok-sections.ensures.place at c.in_ok-ticks.ensures.place in
-    loaded c.args.place c.args.height (document c.args.root) root (states c.args.table.now) (states c.read_parts.new.table) c.in_ok-read.read c.in_ok-read.ticks
-    (record { sections = c.mark_pending.new.sections; ticks = c.in_ok-read.ticks.water }) _
-    c.requires (members_in-of root)
-    (record {
-      admitted = a;
-      read_are = read;
-      ticks_are = turns;
-      few = c.read_parts.new.table.numbered.bounded;
-      water = refl;
-      marked = rw (← c.as_slice.ensures) c.mark_pending.ensures;
-      tags_are = tags;
-    })
-    refl refl refl
-
-pub invariant_of-result : goal.invariant_of-result
-invariant_of-result c =
-    let root = named_views c.args.root.tags.items in
-    let is : admitted c.args.height c.args.place root ≡ Ok true = rw c.deref.ensures.value at (sym c.admitted.ensures) ∙ (c.in_ok-admitted.was ∙ ap Ok c.if-not-branch.false) in
-    let a = admitted_true c.args.height c.args.place root is in
-    let rows : opened (views c.items.result.items) ≡ sections root = rw c.in_ok-sections.ensures.taken at c.items.ensures.rows in
-    let taken : option_map view c.in_ok-ticks.ticks ≡ tag_of (codes "fluid_ticks") root =
-    rw c.in_ok-sections.ensures.place at c.in_ok-ticks.ensures.taken ∙ tag_of-place_other (codes "fluid_ticks") (codes "sections") blank root refl in
-    let water : opened (views c.items-2.result.items) ≡ ticks root = rw taken at c.items-2.ensures.rows in
-    let read : AreSectionsRead c.args.height (sections root) (states c.args.table.now) (states c.read_parts.new.table) c.in_ok-read.read = rw rows at c.in_ok-read.ensures.sections in
-    let turns : AreTicks c.args.place c.args.height (ticks root) c.in_ok-read.ticks = rw water at c.in_ok-read.ensures.ticks in
-    let tags : named_views c.emptied-2.new.tags.items ≡ emptied (codes "fluid_ticks") (emptied (codes "sections") root) = rw c.in_ok-sections.ensures.place at c.in_ok-ticks.ensures.place in
-    let chunk : Chunk = record { sections = c.mark_pending.new.sections; ticks = c.in_ok-read.ticks.water } in
-    let parts : Parts c.args.place c.args.height root (states c.args.table.now) (states c.read_parts.new.table) c.in_ok-read.read c.in_ok-read.ticks chunk c.emptied-2.new.tags.items =
-    record {
-      admitted = a;
-      read_are = read;
-      ticks_are = turns;
-      few = c.read_parts.new.table.numbered.bounded;
-      water = refl;
-      marked = rw (← c.as_slice.ensures) c.mark_pending.ensures;
-      tags_are = tags;
-    } in
-    record {
-      was_read = ∣ record {
-        read = document c.args.root;
-        stored = c.requires;
-        cells = cells_of (states c.read_parts.new.table) c.args.height chunk;
-        water = entries c.in_ok-read.ticks.water;
-        denotes = denotes c.args.place c.args.height (document c.args.root) root (states c.args.table.now) (states c.read_parts.new.table) c.in_ok-read.read c.in_ok-read.ticks chunk c.emptied-2.new.tags.items parts (members_in-of root);
-      } ∣₁;
-    }
+    let left : named_views c.emptied-2.new.tags.items ≡ emptied (codes "fluid_ticks") (emptied (codes "sections") root) = rw c.in_ok-sections.ensures.place at c.in_ok-ticks.ensures.place in
+    let apart = taken_apart c.args.place c.args.height (document c.args.root) root (states c.args.table.now) (states c.read_parts.new.table) c.emptied-2.new.tags.items c.in_ok-read.read c.in_ok-read.ticks
+    c.requires (members_in-of root) (admitted_true c.args.height c.args.place root is) left (rw rows at c.in_ok-read.ensures.sections) (rw water at c.in_ok-read.ensures.ticks) c.read_parts.new.table.numbered.bounded in
+    c.assembled.ensures (document c.args.root) (states c.args.table.now) (states c.read_parts.new.table) apart

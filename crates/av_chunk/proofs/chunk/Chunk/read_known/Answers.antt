@@ -1,5 +1,5 @@
 -- The parts of a chunk that a table knows, put together.
-use Rattle.std.proofs.Common.{[], List, ◌≡◌, Option, Some, Result, Ok, true, false, refl, sym, ◌∙◌, ap, subst, codes, option_map, IfSome, IfOk}
+use Rattle.std.proofs.Common.{List, ◌≡◌, Option, Some, Result, Ok, true, false, refl, sym, ◌∙◌, ap, subst, codes, option_map, IfSome, IfOk}
 use Rattle.av_types.specs.declared.place.ChunkPos.{ChunkPos}
 use Rattle.av_types.specs.declared.place.Height.{Height}
 use Rattle.av_types.specs.declared.fault.Fault.{Fault}
@@ -9,17 +9,13 @@ use Rattle.av_tags.specs.View.{view, views, named_views, document}
 use Rattle.av_state.specs.Table.{states}
 use Rattle.av_document.specs.Chunk.{sections, ticks}
 use Rattle.av_document.proofs.Tags.{tag_of-place_other}
-use Rattle.av_ticks.specs.Ticks.{entries}
-use Rattle.av_chunk.specs.declared.chunk.Chunk.{Chunk}
 use Rattle.av_chunk.specs.declared.water.Ticks.{Ticks}
 use Rattle.av_chunk.specs.Rest.{opened}
-use Rattle.av_chunk.specs.Views.{cells_of}
 use Rattle.av_chunk.specs.Working.{admitted}
 use Rattle.av_chunk.specs.TicksRead.{AreTicks}
 use Rattle.av_chunk.specs.SectionsRead.{AreSectionsRead}
 use Rattle.av_chunk.proofs.Rows.{items_good}
-use Rattle.av_chunk.proofs.WaterIn.{in_height, water_in}
-use Rattle.av_chunk.proofs.Assembly.{Parts, denotes, loaded, members_in-of}
+use Rattle.av_chunk.proofs.Assembly.{members_in-of, taken_apart}
 use Rattle.av_chunk.proofs.Admitted.{admitted_true, admitted_false, good_sections, good_apart, good_ticks, good_list}
 use Rattle.av_chunk.proofs.chunk.Chunk.read_known.Goals as goal
 
@@ -68,72 +64,34 @@ known_sections-requires-clause-apart c =
     let rows : opened (views c.items.result.items) ≡ sections root = rw c.in_ok-sections.ensures.taken at c.items.ensures.rows in
     rw rows (good_apart c.args.height root a.shape)
 
-pub mark_pending-requires-clause-inside : goal.mark_pending-requires-clause-inside
-mark_pending-requires-clause-inside c =
+pub assembled-requires : goal.assembled-requires
+assembled-requires c =
+    let root = named_views c.args.root.tags.items in
+    let is : admitted c.args.height c.args.place root ≡ Ok true = rw c.deref.ensures.value at (sym c.admitted.ensures) ∙ (c.in-Ok.is ∙ ap Ok c.if-not-full.false) in
+    let st = states c.args.table.now in
+    let rows : opened (views c.items.result.items) ≡ sections root = rw c.in_ok-sections.ensures.taken at c.items.ensures.rows in
+    let taken : option_map view c.in_ok-ticks.ticks ≡ tag_of (codes "fluid_ticks") root =
+    rw c.in_ok-sections.ensures.place at c.in_ok-ticks.ensures.taken ∙ tag_of-place_other (codes "fluid_ticks") (codes "sections") blank root refl in
+    let water : opened (views c.items-2.result.items) ≡ ticks root = rw taken at c.items-2.ensures.rows in
+    let found = subst (λ o. IfSome o (AreSectionsRead c.args.height (opened (views c.items.result.items)) st st)) c.in-Some.is c.in_ok-read.ensures in
     let turns = known_ticks c.args.place c.args.height (opened (views c.items-2.result.items)) c.read_ticks-ticks.result c.in_ok-ticks-2.field-0 c.in-Some-2.ticks c.in-Some-2.is c.in_ok-ticks-2.ensures.ok c.read_ticks-ticks.ensures.ok in
-    rw (c.as_slice.ensures, turns.water) (in_height c.args.place c.args.height _ (water_in c.args.place c.args.height [] (opened (views c.items-2.result.items)) turns.good refl))
+    let left : named_views c.emptied-2.new.tags.items ≡ emptied (codes "fluid_ticks") (emptied (codes "sections") root) = rw c.in_ok-sections.ensures.place at c.in_ok-ticks.ensures.place in
+    let apart = taken_apart c.args.place c.args.height (document c.args.root) root st st c.emptied-2.new.tags.items c.in-Some.read c.in-Some-2.ticks
+    c.requires (members_in-of root) (admitted_true c.args.height c.args.place root is) left (rw rows at found) (rw water at turns) c.args.table.now.numbered.bounded in
+    (document c.args.root, st, st, apart)
 
 pub returns : goal.returns
 returns c =
     let root = named_views c.args.root.tags.items in
     let is : admitted c.args.height c.args.place root ≡ Ok true = rw c.deref.ensures.value at (sym c.admitted.ensures) ∙ (c.in-Ok.is ∙ ap Ok c.if-not-full.false) in
-    let a = admitted_true c.args.height c.args.place root is in
     let st = states c.args.table.now in
     let rows : opened (views c.items.result.items) ≡ sections root = rw c.in_ok-sections.ensures.taken at c.items.ensures.rows in
     let taken : option_map view c.in_ok-ticks.ticks ≡ tag_of (codes "fluid_ticks") root =
     rw c.in_ok-sections.ensures.place at c.in_ok-ticks.ensures.taken ∙ tag_of-place_other (codes "fluid_ticks") (codes "sections") blank root refl in
     let water : opened (views c.items-2.result.items) ≡ ticks root = rw taken at c.items-2.ensures.rows in
     let found = subst (λ o. IfSome o (AreSectionsRead c.args.height (opened (views c.items.result.items)) st st)) c.in-Some.is c.in_ok-read.ensures in
-    let read : AreSectionsRead c.args.height (sections root) st st c.in-Some.read = rw rows at found in
     let turns = known_ticks c.args.place c.args.height (opened (views c.items-2.result.items)) c.read_ticks-ticks.result c.in_ok-ticks-2.field-0 c.in-Some-2.ticks c.in-Some-2.is c.in_ok-ticks-2.ensures.ok c.read_ticks-ticks.ensures.ok in
-    let kept : AreTicks c.args.place c.args.height (ticks root) c.in-Some-2.ticks = rw water at turns in
-    let tags : named_views c.emptied-2.new.tags.items ≡ emptied (codes "fluid_ticks") (emptied (codes "sections") root) = rw c.in_ok-sections.ensures.place at c.in_ok-ticks.ensures.place in
-    let chunk : Chunk = record { sections = c.mark_pending.new.sections; ticks = c.in-Some-2.ticks.water } in
-    let parts : Parts c.args.place c.args.height root st st c.in-Some.read c.in-Some-2.ticks chunk c.emptied-2.new.tags.items =
-    record {
-      admitted = a;
-      read_are = read;
-      ticks_are = kept;
-      few = c.args.table.now.numbered.bounded;
-      water = refl;
-      marked = rw (← c.as_slice.ensures) c.mark_pending.ensures;
-      tags_are = tags;
-    } in
-    loaded c.args.place c.args.height (document c.args.root) root st st c.in-Some.read c.in-Some-2.ticks chunk _
-    c.requires (members_in-of root) parts refl refl refl
-
-pub invariant_of-result : goal.invariant_of-result
-invariant_of-result c =
-    let root = named_views c.args.root.tags.items in
-    let is : admitted c.args.height c.args.place root ≡ Ok true = rw c.deref.ensures.value at (sym c.admitted.ensures) ∙ (c.in-Ok.is ∙ ap Ok c.if-not-full.false) in
-    let a = admitted_true c.args.height c.args.place root is in
-    let st = states c.args.table.now in
-    let rows : opened (views c.items.result.items) ≡ sections root = rw c.in_ok-sections.ensures.taken at c.items.ensures.rows in
-    let taken : option_map view c.in_ok-ticks.ticks ≡ tag_of (codes "fluid_ticks") root =
-    rw c.in_ok-sections.ensures.place at c.in_ok-ticks.ensures.taken ∙ tag_of-place_other (codes "fluid_ticks") (codes "sections") blank root refl in
-    let water : opened (views c.items-2.result.items) ≡ ticks root = rw taken at c.items-2.ensures.rows in
-    let found = subst (λ o. IfSome o (AreSectionsRead c.args.height (opened (views c.items.result.items)) st st)) c.in-Some.is c.in_ok-read.ensures in
-    let read : AreSectionsRead c.args.height (sections root) st st c.in-Some.read = rw rows at found in
-    let turns = known_ticks c.args.place c.args.height (opened (views c.items-2.result.items)) c.read_ticks-ticks.result c.in_ok-ticks-2.field-0 c.in-Some-2.ticks c.in-Some-2.is c.in_ok-ticks-2.ensures.ok c.read_ticks-ticks.ensures.ok in
-    let kept : AreTicks c.args.place c.args.height (ticks root) c.in-Some-2.ticks = rw water at turns in
-    let tags : named_views c.emptied-2.new.tags.items ≡ emptied (codes "fluid_ticks") (emptied (codes "sections") root) = rw c.in_ok-sections.ensures.place at c.in_ok-ticks.ensures.place in
-    let chunk : Chunk = record { sections = c.mark_pending.new.sections; ticks = c.in-Some-2.ticks.water } in
-    let parts : Parts c.args.place c.args.height root st st c.in-Some.read c.in-Some-2.ticks chunk c.emptied-2.new.tags.items =
-    record {
-      admitted = a;
-      read_are = read;
-      ticks_are = kept;
-      few = c.args.table.now.numbered.bounded;
-      water = refl;
-      marked = rw (← c.as_slice.ensures) c.mark_pending.ensures;
-      tags_are = tags;
-    } in
-    record {
-      was_read = ∣ record {
-        read = document c.args.root;
-        stored = c.requires;
-        cells = cells_of st c.args.height chunk;
-        water = entries c.in-Some-2.ticks.water;
-        denotes = denotes c.args.place c.args.height (document c.args.root) root st st c.in-Some.read c.in-Some-2.ticks chunk c.emptied-2.new.tags.items parts (members_in-of root);
-      } ∣₁;
-    }
+    let left : named_views c.emptied-2.new.tags.items ≡ emptied (codes "fluid_ticks") (emptied (codes "sections") root) = rw c.in_ok-sections.ensures.place at c.in_ok-ticks.ensures.place in
+    let apart = taken_apart c.args.place c.args.height (document c.args.root) root st st c.emptied-2.new.tags.items c.in-Some.read c.in-Some-2.ticks
+    c.requires (members_in-of root) (admitted_true c.args.height c.args.place root is) left (rw rows at found) (rw water at turns) c.args.table.now.numbered.bounded in
+    c.assembled.ensures (document c.args.root) st st apart

@@ -1,15 +1,7 @@
-use Rattle.std.proofs.Common.{◌≡◌, Bool, true, false, not, refl, sym, ◌∙◌, ◌&&◌}
-use Rattle.std.proofs.lemmas.Bool.{and_parts, true≢false}
+use Rattle.std.proofs.Common.{◌≡◌, Bool, true, false, sym, ◌∙◌, ◌&&◌}
+use Rattle.std.proofs.lemmas.Bool.{and_parts, true≢false, not-false, not-true}
 use Rattle.av_drop.specs.Board.{is_on}
 use Rattle.av_drop.proofs.around.Around.drops_at.Goals as goal
-
-not_true : (b : Bool) → not b ≡ true → b ≡ false
-not_true true h = absurd (true≢false (sym h))
-not_true false h = refl
-
-not_false : (b : Bool) → not b ≡ false → b ≡ true
-not_false true h = refl
-not_false false h = absurd (true≢false h)
 
 second_false : (a b r : Bool) → r ≡ (a && b) → r ≡ false → a ≡ true → b ≡ false
 second_false true b r e f h = sym e ∙ f
@@ -17,11 +9,11 @@ second_false false b r e f h = absurd (true≢false (sym h))
 
 pub returns-clause-some : goal.returns-clause-some
 returns-clause-some c h =
-    let there = c.is_empty.ensures.some (not_true c.is_empty.result h) in
+    let there = c.is_empty.ensures.some (not-true c.is_empty.result h) in
     let parts = and_parts (is_on c.args.places there.place) (is_on c.args.self.drops there.place) (sym (c.among-dropping.ensures there.place) ∙ there.marked) in
     record { place = there.place; first = parts.0; second = parts.1 }
 
 pub returns-clause-none : goal.returns-clause-none
 returns-clause-none c h i on =
     second_false (is_on c.args.places i) (is_on c.args.self.drops i) (is_on c.among-dropping.result i) (c.among-dropping.ensures i)
-    (c.is_empty.ensures.none (not_false c.is_empty.result h) i) on
+    (c.is_empty.ensures.none (not-false c.is_empty.result h) i) on

@@ -1,4 +1,4 @@
-use Rattle.av_drop.proofs.Marks.{left_first, left_less}
+use Rattle.av_drop.proofs.Marks.{left_first}
 use Rattle.av_drop.proofs.around.Around.read.Goals as goal
 
 pub loop-middle-init : goal.loop-middle-init

@@ -1,4 +1,3 @@
-use Rattle.std.proofs.Common.{◌<◌}
 use Rattle.av_cells.specs.Kinds.{kinds_of}
 use Rattle.av_drop.specs.Fronts.{AreSeen}
 use Rattle.av_drop.proofs.Marks.{AreLeft}

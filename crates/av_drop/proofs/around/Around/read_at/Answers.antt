@@ -1,9 +1,7 @@
-use Rattle.std.proofs.Common.{◌≡◌, ℕ, ◌||◌, Bool, true, false, nat_eq, refl, sym, ap, subst, ◌∙◌, arith}
-use Rattle.std.proofs.lemmas.Bool.{true≢false}
-use Rattle.std.proofs.lemmas.Bool.Decides.{nat_tests}
+use Rattle.std.proofs.Common.{ap, ◌∙◌}
 use Rattle.av_cells.specs.Kinds.{kinds_of}
 use Rattle.av_cells.specs.Rule.{can_pass, can_drop}
-use Rattle.av_drop.specs.Board.{spot, is_on}
+use Rattle.av_drop.specs.Board.{spot}
 use Rattle.av_drop.specs.declared.board.Board.{Board}
 use Rattle.av_drop.proofs.Marks.{marked_one, kept_off}
 use Rattle.av_drop.proofs.around.Around.read_at.Goals as goal

@@ -1,6 +1,6 @@
 use Rattle.std.proofs.Common.{◌≡◌, ℤ, rules, ◌∙◌, ap, map}
 use Rattle.std.proofs.lemmas.Fn.{always_returns_same}
-use Rattle.av_ticks.proofs.OrderLemmas.{sorted_is_ordered}
+use Rattle.av_types.proofs.OrderLemmas.{sorted_is_ordered}
 use Rattle.av_region_files.specs.declared.files.RegionFile.{RegionFile}
 use Rattle.av_image.specs.Views.{file_in}
 use Rattle.av_image.proofs.Sorting.{file_order, file_laws, map_ordered}

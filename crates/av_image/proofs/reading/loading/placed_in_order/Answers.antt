@@ -1,6 +1,6 @@
 use Rattle.std.proofs.Common.{◌≡◌, ℤ, rules}
 use Rattle.std.proofs.lemmas.Fn.{always_returns_same}
-use Rattle.av_ticks.proofs.OrderLemmas.{sorted_is_ordered}
+use Rattle.av_types.proofs.OrderLemmas.{sorted_is_ordered}
 use Rattle.av_image.specs.declared.reading.splits.Placed.{Placed}
 use Rattle.av_image.specs.Loading.{placed_order}
 use Rattle.av_image.proofs.Sorting.{placed_laws}

@@ -5,7 +5,7 @@ use Rattle.av_state.specs.Table.{states}
 use Rattle.av_state.specs.BlockState.{BlockState}
 use Rattle.av_state.specs.StateList.{first_states}
 use Rattle.av_world.specs.Inserted.{IsNewChunk}
-use Rattle.av_ticks.specs.Order.{ordered}
+use Rattle.av_types.specs.Order.{ordered}
 use Rattle.av_files.specs.Files.{File, in_order, regions_rise}
 use Rattle.av_files.specs.FirstFault.{AreFilesGood}
 use Rattle.av_image.specs.declared.reading.splits.Placed.{Placed}

@@ -1,8 +1,8 @@
 use Rattle.std.proofs.Common.{◌≢◌, ◌<◌, ◌+◌, get_or, sym, subst, arith}
+use Rattle.av_types.proofs.Exits.{err_from}
 use Rattle.av_types.specs.Places.{chunk_at}
 use Rattle.av_types.specs.declared.fault.Fault.TheVariants.{OutOfMemory}
 use Rattle.av_state.specs.Table.{states}
-use Rattle.av_chunk.proofs.Found.{err_from}
 use Rattle.av_section.proofs.Numbers.{OnlyGrows-trans}
 use Rattle.av_image.specs.Ahead.{AreAhead}
 use Rattle.av_image.specs.Placed.{file_of}

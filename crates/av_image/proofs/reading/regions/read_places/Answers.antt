@@ -1,7 +1,7 @@
 use Rattle.std.proofs.Common.{◌≡◌, ◌≢◌, subst, arith}
+use Rattle.av_types.proofs.Exits.{err_from}
 use Rattle.av_types.specs.declared.fault.Fault.TheVariants.{OutOfMemory}
 use Rattle.av_state.specs.Table.{states}
-use Rattle.av_chunk.proofs.Found.{err_from}
 use Rattle.av_files.specs.Layout.{indices}
 use Rattle.av_files.specs.FirstFault.{IsFirstOfPlaces}
 use Rattle.av_image.specs.Placed.{file_of}

@@ -1,8 +1,8 @@
 use Rattle.std.proofs.Common.{◌≡◌, ◌≢◌, ◌∙◌, refl, subst}
+use Rattle.av_types.proofs.Exits.{err_from}
 use Rattle.av_types.specs.declared.fault.Fault.TheVariants.{OutOfMemory}
 use Rattle.av_region.specs.Region.{IsShort}
 use Rattle.av_state.specs.Table.{states}
-use Rattle.av_chunk.proofs.Found.{err_from}
 use Rattle.av_files.specs.Layout.{indices}
 use Rattle.av_files.specs.FirstFault.{IsFirstOfFile, IsFirstOfPlaces, place}
 use Rattle.av_image.specs.Placed.{file_of, ArePlacesRead, are_stamps}

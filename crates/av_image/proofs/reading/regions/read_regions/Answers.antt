@@ -4,7 +4,6 @@ use Rattle.std.proofs.lemmas.List.{map-append}
 use Rattle.av_types.specs.declared.fault.Fault.TheVariants.{OutOfMemory}
 use Rattle.av_types.specs.Places.{IsInLimits}
 use Rattle.av_state.specs.Table.{states}
-use Rattle.av_chunk.proofs.Found.{err_from}
 use Rattle.av_section.proofs.Numbers.{OnlyGrows-trans}
 use Rattle.av_files.specs.Files.{File}
 use Rattle.av_files.specs.FirstFault.{IsFirstOfFiles}
@@ -14,6 +13,7 @@ use Rattle.av_image.specs.Ways.{FilesSoFar}
 use Rattle.av_image.proofs.Ways.{files_stop, files_more}
 use Rattle.std.specs.List.{All}
 use Rattle.std.proofs.lemmas.List.Elements.{All-tail}
+use Rattle.av_types.proofs.Exits.{err_from}
 use Rattle.av_image.proofs.reading.regions.read_regions.Goals as goal
 
 abbrev file_in : RegionFile → File

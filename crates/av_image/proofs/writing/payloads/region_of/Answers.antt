@@ -1,11 +1,11 @@
 use Rattle.std.proofs.Common.{◌≡◌, ◌≢◌, ◌∙◌, ℕ, List, Option, Some, None, Result, Ok, Err, IfErr, map, refl, ap, sym, subst}
 use Rattle.std.specs.Prelude.{option_map, MatchOption}
+use Rattle.av_types.proofs.Exits.{err_from}
 use Rattle.av_types.specs.Places.{chunk_at}
 use Rattle.av_types.specs.declared.place.RegionPos.{RegionPos}
 use Rattle.av_types.specs.declared.fault.Fault.{Fault}
 use Rattle.av_types.specs.declared.fault.Fault.TheVariants.{OutOfMemory, ChunkTooLarge}
 use Rattle.av_region.specs.Layout.{region_bytes, first_too_large}
-use Rattle.av_chunk.proofs.Found.{err_from}
 use Rattle.av_files.specs.Files.{File}
 use Rattle.av_image.specs.SavingSteps.{payload_items, too_large_among}
 use Rattle.av_image.proofs.writing.payloads.region_of.Goals as goal

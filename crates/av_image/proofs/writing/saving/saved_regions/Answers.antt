@@ -1,8 +1,8 @@
 use Rattle.std.proofs.Common.{◌≡◌, ◌≢◌, ◌∙◌, ◌∷◌, [], List, Some, map, length, get_or, ◌<◌, ap, subst, arith}
 use Rattle.std.specs.Prelude.{option_map}
 use Rattle.std.proofs.lemmas.List.{map-append}
+use Rattle.av_types.proofs.Exits.{err_from}
 use Rattle.av_types.specs.declared.fault.Fault.TheVariants.{OutOfMemory, ChunkTooLarge}
-use Rattle.av_chunk.proofs.Found.{err_from}
 use Rattle.av_image.specs.declared.rest.RegionRest.{RegionRest}
 use Rattle.av_image.specs.Views.{file_in}
 use Rattle.av_image.specs.Saving.{unsaved}

@@ -3,7 +3,7 @@ use Rattle.std.proofs.lemmas.Bool.{true≢false}
 use Rattle.av_types.specs.declared.tick.Made.{Made}
 use Rattle.av_rules.specs.Kinds.{kind_count}
 use Rattle.av_ticks.specs.Entries.{made_order}
-use Rattle.av_ticks.specs.Order.{ordered}
+use Rattle.av_types.specs.Order.{ordered}
 use Rattle.av_cells.specs.World.{listed_all}
 use Rattle.av_world.specs.Appended.{entries_made}
 use Rattle.av_world.specs.Views.{blocks, lists, height_of, positions_of}

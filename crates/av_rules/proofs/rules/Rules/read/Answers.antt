@@ -3,7 +3,8 @@ use Rattle.std.proofs.lemmas.Bool.{false≢true}
 use Rattle.av_types.specs.declared.fault.Fault.{Fault}
 use Rattle.av_types.specs.declared.fault.Fault.TheVariants.{BadTable}
 use Rattle.av_rules.specs.Reads.{Reads}
-use Rattle.av_rules.specs.Document.{◌>>=◌, table_in, table_spelled}
+use Rattle.av_types.specs.Options.{◌>>=◌}
+use Rattle.av_rules.specs.Document.{table_in, table_spelled}
 use Rattle.av_rules.specs.declared.rules.Rules.{Rules}
 use Rattle.av_rules.specs.Rows.{BlockTable}
 use Rattle.av_rules.specs.Tables.{table_of}

@@ -1,4 +1,4 @@
-use Rattle.std.proofs.Common.{◌≡◌, ◌∙◌, ℕ, length, map, ap, sym, Some, slice_get, arith}
+use Rattle.std.proofs.Common.{◌∙◌, map, ap, slice_get, arith}
 use Rattle.std.proofs.lemmas.List.{length-map}
 use Rattle.av_state.specs.States.{state_of}
 use Rattle.av_state.proofs.Placing.{absent_free, absent_in_both}

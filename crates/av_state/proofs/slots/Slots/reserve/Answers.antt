@@ -1,4 +1,4 @@
-use Rattle.av_state.proofs.Seated.{seated-doubled, seated-same}
+use Rattle.av_state.proofs.Seated.{seated-doubled}
 use Rattle.std.proofs.Common.{◌∙◌, ◌≡◌, ◌+◌, ap, sym}
 use Rattle.av_state.proofs.slots.Slots.reserve.Goals as goal
 

@@ -3,9 +3,9 @@ use Rattle.std.proofs.Common.{◌≡◌, ℤ, filter, refl, rules, ◌∙◌, ap
 use Rattle.std.proofs.lemmas.Fn.{always_returns_same}
 use Rattle.av_types.specs.declared.tick.Entry.{Entry}
 use Rattle.av_ticks.specs.Entries.{is_due, due_order}
-use Rattle.av_ticks.specs.Order.{ordered}
+use Rattle.av_types.specs.Order.{ordered}
 use Rattle.av_ticks.proofs.EntryOrder.{due_laws}
-use Rattle.av_ticks.proofs.OrderLemmas.{sorted_is_ordered}
+use Rattle.av_types.proofs.OrderLemmas.{sorted_is_ordered}
 use Rattle.av_ticks.proofs.list.TickList.take_due.Goals as goal
 
 pub returns-clause-ok : goal.returns-clause-ok

@@ -1,4 +1,5 @@
 use Rattle.std.proofs.Common.{◌≡◌, ◌<◌, ℕ, Option, length, length-set, slice_set, sym, subst, false, rules, refl, arith, IsTrue, All}
+use Rattle.std.proofs.lemmas.Result.{on_ok_weaker}
 use Rattle.av_section.specs.declared.section.Section.{Section}
 use Rattle.av_ticks.specs.Ticks.{entries}
 use Rattle.av_cells.specs.Grid.{cells_of, Grid, is_here}
@@ -6,7 +7,6 @@ use Rattle.av_world.specs.Sections.{CanSetIn, filling_in}
 use Rattle.av_world.specs.Changes.{HaveNumbers}
 use Rattle.av_world.specs.Parts.{index, part_at}
 use Rattle.av_world.proofs.Kept.{keeps_prepared, have_numbers, have_if}
-use Rattle.av_world.proofs.Steps.{on_ok}
 use Rattle.av_world.proofs.OnePart.{part_was, part_is, part_kept, each_part, parcel_with}
 use Rattle.av_world.proofs.parcels.Parcel.prepare_section.Goals as goal
 
@@ -41,9 +41,8 @@ returns-clause-prepared c =
     let w = c.args.self.now in let at = w.positions.items in let slots = w.sections.items in let s = c.args.at in let i = c.slot_of-index.result in let old = c.index_mut.result.now in let new = c.prepare_slot.new.slot in
     let is : i ≡ index at s = c.slot_of-index.ensures in
     let below : i < length slots = search rules in
-    on_ok c.prepare_slot.result (HaveNumbers new c.args.numbers.now) _ c.prepare_slot.ensures.ok
-    (λ have here. have_numbers (part_at at (slice_set slots i new) s) c.args.numbers.now here
-    (subst (λ (o : Option Section). HaveNumbers o c.args.numbers.now) (sym (part_is at slots s i old w.lawful.parallel is below c.index_mut.ensures.value new)) have))
+    on_ok_weaker {P = HaveNumbers new c.args.numbers.now} c.prepare_slot.result (λ have here. have_numbers (part_at at (slice_set slots i new) s) c.args.numbers.now here
+    (subst (λ (o : Option Section). HaveNumbers o c.args.numbers.now) (sym (part_is at slots s i old w.lawful.parallel is below c.index_mut.ensures.value new)) have)) c.prepare_slot.ensures.ok
 
 pub returns-clause-succeeds : goal.returns-clause-succeeds
 returns-clause-succeeds c =

@@ -3,7 +3,6 @@ use Rattle.av_types.specs.Places.{section_of}
 use Rattle.av_section.specs.declared.section.Section.{Section}
 use Rattle.av_ticks.specs.Ticks.{entries}
 use Rattle.av_cells.specs.World as cells
-use Rattle.av_cells.specs.World.{with_number}
 use Rattle.av_cells.specs.Grid.{is_here}
 use Rattle.av_world.specs.Sections.{CanSetIn}
 use Rattle.av_world.specs.Parts.{index, part_at, part_grid}

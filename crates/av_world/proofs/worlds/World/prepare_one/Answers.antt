@@ -1,12 +1,13 @@
 use Rattle.std.proofs.Common.{ℕ, sym, All, subst, List, [], ◌∷◌, IsTrue}
 use Rattle.std.proofs.lemmas.List.Elements.{All-weaker}
+use Rattle.std.proofs.lemmas.Result.{on_ok_weaker}
 use Rattle.av_types.specs.declared.place.Pos.{Pos}
 use Rattle.av_types.specs.declared.place.SectionPos.{SectionPos}
 use Rattle.av_cells.specs.Grid.{is_here}
 use Rattle.av_cells.specs.Positions.{around}
 use Rattle.av_world.specs.Views.{grid, CanSetAt}
 use Rattle.av_world.specs.Turned.{HasRoomAt}
-use Rattle.av_world.proofs.Steps.{not_refused, IsWorldKept-trans, numbers_last, room_lasts, in_ok, on_ok}
+use Rattle.av_world.proofs.Steps.{not_refused, IsWorldKept-trans, numbers_last, room_lasts, in_ok}
 use Rattle.av_world.proofs.worlds.World.prepare_one.Goals as goal
 
 pub returns-clause-room : goal.returns-clause-room
@@ -19,8 +20,7 @@ returns-clause-room c =
 pub returns-clause-prepared : goal.returns-clause-prepared
 returns-clause-prepared c =
     let new = c.prepare_section.new.self in
-    on_ok c.prepare_section.result (IsTrue (is_here (grid new c.section.result)) → All (CanSetAt new c.section.result) (c.args.number ∷ [])) _ c.prepare_section.ensures.prepared
-    (λ h. subst (λ (s : SectionPos). IsTrue (is_here (grid new s)) → All (CanSetAt new s) (c.args.number ∷ [])) c.section.ensures h)
+    on_ok_weaker {P = IsTrue (is_here (grid new c.section.result)) → All (CanSetAt new c.section.result) (c.args.number ∷ [])} c.prepare_section.result (λ h. subst (λ (s : SectionPos). IsTrue (is_here (grid new s)) → All (CanSetAt new s) (c.args.number ∷ [])) c.section.ensures h) c.prepare_section.ensures.prepared
 
 pub returns-in_err-reserve_all-clause-succeeds : goal.returns-in_err-reserve_all-clause-succeeds
 returns-in_err-reserve_all-clause-succeeds c =

@@ -1,4 +1,5 @@
 use Rattle.std.proofs.Common.{◌≡◌, ◌<◌, ◌≤◌, ℕ, length, slice_set, subst, sym, ap, refl, arith, rules, true, Option, IsTrue, All}
+use Rattle.std.proofs.lemmas.Result.{on_ok_weaker}
 use Rattle.av_types.specs.Places.{is_section_of}
 use Rattle.av_ticks.specs.Ticks.{entries, room}
 use Rattle.av_section.specs.declared.section.Section.{Section}
@@ -8,7 +9,6 @@ use Rattle.av_world.specs.Changes.{HaveNumbers}
 use Rattle.av_world.specs.Lawful.{IsTied}
 use Rattle.av_world.proofs.Moved.{chunk_at, layer_of, section_was, section_is, grid_kept, each_moved, lists_kept, room_each, count_kept}
 use Rattle.av_world.proofs.Kept.{keeps_prepared, have_numbers, have_if}
-use Rattle.av_world.proofs.Steps.{on_ok}
 use Rattle.av_world.proofs.Tied.{lawful_same}
 use Rattle.av_world.proofs.worlds.World.prepare_section.Goals as goal
 
@@ -57,8 +57,7 @@ returns-clause-prepared c =
     let high : is_section_of h s.y ≡ true = search rules in
     let a = chunk_at h ps cs w.lawful s i k chunk c.slot_of-chunk.ensures below c.index_mut.ensures.value high c.offset-offset.ensures.value in
     let new = c.prepare_in.new.chunk in
-    on_ok c.prepare_in.result (HaveNumbers (layer_of new k) c.args.numbers.now) _ c.prepare_in.ensures.ok
-    (λ have here. have_numbers (section_at h ps (slice_set cs i new) s) c.args.numbers.now here (subst (λ (o : Option Section). HaveNumbers o c.args.numbers.now) (sym (section_is h ps cs s i k chunk a new c.prepare_in.ensures.slots)) have))
+    on_ok_weaker {P = HaveNumbers (layer_of new k) c.args.numbers.now} c.prepare_in.result (λ have here. have_numbers (section_at h ps (slice_set cs i new) s) c.args.numbers.now here (subst (λ (o : Option Section). HaveNumbers o c.args.numbers.now) (sym (section_is h ps cs s i k chunk a new c.prepare_in.ensures.slots)) have)) c.prepare_in.ensures.ok
 
 pub returns-clause-succeeds : goal.returns-clause-succeeds
 returns-clause-succeeds c =

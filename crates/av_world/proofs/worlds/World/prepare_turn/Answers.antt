@@ -1,8 +1,9 @@
 use Rattle.std.proofs.Common.{ℕ, sym, All, subst, List, [], ◌∷◌}
 use Rattle.std.proofs.lemmas.List.Elements.{All-weaker}
+use Rattle.std.proofs.lemmas.Result.{on_ok_weaker}
 use Rattle.av_types.specs.declared.place.Pos.{Pos}
 use Rattle.av_world.specs.Turned.{corners, turned, HasRoomAt, CanSetAll}
-use Rattle.av_world.proofs.Steps.{not_refused, numbers_last, room_lasts, in_ok, on_ok}
+use Rattle.av_world.proofs.Steps.{not_refused, numbers_last, room_lasts, in_ok}
 use Rattle.av_world.proofs.worlds.World.prepare_turn.Goals as goal
 
 pub returns-clause-room : goal.returns-clause-room
@@ -14,8 +15,7 @@ returns-clause-room c =
 pub returns-clause-prepared : goal.returns-clause-prepared
 returns-clause-prepared c =
     let new = c.prepare_all.new.self in
-    on_ok c.prepare_all.result _ _ c.prepare_all.ensures.prepared
-    (λ h. subst (λ (xs : List Pos). All (CanSetAll new (0 ∷ 1 ∷ 2 ∷ 3 ∷ 4 ∷ 5 ∷ 6 ∷ 7 ∷ 8 ∷ 9 ∷ [])) xs) c.turned.ensures h)
+    on_ok_weaker c.prepare_all.result (λ h. subst (λ (xs : List Pos). All (CanSetAll new (0 ∷ 1 ∷ 2 ∷ 3 ∷ 4 ∷ 5 ∷ 6 ∷ 7 ∷ 8 ∷ 9 ∷ [])) xs) c.turned.ensures h) c.prepare_all.ensures.prepared
 
 pub returns-in_err-reserve_reach-clause-succeeds : goal.returns-in_err-reserve_reach-clause-succeeds
 returns-in_err-reserve_reach-clause-succeeds c = λ room numbers. not_refused c.reserve_reach.result _ _ c.in_err-reserve_reach.was (c.reserve_reach.ensures.succeeds room)

@@ -1,5 +1,6 @@
 use Rattle.std.proofs.Common.{◌≡◌, ◌<◌, ◌≤◌, ℕ, length, slice_get, slice_set, Some, subst, sym, ap, ◌∙◌, refl, arith, rules}
 use Rattle.std.proofs.lemmas.Option.{slice_get_read}
+use Rattle.std.proofs.lemmas.Result.{on_ok_weaker}
 use Rattle.av_chunk.specs.declared.chunk.Chunk.{Chunk}
 use Rattle.av_ticks.specs.Ticks.{room}
 use Rattle.av_cells.specs.Grid.{cells_of}
@@ -7,7 +8,6 @@ use Rattle.av_world.specs.Index.{slot}
 use Rattle.av_world.specs.Sections.{section_at, filling_in, lists_of, room_in, CanSetIn}
 use Rattle.av_world.specs.Lawful.{IsTied}
 use Rattle.av_world.proofs.Moved.{sections_same, lists_kept, room_each, get_set_same}
-use Rattle.av_world.proofs.Steps.{on_ok}
 use Rattle.av_world.proofs.Tied.{lawful_same}
 use Rattle.av_world.proofs.worlds.World.reserve_chunk.Goals as goal
 
@@ -51,8 +51,7 @@ returns-clause-room c =
     let i = c.chunk_slot-chunk.result in let new = c.reserve_in.new.chunk in
     let below : i < length cs = search rules in
     let index : i ≡ slot ps c.args.at = search rules in
-    on_ok c.reserve_in.result (c.args.count ≤ room new.ticks) _ c.reserve_in.ensures.ok
-    (λ h there. subst (λ j. c.args.count ≤ room_in (slice_get (slice_set cs i new) j)) index (rw (get_set_same cs i new below) h))
+    on_ok_weaker {P = c.args.count ≤ room new.ticks} c.reserve_in.result (λ h there. subst (λ j. c.args.count ≤ room_in (slice_get (slice_set cs i new) j)) index (rw (get_set_same cs i new below) h)) c.reserve_in.ensures.ok
 
 pub returns-clause-succeeds : goal.returns-clause-succeeds
 returns-clause-succeeds c =

@@ -1,8 +1,9 @@
 use Rattle.std.proofs.Common.{All, sym, subst, take, List}
 use Rattle.std.proofs.lemmas.List.Elements.{All-weaker}
+use Rattle.std.proofs.lemmas.Result.{on_ok_weaker}
 use Rattle.av_types.specs.declared.place.Pos.{Pos}
 use Rattle.av_world.specs.Turned.{corners, HasRoomAt, HasChunkRoom}
-use Rattle.av_world.proofs.Steps.{IsWorldKept-trans, room_lasts, corners_room, on_ok}
+use Rattle.av_world.proofs.Steps.{IsWorldKept-trans, room_lasts, corners_room}
 use Rattle.av_world.proofs.worlds.World.reserve_reach.Goals as goal
 
 pub returns-then-reserved-clause-room : goal.returns-then-reserved-clause-room
@@ -13,7 +14,7 @@ returns-then-reserved-clause-room c =
 pub returns-clause-room : goal.returns-clause-room
 returns-clause-room c =
     let new = c.reserve_all.new.self in
-    on_ok c.reserve_all.result _ _ c.reserve_all.ensures.room (λ h. subst (λ (xs : List Pos). All (HasRoomAt new 42) xs) c.corners-corners.ensures h)
+    on_ok_weaker c.reserve_all.result (λ h. subst (λ (xs : List Pos). All (HasRoomAt new 42) xs) c.corners-corners.ensures h) c.reserve_all.ensures.room
 
 pub returns-clause-succeeds : goal.returns-clause-succeeds
 returns-clause-succeeds c =

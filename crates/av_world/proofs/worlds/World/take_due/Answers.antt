@@ -1,7 +1,7 @@
 use Rattle.std.proofs.Common.{◌∙◌, ap, sym, filter}
 use Rattle.av_types.specs.Places.{section_of, place_of}
 use Rattle.av_ticks.specs.Entries.{is_due, due_order}
-use Rattle.av_ticks.specs.Order.{ordered}
+use Rattle.av_types.specs.Order.{ordered}
 use Rattle.av_ticks.specs.Ticks.{entries}
 use Rattle.av_world.specs.Views.{sections}
 use Rattle.av_world.proofs.Whole.{height_of, whole_kept}

@@ -5,7 +5,7 @@ use Rattle.std.specs.Ordering.{is_lt}
 use Rattle.std.specs.Cmp.{IsStrictWeakOrder}
 use Rattle.std.specs.List.Sorted.{IsPermutation, IsSortedBy, IsStableBy, ties}
 use Rattle.std.proofs.lemmas.List.Sorted.{sorted_far, IsPermutation-refl, IsPermutation-trans, IsPermutation-cons, IsPermutation-insert}
-use Rattle.av_ticks.specs.Order.{inserted, ordered, IsStableSort}
+use Rattle.av_types.specs.Order.{inserted, ordered, IsStableSort}
 
 module _ {X : Type 0} (cmp : X → X → Ordering) (laws : IsStrictWeakOrder (λ x y. is_lt (cmp x y))) where
   abbrev below : X → X → Bool

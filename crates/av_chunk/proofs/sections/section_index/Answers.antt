@@ -1,7 +1,7 @@
 use Rattle.std.proofs.Common.{◌∙◌, sym, subst, rules, to_z-of_z, w32, FitsSigned}
 use Rattle.av_types.specs.Places.{IsSectionOf}
 use Rattle.av_chunk.proofs.Heights.{offset_at, section_there}
-use Rattle.av_chunk.proofs.sections.offset_of.Goals as goal
+use Rattle.av_chunk.proofs.sections.section_index.Goals as goal
 
 pub section_index-requires : goal.section_index-requires
 section_index-requires c =
