@@ -9,7 +9,6 @@ is a C compiler for halt.c. A device of each size from full to large enough is t
 and files of other owners where it runs as root.
 """
 import contextlib
-import fcntl
 import itertools
 import os
 import shutil
@@ -19,6 +18,7 @@ import sys
 import tempfile
 
 sys.dont_write_bytecode = True
+import holding
 from cut_offs import (CHANGED, FINISHED, HEAD, JOURNAL, NEW_JOURNAL, NOTHING_ELSE, REGIONS, TAKEN_AWAY, TOLD, TRIAL, Answer, World, contents,
                       differing, laid, part, report, shots)
 
@@ -130,12 +130,11 @@ def held(world):
     """What lies in a folder that another process holds is read as it is."""
     for files in (with_journal(world), without_journal(world)):
         folder = world.laid(files)
-        was, opened = shots(folder), os.open(folder, os.O_RDONLY)
-        fcntl.flock(opened, fcntl.LOCK_EX)
-        yield "check of a folder that is held", Answer(0, "", []), world.check(folder)
-        yield "run", refused(folder), world.run(folder)
-        yield "its files", [], differing(was, shots(folder))
-        os.close(opened)
+        was = shots(folder)
+        with holding.held(folder):
+            yield "check of a folder that is held", Answer(0, "", []), world.check(folder)
+            yield "run", refused(folder), world.run(folder)
+            yield "its files", [], differing(was, shots(folder))
         yield "check once it is free", 1, len(world.check(folder).errors)
 
 

@@ -1,4 +1,5 @@
 """How calls of anvilwater-world end, for check_world.py: they meet others, and end before changes of the file system."""
+import contextlib
 import errno
 import fcntl
 import itertools
@@ -9,7 +10,9 @@ import sys
 import threading
 import time
 
+import world_places
 import world_run
+from holding import held
 from kept_worlds import payload, small_world, stored_chunks_of, write_world
 from stored_chunks import write
 from world_calls import STAND_IN, backup, begun, call, contents, ended, others, refused, shots
@@ -49,11 +52,12 @@ def locks(work, _):
     write_world(world, small_world())
     os.makedirs(os.path.join(world, "DIM1"))
     os.symlink(region_of(world), os.path.join(world, "DIM1", "region"))
+    deep = shutil.copytree(region_of(world), os.path.join(world, "dimensions", "pack", "a", "b", "c", "d", "region"))
     session, was = os.path.join(world, "session.lock"), shots(world)
     held = "%s is locked: the game has the world open, or another program works on it; nothing is done" % session
     with open(session, "r+b") as file:
         fcntl.lockf(file, fcntl.LOCK_EX)
-        for where in (world, region_of(world), os.path.join(world, "DIM1")):
+        for where in (world, region_of(world), os.path.join(world, "DIM1"), deep, os.path.dirname(deep)):
             yield "the game has it open: " + where, refused(held), call(where)[::2]
     first = begun(world, what="wait " + marker)
     yield "a call works", True, waited(marker)
@@ -73,7 +77,41 @@ def locks(work, _):
     yield "which then goes", {name: shot for name, shot in was.items() if name != "session.lock"}, shots(world)
     write(world, ".anvilwater-region.lock", b"1\n")
     yield "a lock that was left behind", 0, call(world)[0]
-    yield "goes too", ["DIM1", "level.dat"], others(world)
+    yield "goes too", ["DIM1", "dimensions", "level.dat"], others(world)
+    yield from runs_of_the_program(os.path.join(work, "bare"))
+    yield "a session.lock that goes as it is opened", True, is_made_anew(world)
+
+
+def runs_of_the_program(world):
+    """A run of the program in the folder itself, which holds it, and one that was cut off, in a folder that is of no world."""
+    write_world(world, small_world())
+    for name in ("level.dat", "session.lock"):
+        os.unlink(os.path.join(world, name))
+    was = shots(world)
+    with held(region_of(world)):
+        yield "a run of the program", refused("another program works on %s; nothing is done" % region_of(world)), call(world)[::2]
+    yield "nothing is another", was, shots(world)
+    write(region_of(world), ".anvilwater-journal", b"anvilwater journal 1\nr.0.1.mca\n")
+    was, line = shots(world), "in %s a run of the program was cut off, which `anvilwater check` of it finishes; nothing is done"
+    yield "one that was cut off", refused(line % region_of(world)), call(world)[::2]
+    yield "nothing is another", was, shots(world)
+
+
+def is_made_anew(world):
+    """Whether a world is held by a session.lock that is there where another call takes its own away between opening and lock."""
+    lock, first, second = fcntl.lockf, contextlib.ExitStack(), contextlib.ExitStack()
+    world_places.hold_session(world, first)
+
+    def late(*given):
+        first.close()
+        return lock(*given)
+    fcntl.lockf = late
+    try:
+        world_places.hold_session(world, second)
+    finally:
+        fcntl.lockf = lock
+    with second:
+        return os.path.exists(os.path.join(world, "session.lock"))
 
 
 def signals(work, _):
@@ -155,7 +193,7 @@ def always(answer):
 
 def devices(work, _):
     """File systems without room or without links, owners that can't be given, and old files that are kept on another file system."""
-    worlds = [os.path.join(work, "world%d" % number) for number in range(5)]
+    worlds = [os.path.join(work, "world%d" % number) for number in range(8)]
     for world in worlds:
         write_world(world, small_world())
     old, was = contents(region_of(worlds[0])), shots(worlds[0])
@@ -171,8 +209,31 @@ def devices(work, _):
         os.chown(os.path.join(region_of(worlds[2]), "r.0.1.mca"), 1234, 1234)
         status, lines = forked(worlds[2], work, lambda: setattr(os, "fchown", always(PermissionError(errno.EPERM, "no owners"))))
         yield "no owners", (0, "anvilwater-world: the owners of 1 files could not be kept"), (status, lines[-1])
+        os.chown(os.path.join(region_of(worlds[5]), "r.0.1.mca"), 1234, 1234)
+        status, lines = forked(worlds[5], work, lambda: setattr(os, "fchown", groups_alone(os.fchown)))
+        yield "groups alone", (0, 1234), (status, os.stat(os.path.join(region_of(worlds[5]), "r.0.1.mca")).st_gid)
     yield from undelivered(worlds[3], work, kept)
-    yield from elsewhere(worlds[4], kept)
+    yield from elsewhere(worlds[4], work, kept)
+    yield from unreplaced(worlds[6:], work)
+
+
+def groups_alone(fchown):
+    def given(descriptor, user, group):
+        if user != -1:
+            raise PermissionError(errno.EPERM, "no owners")
+        fchown(descriptor, user, group)
+    return given
+
+
+def unreplaced(worlds, work):
+    """Folders in which no file can take its place: a call says so before its work, and leaves no journal."""
+    mounted = "%s is where a file system is mounted, so that nothing of it is beside the folder" % region_of(worlds[0])
+    closed = "%s: its files can't be replaced by this user; nothing is done" % region_of(worlds[1])
+    far = always(OSError(errno.EXDEV, "Invalid cross-device link"))
+    for world, name, answer, line in ((worlds[0], "link", far, mounted), (worlds[1], "access", lambda path, mode: path != region_of(worlds[1]), closed)):
+        was = shots(world)
+        yield line, (1, "anvilwater-world: " + line), (lambda found: (found[0], found[1][-1]))(forked(world, work, lambda: setattr(os, name, answer)))
+        yield "nothing is another", was, shots(world)
 
 
 def undelivered(world, work, kept):
@@ -188,14 +249,20 @@ def undelivered(world, work, kept):
     yield "then there is", (0, told, kept), (status, out[:3], backup(world))
 
 
-def elsewhere(world, kept):
+def elsewhere(world, work, kept):
     memory = "/dev/shm"
     if not os.path.isdir(memory) or os.stat(memory).st_dev == os.stat(world).st_dev or not os.access(memory, os.W_OK):
         return
-    target = os.path.join(memory, "anvilwater-%d" % os.getpid())
+    target, path = os.path.join(memory, "anvilwater-%d" % os.getpid()), os.path.join(work, "log")
     try:
-        yield "kept elsewhere", (0, "before " + target), (lambda found: (found[0], found[1][-1]))(call(world, "--backup", target))
+        with open(path, "w") as log:
+            status, lines = forked(world, work, lambda: traced(log), "--backup", target)
+        yield "kept elsewhere", (0, "before " + target), (status, lines[-1])
         yield "the old files", kept, contents(target)
+        lines = open(path).read().splitlines()
+        made, gone = (next(at for at, line in enumerate(lines) if line.startswith(kind) and line.endswith(end))
+                      for kind, end in (("mkdir ", os.path.basename(target)), ("rmdir ", ".work/old")))
+        yield "its folder is synced before they go", True, "fsync dev/shm" in lines[made:gone]
     finally:
         shutil.rmtree(target, ignore_errors=True)
 

@@ -16,6 +16,9 @@ import sys
 import tempfile
 import time
 
+sys.dont_write_bytecode = True
+from holding import held
+
 TOP = pathlib.Path(__file__).resolve().parent.parent
 NAMES = ["r.-1.-1.mca", "r.0.0.mca"]
 wrong = []
@@ -54,17 +57,6 @@ def regions(folder):
     return folder
 
 
-@contextlib.contextmanager
-def held(folder):
-    """A folder that this process holds."""
-    opened = os.open(folder, os.O_RDONLY)
-    try:
-        fcntl.flock(opened, fcntl.LOCK_EX)
-        yield
-    finally:
-        os.close(opened)
-
-
 def check_held(program, work, want):
     """A folder that another process holds is refused, and nothing is written to it; then it is not."""
     folder = regions(work / "held")
@@ -89,11 +81,14 @@ def locked(path, lock):
 
 
 def check_session(program, work, want):
-    """A world that the game has open is refused, by its own region files and by those of a dimension, unless that is to be no matter."""
+    """A world that the game has open is refused, by its own region files and by those of a dimension, which may lie deep in it, unless
+    that is to be no matter."""
     world = pathlib.Path(os.path.realpath(work)) / "world"
-    (world / "DIM-1").mkdir(parents=True)
+    deep = world / "dimensions" / "pack" / "name"
+    for dimension in (world / "DIM-1", deep):
+        dimension.mkdir(parents=True)
     session = world / "session.lock"
-    folders = [regions(world / "region"), regions(world / "DIM-1" / "region")]
+    folders = [regions(folder / "region") for folder in (world, world / "DIM-1", deep)]
     session.write_bytes(b"")
     before = contents(folders[0])
     for folder in folders:
@@ -110,8 +105,8 @@ def check_session(program, work, want):
         expect("what is written to it", want, contents(folder))
     with locked(session, fcntl.lockf):
         expect("a world that is open, in use", (0, []), run(program, TOP / "samples", folders[0], "--in-use"))
-        (world / "DIM-1" / "data" / "region").mkdir(parents=True)
-        expect("a folder further down", (0, []), run(program, TOP / "samples", world / "DIM-1" / "data" / "region"))
+        (work / "beside").mkdir()
+        expect("a folder beside the world", (0, []), run(program, TOP / "samples", work / "beside"))
         expect("a folder that is only looked at", 0, run(program, TOP / "samples", folders[0], "--dry-run")[0])
     other = world / "other.lock"
     with locked(other, fcntl.lockf):

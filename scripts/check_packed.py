@@ -122,6 +122,7 @@ def changed(work):
     source, plain, back = folders(work, "world", "plain", "back")
     write_world(source)
     write(source, "c.30.30.mcc", b"no chunk's")
+    os.chmod(os.path.join(source, "r.0.0.mca"), 0o640)
     worlds("plain", source, plain)
     before, found = world()[0, 0], read_plain(plain, 0, 0)[0]
     new = {**{index: (PLAIN, payload) for index, payload in found.items()},
@@ -143,6 +144,7 @@ def changed(work):
         names += ["README", "c.99.99.mcc", "r.00.1.mca"] if where == source else []
         yield "files", sorted(names), sorted(os.listdir(where))
         yield "a file that had no bytes", 0, os.path.getsize(os.path.join(where, "r.5.5.mca"))
+        yield "the mode that a file had", where == source, os.stat(os.path.join(where, "r.0.0.mca")).st_mode & 0o777 == 0o640
 
 
 # ---------------------------------------------------------------- damage

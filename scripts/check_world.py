@@ -16,6 +16,7 @@ import shutil
 import subprocess
 import sys
 import tempfile
+import zlib
 
 sys.dont_write_bytecode = True
 import check_ends
@@ -218,6 +219,7 @@ def hostile(work, program):
     write(module, "lz4.py", b"raise ImportError")
     lz4 = os.path.join(work, "lz4")
     write_world(lz4, {(0, 0): {(0, 0): (LZ4, RAW)}})
+    yield from oversized(os.path.join(work, "oversized"))
     yield "no module", refused("r.0.0.mca: LZ4 needs the Python module lz4 (Debian: python3-lz4); nothing is done"), \
         call(lz4, paths=[module])[::2]
     small = lambda: resource.setrlimit(resource.RLIMIT_FSIZE, (1 << 20, 1 << 20))
@@ -228,6 +230,20 @@ def hostile(work, program):
             done = subprocess.run([COMMAND, world, "--program", STAND_IN], stdout=full, stderr=subprocess.PIPE, text=True, timeout=60)
         yield "no output", refused("standard output: No space left on device"), (done.returncode, done.stderr.splitlines())
         yield "nothing is another", was, shots(world)
+    words = ["sh", "-c", 'exec "$@" <&- >&- 2>&-', "sh", COMMAND, world, "--program", STAND_IN, "--progress"]
+    yield "closed streams", 0, subprocess.run(words, env={**os.environ, "STAND_IN": "same"}, timeout=60).returncode
+    yield "nothing is another", was, shots(world)
+
+
+def oversized(world):
+    """A chunk whose bytes go on behind its 255 sectors, as some servers wrote them."""
+    write_world(world, {(0, 0): {(0, 0): (ZLIB, zlib.compress(b"chunk")), (1, 0): (ZLIB, bytes(1 << 20))}})
+    with open(os.path.join(world, "region", "r.0.0.mca"), "r+b") as file:
+        file.seek(7)
+        file.write(b"\xff")
+    was = shots(world)
+    yield "more than 255 sectors", refused("r.0.0.mca: chunk 1 0 can't be brought back, it has more than 255 sectors; nothing is done"), call(world)[::2]
+    yield "nothing is another", was, shots(world)
 
 
 def main():

@@ -6,7 +6,8 @@
 Each job is an `rt lib`, in a copy of the tree of its own, since two of them in one tree wait for each other where they stand on the
 same crates. What a job has built goes to the tree itself, and from there to the copies that need it, so that no crate is proved twice.
 A crate is begun when those that it stands on are proved, first the one that most is left to prove above. That one is proved by as many
-processes as rt chooses, and those beside it by one each, or by more where processors would have nothing to do. COMMAND is run in the crate's own folder when all are proved; without one, `rt check`.
+processes as rt chooses, and those beside it by one each, or by more where processors would have nothing to do. COMMAND is run in the
+crate's own folder when all are proved; without one, `rt check`.
 
 Lines on standard error say which crates are being proved, how many are done and about how long it will still take. Status: that of
 the command; 1 where a check failed before, which then tells what it printed; 2 where other words are needed.
@@ -26,7 +27,7 @@ import threading
 import time
 
 TOP = pathlib.Path(__file__).resolve().parent.parent
-# A check works on two processors for part of its time, so there is one job for each processor, and each wants some 2 GB.
+# A check works on two processors for part of its time, so there is one job for each processor, and each is given 3 GB, of which it wants some 2.
 MEMORY_OF_A_JOB = 3 << 30
 # With so many functions below, a function takes twice the time of one that has none below.
 FUNCTIONS_BELOW = 300

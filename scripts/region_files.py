@@ -16,7 +16,7 @@ import typing
 from chunk_data import SECTOR, Refused, Unread, plain_bytes
 
 HEADER = 2 * SECTOR
-EXTERNAL = 128
+EXTERNAL, MOST_SECTORS = 128, 255
 NO_CHUNKS = [0] * 1024
 NUMBERS = r"\.(0|-?[1-9][0-9]*)\.(0|-?[1-9][0-9]*)\."
 REGION_NAME, EXTERNAL_NAME = re.compile("r" + NUMBERS + "mca"), re.compile("c" + NUMBERS + "mcc")
@@ -123,6 +123,8 @@ class Region:
         """A chunk as it is stored: its record, or all its sectors where it has none that is right."""
         offset, count, sectors = self.sectors(index)
         length = 4 + int.from_bytes(sectors[:4], "big")
+        if count == MOST_SECTORS * SECTOR < length and offset + length <= self.size:
+            raise Refused("chunk %d %d can't be brought back, it has more than 255 sectors" % self.place.chunk(index))
         if not 4 < length <= len(sectors):
             length = count
         if offset < HEADER or count == 0 or len(sectors) < length:
@@ -133,8 +135,26 @@ class Region:
 # ---------------------------------------------------------------- writing
 
 
+def make_alike(descriptor, model):
+    """Gives an open file the owner and the mode of another, and answers whether the owner could be given."""
+    own, given = os.fstat(descriptor), True
+    if (own.st_uid, own.st_gid) != (model.st_uid, model.st_gid):
+        try:
+            os.fchown(descriptor, model.st_uid, model.st_gid)
+        except OSError as why:
+            if why.errno not in (errno.EPERM, errno.EINVAL):
+                raise
+            given = False
+            # A group of one's own can be given all the same, by which who runs the game may write.
+            with contextlib.suppress(OSError):
+                os.fchown(descriptor, -1, model.st_gid)
+    os.fchmod(descriptor, stat.S_IMODE(model.st_mode))
+    return given
+
+
 class Fresh:
-    """Files that are written to a folder under names of their own, and take their places together."""
+    """Files that are written to a folder under names of their own, and take their places together. One that takes another's place has
+    its owner, where that may be given, and its mode."""
 
     def __init__(self, folder):
         self.folder, self.parts, self.ready = folder, [], []
@@ -155,6 +175,8 @@ class Fresh:
         with os.fdopen(descriptor, "wb") as file:
             yield file
             file.flush()
+            with contextlib.suppress(FileNotFoundError):
+                make_alike(descriptor, os.stat(os.path.join(self.folder, name)))
             os.fsync(descriptor)
         self.ready.append((part, name))
 

@@ -14,8 +14,8 @@ import shutil
 import stat
 
 from chunk_data import SECTOR
-from region_files import EXTERNAL_NAME, HEADER, REGION_NAME, externals
-from world_places import Problem, Stuck, is_ours, make_alike
+from region_files import EXTERNAL_NAME, HEADER, REGION_NAME, externals, make_alike
+from world_places import Problem, Stuck, is_ours
 
 FORM = 1
 NO_LINKS = {errno.EPERM, errno.EXDEV, errno.EMLINK, errno.EOPNOTSUPP, errno.ENOSYS}
@@ -71,12 +71,23 @@ def linked(source, target):
 # ---------------------------------------------------------------- working folders
 
 
+def check_near(world, work, name):
+    """Refuses a folder that is mounted by itself, also from the same device, since no file can be renamed into it from beside it."""
+    trial = os.path.join(work, "trial")
+    try:
+        os.link(os.path.join(world.region, name), trial, follow_symlinks=False)
+        os.unlink(trial)
+    except OSError as why:
+        if why.errno == errno.EXDEV:
+            raise Problem("%s is where a file system is mounted, so that nothing of it is beside the folder" % world.region) from why
+
+
 @contextlib.contextmanager
 def working_folder(world):
     """A new folder beside the region files. At the end it goes, unless it has a journal."""
     path = world.beside("%s.work" % secrets.token_hex(8))
-    os.mkdir(path, 0o700)
     try:
+        os.mkdir(path, 0o700)
         yield path
     finally:
         if not os.path.lexists(os.path.join(path, "journal")):
@@ -114,8 +125,8 @@ class Exchange:
         """Finds the files that are to be replaced, added and removed, and keeps the old ones by second names. `files` has what was
         there, and `stored` the regions whose chunks are all as they were stored, which are left alone. Answers what the journal is to
         have, or None where nothing changed."""
-        aside, packed = self.alone(stored), sorted(os.listdir(self.packed))
-        new = [name for name in packed if name not in aside and (name not in files or not self.is_same(name))]
+        aside, packed = self.alone(stored), set(os.listdir(self.packed))
+        new = [name for name in sorted(packed) if name not in aside and (name not in files or not self.is_same(name))]
         gone = [name for name in files if name not in aside and EXTERNAL_NAME.fullmatch(name) and name not in packed]
         if not new and not gone:
             return None
@@ -245,6 +256,7 @@ class Exchange:
         make_alike(descriptor, os.stat(self.region))
         os.fsync(descriptor)
         os.close(descriptor)
+        sync(os.path.dirname(target))
         shutil.rmtree(self.old)
 
     def clear(self):

@@ -6,12 +6,13 @@ import stat
 import typing
 
 from chunk_data import SECTOR, Refused, Unread
-from region_files import EXTERNAL_NAME, HEADER, REGION_NAME, Region, externals, opened, places
+from region_files import EXTERNAL_NAME, HEADER, MOST_SECTORS, REGION_NAME, Region, externals, make_alike, opened, places
 
 LEVEL, SESSION = "level.dat", "session.lock"
 SNOWMAN = "\u2603".encode()
-LEVELS = 6
 SAMPLES = 64
+# The journal of a run of the program in the folder itself.
+JOURNAL = ".anvilwater-journal"
 
 
 class Problem(Exception):
@@ -67,7 +68,7 @@ def tops(paths):
     """The folders of worlds that these paths lie in: above each, the nearest that has the files of a world."""
     found = set()
     for path in paths:
-        for folder in [path, *map(str, pathlib.PurePath(path).parents)][:LEVELS]:
+        for folder in [path, *map(str, pathlib.PurePath(path).parents)]:
             if any(os.path.lexists(os.path.join(folder, name)) for name in (LEVEL, SESSION)):
                 found.add(os.path.realpath(folder))
                 break
@@ -88,16 +89,19 @@ def opened_lock(path, flags):
 
 def hold_session(top, stack):
     """Locks a world's session.lock, as the game does while it has the world open. One that is missing is made for that time."""
-    path, made = os.path.join(top, SESSION), False
-    try:
-        descriptor = opened_lock(path, 0)
-    except FileNotFoundError:
-        descriptor, made = opened_lock(path, os.O_CREAT | os.O_EXCL), True
-    stack.callback(os.close, descriptor)
-    try:
-        fcntl.lockf(descriptor, fcntl.LOCK_EX | fcntl.LOCK_NB)
-    except (BlockingIOError, PermissionError) as why:
-        raise Problem("%s is locked: the game has the world open, or another program works on it; nothing is done" % path) from why
+    path = os.path.join(top, SESSION)
+    while True:
+        try:
+            descriptor, made = opened_lock(path, 0), False
+        except FileNotFoundError:
+            descriptor, made = opened_lock(path, os.O_CREAT | os.O_EXCL), True
+        stack.callback(os.close, descriptor)
+        try:
+            fcntl.lockf(descriptor, fcntl.LOCK_EX | fcntl.LOCK_NB)
+        except (BlockingIOError, PermissionError) as why:
+            raise Problem("%s is locked: the game has the world open, or another program works on it; nothing is done" % path) from why
+        if is_at(descriptor, path):
+            break
     if made:
         stack.callback(os.unlink, path)
         os.write(descriptor, SNOWMAN)
@@ -122,26 +126,30 @@ def hold_region(world, stack):
     stack.callback(os.unlink, path)
     os.ftruncate(descriptor, 0)
     os.pwrite(descriptor, b"%d\n" % os.getpid(), 0)
+    hold_folder(world, stack)
+
+
+def hold_folder(world, stack):
+    """Locks the folder as the program does that runs in it, and refuses what such a run left behind when it was cut off."""
+    descriptor = os.open(world.region, os.O_RDONLY | os.O_DIRECTORY)
+    stack.callback(os.close, descriptor)
+    try:
+        fcntl.flock(descriptor, fcntl.LOCK_EX | fcntl.LOCK_NB)
+    except BlockingIOError as why:
+        raise Problem("another program works on %s; nothing is done" % world.region) from why
+    except OSError:
+        # A file system that has no locks of folders is worked on without one, as by the program.
+        pass
+    if os.path.lexists(os.path.join(world.region, JOURNAL)):
+        raise Problem("in %s a run of the program was cut off, which `anvilwater check` of it finishes; nothing is done" % world.region)
 
 
 def is_at(descriptor, path):
     """Whether an open file still has its name, which who held it before took away at its end."""
     try:
-        return os.path.samestat(os.fstat(descriptor), os.lstat(path))
+        return os.path.samestat(os.fstat(descriptor), os.stat(path))
     except FileNotFoundError:
         return False
-
-
-def make_alike(descriptor, model):
-    """Gives an open file the owner and the mode of another, and answers whether the owner could be given."""
-    own, given = os.fstat(descriptor), True
-    if (own.st_uid, own.st_gid) != (model.st_uid, model.st_gid):
-        try:
-            os.fchown(descriptor, model.st_uid, model.st_gid)
-        except PermissionError:
-            given = False
-    os.fchmod(descriptor, stat.S_IMODE(model.st_mode))
-    return given
 
 
 # ---------------------------------------------------------------- a first look
@@ -161,6 +169,7 @@ def surveyed(folder):
     found, beside = sorted(places(folder)), externals(folder)
     names = [name for place in found for name in (place.name, *sorted(beside[place]))]
     files = {name: plain_file(folder, name) for name in names}
+    check_folder(folder, files)
     chunks, sizes = 0, []
     for place in found:
         try:
@@ -169,8 +178,8 @@ def surveyed(folder):
                 indices = [index for index in range(1024) if region.locations[index]]
                 check_chunks(region, indices)
                 sizes += sampled(region, indices[::1 + len(indices) * len(found) // SAMPLES])
-        except Refused as why:
-            raise Problem("%s: %s; nothing is done" % (place.name, why)) from why
+        except (OSError, Refused) as why:
+            raise Problem("%s: %s; nothing is done" % (place.name, getattr(why, "strerror", None) or why)) from why
         chunks += len(indices)
     mean = sum(sizes) // len(sizes) if sizes else 0
     plain = len(found) * HEADER + chunks * (mean // SECTOR + 1) * SECTOR
@@ -186,11 +195,19 @@ def plain_file(folder, name):
     return status
 
 
+def check_folder(folder, files):
+    """Refuses a folder in which this user can't replace a file: one that it may not write to, or a sticky one with files of others."""
+    status, user = os.stat(folder), os.geteuid()
+    is_sticky = status.st_mode & stat.S_ISVTX and user not in (0, status.st_uid)
+    if not os.access(folder, os.W_OK | os.X_OK) or is_sticky and any(file.st_uid != user for file in files.values()):
+        raise Problem("%s: its files can't be replaced by this user; nothing is done" % folder)
+
+
 def check_chunks(region, indices):
     """Refuses a chunk whose sectors are not in the file, since it could not be brought back."""
     for index in indices:
         offset, count = region.locations[index] >> 8, region.locations[index] & 255
-        if offset < HEADER // SECTOR or count == 0 or SECTOR * (offset + count) > region.size:
+        if offset < HEADER // SECTOR or count in (0, MOST_SECTORS) or SECTOR * (offset + count) > region.size:
             region.kept(index)
 
 

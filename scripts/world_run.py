@@ -27,7 +27,7 @@ import time
 sys.dont_write_bytecode = True
 import worlds
 from region_files import places
-from world_exchange import Exchange, left_behind, working_folder
+from world_exchange import Exchange, check_near, left_behind, working_folder
 from world_places import Problem, Stuck, find_world, hold_region, hold_session, surveyed
 
 TOP = os.path.dirname(os.path.dirname(os.path.abspath(__file__)))
@@ -149,6 +149,15 @@ def stops_ignored():
         signal.signal(which, signal.SIG_IGN)
 
 
+@contextlib.contextmanager
+def unstopped_behind():
+    """What is cleared away behind this is not stopped."""
+    try:
+        yield
+    finally:
+        stops_ignored()
+
+
 # ---------------------------------------------------------------- the program
 
 
@@ -219,7 +228,8 @@ class Call:
         region = self.world.region
         survey, backup = surveyed(region), self.backup()
         self.check_room(survey, backup)
-        with working_folder(self.world) as work:
+        with working_folder(self.world) as work, unstopped_behind():
+            check_near(self.world, work, next(iter(survey.files)))
             plain, out, packed = (os.path.join(work, name) for name in ("plain", "out", "packed"))
             program = self.program(work)
             self.convert("plain", region, plain)
@@ -321,10 +331,19 @@ def is_unfinished(world):
     return False
 
 
+def streams_opened():
+    """Standard streams that are closed lead nowhere from now on: else a file that is opened would take the number of one, and what is
+    told would be written into it."""
+    while (descriptor := os.open(os.devnull, os.O_RDWR)) <= 2:
+        os.set_inheritable(descriptor, True)
+    os.close(descriptor)
+
+
 def main(given=None):
+    streams_opened()
     call, status = Call(words_read(given)), 1
     try:
-        with stops_heeded(), contextlib.ExitStack() as stack:
+        with stops_heeded(), contextlib.ExitStack() as stack, unstopped_behind():
             return call.run(stack)
     except Refused as why:
         return why.args[0]

@@ -5,7 +5,8 @@
     scripts/worlds.py packed IN OUT [--like FOLDER]     chunks get the compression that they had in FOLDER, or else zlib
 
 Each file r.X.Z.mca of the folder IN is written to the folder OUT, which is another one; a file c.X.Z.mcc beside it is read where a
-chunk names it. Timestamps stay, and a file of no bytes stays one. Chunks are written one behind the other from sector 2 on, and one
+chunk names it. The game must not have the world of either open, which is not looked at here. Timestamps stay, a file of no bytes stays
+one, and a file that takes another's place gets its owner, where that may be given, and its mode. Chunks are written one behind the other from sector 2 on, and one
 that 255 sectors don't hold goes to a file c.X.Z.mcc. Compressions are GZip, zlib, none and LZ4; the last needs the Python module
 lz4 (Debian: python3-lz4).
 
