@@ -193,7 +193,7 @@ def always(answer):
 
 def devices(work, _):
     """File systems without room or without links, owners that can't be given, and old files that are kept on another file system."""
-    worlds = [os.path.join(work, "world%d" % number) for number in range(8)]
+    worlds = [os.path.join(work, "world%d" % number) for number in range(10)]
     for world in worlds:
         write_world(world, small_world())
     old, was = contents(region_of(worlds[0])), shots(worlds[0])
@@ -214,7 +214,8 @@ def devices(work, _):
         yield "groups alone", (0, 1234), (status, os.stat(os.path.join(region_of(worlds[5]), "r.0.1.mca")).st_gid)
     yield from undelivered(worlds[3], work, kept)
     yield from elsewhere(worlds[4], work, kept)
-    yield from unreplaced(worlds[6:], work)
+    yield from unreplaced(worlds[6:8], work)
+    yield from in_sticky_folders(worlds[8:], work)
 
 
 def groups_alone(fchown):
@@ -234,6 +235,23 @@ def unreplaced(worlds, work):
         was = shots(world)
         yield line, (1, "anvilwater-world: " + line), (lambda found: (found[0], found[1][-1]))(forked(world, work, lambda: setattr(os, name, answer)))
         yield "nothing is another", was, shots(world)
+
+
+def in_sticky_folders(worlds, work):
+    """Folders in which only a file's owner may replace it: whose files are another user's, and this user's own."""
+    user = 4321
+    if os.geteuid() != 0:
+        return
+    for world in worlds:
+        os.chmod(region_of(world), 0o1777)
+    for file in os.scandir(region_of(worlds[1])):
+        os.chown(file.path, user, user)
+    was = shots(worlds[0])
+    answers = [forked(world, work, lambda: setattr(os, "geteuid", always(user))) for world in worlds]
+    line = "anvilwater-world: %s: its files can't be replaced by this user; nothing is done" % region_of(worlds[0])
+    yield "files of another user", (1, line), (answers[0][0], answers[0][1][-1])
+    yield "nothing is another", was, shots(worlds[0])
+    yield "files of this user", 0, answers[1][0]
 
 
 def undelivered(world, work, kept):
