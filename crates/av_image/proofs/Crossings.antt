@@ -8,9 +8,9 @@ use Rattle.av_tags.specs.contracts.tag.Tag as Tag
 use Rattle.av_state.specs.contracts.table.StateTable as StateTable
 use Rattle.av_ticks.specs.contracts.positions.Positions as Positions
 use Rattle.av_ticks.specs.contracts.list.TickList as TickList
+use Rattle.av_chunk.specs.contracts.chunk.Reading as Reading
 use Rattle.av_chunk.specs.contracts.rest.ChunkRest as ChunkRest
 use Rattle.av_world.specs.contracts.worlds.World as World
-use Rattle.av_image.specs.contracts.reading.ahead.BatchReading as BatchReading
 use Rattle.av_image.specs.contracts.rest.RegionRest as RegionRest
 
 -- a list of ticks may have an ordered map
@@ -54,5 +54,5 @@ rest_send = search (sendable, crosses, tag_send, named_send) depth 60 fits 20000
 pub region_sync : IsSync RegionRest.the_row
 region_sync = search (sendable, crosses, rest_sync) depth 60 fits 20000
 
-pub batch_send : IsSend BatchReading.the_row
-batch_send = search (sendable, crosses, rest_send, ticks_send) depth 60 fits 20000
+pub reading_send : IsSend Reading.the_row
+reading_send = search (sendable, crosses, rest_send, ticks_send) depth 60 fits 20000

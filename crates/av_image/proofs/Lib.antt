@@ -14,5 +14,4 @@ pub mod Ready
 pub mod PayloadLists
 pub mod Placing
 pub mod Crossings
-pub mod BatchPlaces
 pub mod Grown

@@ -1,8 +1,5 @@
 -- What payloads of a region are read as before its places are read. Working definitions: no public clause cites them.
-use Rattle.std.specs.Prelude.{◌<◌, ◌+◌, ℕ, List, Vec, Option, None, Result, slice_index_or, IfOk, IfSome}
-use Rattle.std.specs.List.{All}
-use Rattle.std.specs.declared.alloc.Global.{Global}
-use Rattle.std.specs.declared.alloc.AllocError.{AllocError}
+use Rattle.std.specs.Prelude.{◌+◌, ℕ, List}
 use Rattle.av_types.specs.Places.{chunk_at}
 use Rattle.av_types.specs.declared.place.ChunkPos.{ChunkPos}
 use Rattle.av_types.specs.declared.place.Height.{Height}
@@ -11,7 +8,6 @@ use Rattle.av_state.specs.BlockState.{BlockState}
 use Rattle.av_chunk.specs.Payload.{IsPayloadReading}
 use Rattle.av_image.specs.declared.reading.batch.Batch.{Batch}
 use Rattle.av_chunk.specs.declared.chunk.Reading.{Reading}
-use Rattle.av_image.specs.declared.reading.ahead.BatchReading.{BatchReading}
 
 -- what the payload at an index of a file is read as, as the chunk of a place, by a table that gains no state
 pub record IsMadeAt (h : Height) (table : List BlockState) (file : List ℕ) (c : ChunkPos) (i : ℕ) (r : Reading) : Type 0 where
@@ -22,16 +18,3 @@ pub record IsMadeAt (h : Height) (table : List BlockState) (file : List ℕ) (c 
 -- the same at an offset of a batch
 abbrev pub IsMadeBy : Batch → List BlockState → ℕ → Reading → Type 0
 IsMadeBy b table offset r = IsMadeAt b.height table b.region.bytes.now (chunk_at b.pos (b.first + offset)) (b.first + offset) r
-
--- what a thread read of a batch
-pub record IsMadeIn (b : Batch) (table : List BlockState) (r : BatchReading) : Type 0 where
-  pub within : r.offset < b.extent.places
-  pub is : IsMadeBy b table r.offset r.reading
-
--- what a thread answers: such things, or that memory was refused
-abbrev pub IsTaken : Batch → List BlockState → Result (Vec BatchReading Global) AllocError → Type 0
-IsTaken b table r = IfOk r (λ v. All (IsMadeIn b table) v.items)
-
--- each place is empty, or has what its payload is read as
-abbrev pub AreAhead : Batch → List BlockState → List (Option Reading) → Type 0
-AreAhead b table places = (i : ℕ) → IfSome (slice_index_or places i None) (IsMadeBy b table i)

@@ -1,11 +1,8 @@
 -- Payloads that threads make, with their indices in their region. Working definitions: no public clause cites them.
-use Rattle.std.specs.Prelude.{◌≡◌, ◌<◌, ℕ, List, Vec, Option, Some, None, Result, slice_get, slice_index_or, IfOk, IfSome}
-use Rattle.std.specs.List.{All}
+use Rattle.std.specs.Prelude.{◌≡◌, ◌<◌, ℕ, List, Vec, Option, Some, slice_get}
 use Rattle.std.specs.declared.alloc.Global.{Global}
-use Rattle.std.specs.declared.alloc.AllocError.{AllocError}
 use Rattle.av_types.specs.Places.{chunk_at}
 use Rattle.av_image.specs.declared.writing.job.RegionJob.{RegionJob}
-use Rattle.av_image.specs.declared.writing.dealt.IndexedPayload.{IndexedPayload}
 use Rattle.av_image.specs.SavingSteps.{slot_payload, region_payloads}
 
 -- what is written at an index of the region, and at each
@@ -21,13 +18,5 @@ pub record IsPayloadAt (j : RegionJob) (i : ℕ) (b : List ℕ) : Type 0 where
   pub is : Some b ≡ job_payload j i
 
 -- the same of what a thread made
-abbrev pub IsMade : RegionJob → IndexedPayload → Type 0
-IsMade j p = IsPayloadAt j p.index p.bytes.items
-
--- what a thread answers: such payloads, or that memory was refused
-abbrev pub IsTaken : RegionJob → Result (Vec IndexedPayload Global) AllocError → Type 0
-IsTaken j r = IfOk r (λ v. All (IsMade j) v.items)
-
--- each place is empty, or has what is written there
-abbrev pub ArePlaced : RegionJob → List (Option (Vec ℕ Global)) → Type 0
-ArePlaced j places = (i : ℕ) → IfSome (slice_index_or places i None) (λ v. IsPayloadAt j i v.items)
+abbrev pub IsMade : RegionJob → ℕ → Vec ℕ Global → Type 0
+IsMade j i v = IsPayloadAt j i v.items

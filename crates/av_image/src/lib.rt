@@ -1,7 +1,6 @@
 //! Region files as a world and a rest, and back.
 #![tactic(auto)]
 
-mod empty;
 mod reading;
 mod rest;
 mod writing;

@@ -5,12 +5,14 @@ ghost use Rattle.av_types.specs.declared.fault.Fault.TheVariants.{OutOfMemory, B
 ghost use Rattle.av_chunk.specs.Light.{section_count};
 ghost use Rattle.av_world.specs.Views.{height_of, positions_of, blocks, is_broken};
 ghost use Rattle.av_section_light.specs.Light.{IsChunkLight};
-ghost use Rattle.av_light.specs.Placed.{IsTaken};
+ghost use Rattle.av_dealt.specs.Dealt.{IsTaken};
+ghost use Rattle.av_light.specs.Placed.{IsChunkLightAt};
 ghost use Rattle.av_light.specs.Lights.{AreLit};
 
-use crate::dealt::{PlacedLight, gathered, lights_taken};
+use crate::dealt::in_order;
 use crate::lamps::Lamps;
 use av_chunk::ChunkLight;
+use av_dealt::{Placed, gathered, taken};
 use av_rules::Kinds;
 use av_types::Fault;
 use av_world::World;
@@ -31,16 +33,17 @@ fn lights_by(
 {
     let next = AtomicU64::new(0);
     let count = current_num_threads(rt).min(lamps.world.positions().len());
-    let taken = (0..count)
+    let all = (0..count)
         .into_par_iter()
         .with_min_len(1)
         .map(
-            |_thread: usize| -> Result<Vec<PlacedLight>, AllocError>
-                ensures { IsTaken lamps.entry.now.kinds.now lamps.entry.now.world.now result }
-            { lights_taken(alloc, lamps, &next) },
+            |_thread: usize| -> Result<Vec<Placed<ChunkLight>>, AllocError>
+                ensures { IsTaken (length (positions_of lamps.entry.now.world.now)) (IsChunkLightAt lamps.entry.now.kinds.now lamps.entry.now.world.now) result }
+            { taken(alloc, lamps, &next) },
         )
-        .collect::<Vec<Result<Vec<PlacedLight>, AllocError>>>(rt, alloc)?;
-    gathered(alloc, lamps, taken)
+        .collect::<Vec<Result<Vec<Placed<ChunkLight>>, AllocError>>>(rt, alloc)?;
+    let slots = gathered(alloc, lamps, all)?;
+    in_order(alloc, lamps, slots)
 }
 
 /// The light of each chunk of a world, broken or not.

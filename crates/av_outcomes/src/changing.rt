@@ -1,5 +1,5 @@
 //! What the files of a run change in a folder.
-ghost use Rattle.std.specs.Prelude.{IfOk};
+ghost use Rattle.std.specs.Prelude.{IfOk, IfSome};
 ghost use Rattle.av_changes.specs.Changes.{AreChangesByName};
 ghost use Rattle.av_outcomes.specs.Telling.{outcome_files};
 
@@ -35,7 +35,9 @@ pub fn changes_asked<R: Files + AllocGlobal>(
     folder: &str,
     ran: &Ran,
     progress: Progress,
-) -> Option<Vec<Change>> {
+) -> Option<Vec<Change>>
+    ensures { IfSome result (λ changes. AreChangesByName (outcome_files ran.now) changes.items) }
+{
     if progress == Progress::Silent {
         return None;
     }

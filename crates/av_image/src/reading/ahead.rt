@@ -1,14 +1,14 @@
 //! Payloads of a region that several threads read before its places are read, each the next that none has taken.
 ghost use Rattle.std.specs.Prelude.{◌≡◌, ◌+◌, ◌<◌, ◌≤◌, length, slice_index_or, slice_set, None, IfOk, IfSome};
-ghost use Rattle.std.specs.List.{All};
+ghost use Rattle.av_dealt.specs.Dealt.{AreInPlace, IsTaken};
 ghost use Rattle.av_region.specs.Region.{Holds};
 ghost use Rattle.av_state.specs.Table.{states};
 ghost use Rattle.av_chunk.specs.Payload.{IsPayloadReading};
-ghost use Rattle.av_image.specs.Ahead.{IsMadeBy, IsMadeIn, IsTaken, AreAhead};
+ghost use Rattle.av_image.specs.Ahead.{IsMadeBy};
 
-use crate::empty::empty_places;
 use crate::reading::batch::Batch;
 use av_chunk::{Chunk, Reading};
+use av_dealt::{Maker, Placed, gathered, taken};
 use av_nbt::decode;
 use av_state::StateTable;
 use av_types::{ChunkPos, Height};
@@ -16,7 +16,6 @@ use rayon::current_num_threads;
 use rayon::prelude::*;
 use std::alloc::{AllocError, Global};
 use std::sync::atomic::AtomicU64;
-use std::sync::atomic::Ordering::SeqCst;
 use std::thread::Threads;
 
 /// How many states each table has. One with no more knows hardly any chunk, so none is tried.
@@ -24,13 +23,6 @@ const FIRST_STATES: usize = 10;
 
 /// How many bytes of payloads are worth the start of a thread.
 const BYTES_A_THREAD: usize = 1 << 15;
-
-/// What a payload was read as, and its place in its batch.
-#[derive(Drop)]
-struct BatchReading {
-    offset: usize,
-    reading: Reading,
-}
 
 /// What a payload is read as, where the table has all states of its chunk. None where it is to be refused too, or memory is
 /// refused: the place's reader finds why. A document is let go at once, so only those stand that threads are at.
@@ -65,101 +57,41 @@ fn payload_at<'a>(batch: &Batch<'a>, offset: usize) -> Option<&'a [u8]>
     }
 }
 
-/// Adds what the payload at a place of a batch is read as. Where that is not known it adds nothing.
-fn add_known(
-    alloc: Global,
-    batch: &Batch<'_>,
-    table: &StateTable,
-    offset: usize,
-    made: &mut Vec<BatchReading>,
-) -> Result<(), AllocError>
-    requires offset { offset < batch.now.extent.places }
-    requires made { All (IsMadeIn batch.now (states table.now)) made.old.items }
-    ensures { All (IsMadeIn batch.now (states table.now)) made.new.items }
-{
-    let Some(payload) = payload_at(batch, offset) else {
-        return Ok(());
-    };
-    let at = batch.pos.chunk_at(batch.first + offset);
-    let Some(reading) = known(alloc, payload, at, batch.height, table) else {
-        return Ok(());
-    };
-    made.push(BatchReading { offset, reading })?;
-    Ok(())
+/// A batch that is read by the states of a table.
+#[derive(Drop)]
+struct BatchReader<'a> {
+    batch: &'a Batch<'a>,
+    table: &'a StateTable,
 }
 
-/// What this thread reads, until all places are taken.
-fn made_here(
-    alloc: Global,
-    batch: &Batch<'_>,
-    table: &StateTable,
-    next: &AtomicU64,
-) -> Result<Vec<BatchReading>, AllocError>
-    ensures { IsTaken batch.now (states table.now) result }
-{
-    let mut made = Vec::new(alloc);
-    for _ in 0..batch.extent.places {
-        let offset = next.fetch_add(1, SeqCst) as usize;
-        if offset >= batch.extent.places {
-            break;
-        }
-        add_known(alloc, batch, table, offset, &mut made)?;
+/// Makes what the payload of each place is read as, where that is known.
+impl<'a> Maker for BatchReader<'a> {
+    type Thing = Reading;
+
+    type Bench = ();
+
+    ghost places = { λ r. r.batch.now.extent.places };
+
+    ghost is_of = { λ r. IsMadeBy r.batch.now (states r.table.now) };
+
+    fn places(&self) -> usize {
+        self.batch.extent.places
     }
-    Ok(made)
-}
 
-/// Puts what a payload was read as into its place.
-#[tactic(auto, using(crate::proofs::BatchPlaces::ahead_set))]
-fn put_ahead(
-    batch: &Batch<'_>,
-    table: &StateTable,
-    offset: usize,
-    reading: Reading,
-    places: &mut Vec<Option<Reading>>,
-)
-    requires offset { offset < batch.now.extent.places }
-    requires made { IsMadeBy batch.now (states table.now) offset reading }
-    requires long { length places.old.items ≡ batch.now.extent.places }
-    requires ahead { AreAhead batch.now (states table.now) places.old.items }
-    ensures long { length places.new.items ≡ batch.now.extent.places }
-    ensures ahead { AreAhead batch.now (states table.now) places.new.items }
-{
-    places[offset] = Some(reading);
-}
+    fn bench(&self) {}
 
-/// Puts what was read into its places.
-fn place_all(
-    batch: &Batch<'_>,
-    table: &StateTable,
-    mut made: Vec<BatchReading>,
-    places: &mut Vec<Option<Reading>>,
-)
-    requires each { All (IsMadeIn batch.now (states table.now)) made.items }
-    requires long { length places.old.items ≡ batch.now.extent.places }
-    requires ahead { AreAhead batch.now (states table.now) places.old.items }
-    ensures long { length places.new.items ≡ batch.now.extent.places }
-    ensures ahead { AreAhead batch.now (states table.now) places.new.items }
-{
-    while let Some(BatchReading { offset, reading }) = made.pop() {
-        put_ahead(batch, table, offset, reading, places);
+    fn make(
+        &self,
+        alloc: Global,
+        place: usize,
+        _bench: &mut (),
+    ) -> Result<Option<Reading>, AllocError> {
+        let Some(payload) = payload_at(self.batch, place) else {
+            return Ok(None);
+        };
+        let at = self.batch.pos.chunk_at(self.batch.first + place);
+        Ok(known(alloc, payload, at, self.batch.height, self.table))
     }
-}
-
-/// What several threads read, in its places.
-fn gathered(
-    alloc: Global,
-    batch: &Batch<'_>,
-    table: &StateTable,
-    mut taken: Vec<Result<Vec<BatchReading>, AllocError>>,
-) -> Result<Vec<Option<Reading>>, AllocError>
-    requires { All (IsTaken batch.now (states table.now)) taken.items }
-    ensures { IfOk result (λ places. AreAhead batch.now (states table.now) places.items) }
-{
-    let mut places = empty_places(alloc, batch.extent.places)?;
-    while let Some(made) = taken.pop() {
-        place_all(batch, table, made?, &mut places);
-    }
-    Ok(places)
 }
 
 /// How many threads are worth a batch: at most as many as there are processors, or payloads.
@@ -178,23 +110,24 @@ pub(crate) fn read_ahead(
     batch: &Batch<'_>,
     table: &StateTable,
 ) -> Result<Vec<Option<Reading>>, AllocError>
-    ensures { IfOk result (λ places. AreAhead batch.now (states table.now) places.items) }
+    ensures { IfOk result (λ places. AreInPlace (IsMadeBy batch.now (states table.now)) places.items) }
 {
     let count = count_threads(rt, batch);
     if count < 2 || table.len() <= FIRST_STATES {
         return Ok(Vec::new(alloc));
     }
     let next = AtomicU64::new(0);
-    let taken = (0..count)
+    let reader = BatchReader { batch, table };
+    let all = (0..count)
         .into_par_iter()
         .with_min_len(1)
         .map(
-            |_thread: usize| -> Result<Vec<BatchReading>, AllocError>
-                ensures { IsTaken batch.entry.now (states table.entry.now) result }
-            { made_here(alloc, batch, table, &next) },
+            |_thread: usize| -> Result<Vec<Placed<Reading>>, AllocError>
+                ensures { IsTaken reader.entry.batch.now.extent.places (IsMadeBy reader.entry.batch.now (states reader.entry.table.now)) result }
+            { taken(alloc, &reader, &next) },
         )
-        .collect::<Vec<Result<Vec<BatchReading>, AllocError>>>(rt, alloc)?;
-    gathered(alloc, batch, table, taken)
+        .collect::<Vec<Result<Vec<Placed<Reading>>, AllocError>>>(rt, alloc)?;
+    gathered(alloc, &reader, all)
 }
 
 /// Takes what a list has at an index. Past its end there is nothing.

@@ -5,9 +5,10 @@ ghost use Rattle.av_types.specs.declared.fault.Fault.TheVariants.{OutOfMemory};
 ghost use Rattle.av_types.specs.Places.{IsInLimits};
 ghost use Rattle.av_state.specs.Table.{states};
 ghost use Rattle.av_section.specs.Reading.{OnlyGrows};
+ghost use Rattle.av_dealt.specs.Dealt.{AreInPlace};
 ghost use Rattle.av_files.specs.Layout.{indices};
 ghost use Rattle.av_files.specs.FirstFault.{IsFirstOfPlaces, IsFirstOfFile, IsFirstOfFiles};
-ghost use Rattle.av_image.specs.Ahead.{AreAhead};
+ghost use Rattle.av_image.specs.Ahead.{IsMadeBy};
 ghost use Rattle.av_image.specs.Placed.{ArePlacesRead, IsRegionRead, AreRegionsRead, file_of, are_stamps};
 ghost use Rattle.av_image.specs.Ways.{GoesOn, Stops};
 
@@ -50,7 +51,7 @@ fn read_batch(
     table: &mut StateTable,
     places: &mut Vec<Place>,
 ) -> Result<(), Fault>
-    requires ahead { AreAhead batch.now (states table.old) ahead.items }
+    requires ahead { AreInPlace (IsMadeBy batch.now (states table.old)) ahead.items }
     ensures ok { OnOk result (GoesOn batch.now.height (file_of batch.now.pos batch.now.region.bytes.now) (states table.old) batch.now.first places.old.items (states table.new) (batch.now.first + batch.now.extent.places) places.new.items) }
     ensures err { IfErr result (λ e. e ≢ OutOfMemory → Stops batch.now.height (file_of batch.now.pos batch.now.region.bytes.now) (states table.old) batch.now.first places.old.items e) }
     ensures table { OnlyGrows (states table.old) (states table.new) }

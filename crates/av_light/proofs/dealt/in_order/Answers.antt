@@ -5,7 +5,8 @@ use Rattle.av_world.specs.Views.{height_of, positions_of, blocks}
 use Rattle.av_section_light.specs.Light.{IsChunkLight}
 use Rattle.av_light.specs.Placed.{IsChunkLightAt}
 use Rattle.av_light.proofs.LampLists.{at_place}
-use Rattle.av_light.proofs.Placing.{placed_at, placed_set, lit_more}
+use Rattle.av_dealt.proofs.InPlace.{in_place-set}
+use Rattle.av_light.proofs.Placing.{placed_at, lit_more}
 use Rattle.av_light.proofs.dealt.in_order.Goals as goal
 
 pub light_of-requires : goal.light_of-requires
@@ -28,5 +29,5 @@ loop-index-preserved c =
     record {
       lit = rw c.in_ok-push.ensures.items (lit_more (IsChunkLight k (blocks w) (height_of w)) (positions_of w) c.loop-index.lights.items c.loop-index.index chunk c.in_ok-light.light (omega (arith, long, c.loop-index-test.true)) inv.lit (light chunk));
       long = search rules;
-      placed = placed_set k w c.loop-index.slots.items c.loop-index.index c.take.new.self inv.placed (subst (λ o. IfSome o (IsChunkLightAt k w c.loop-index.index)) (sym c.take.ensures.after) tt);
+      placed = in_place-set (IsChunkLightAt k w) c.loop-index.slots.items c.loop-index.index c.take.new.self inv.placed (subst (λ o. IfSome o (IsChunkLightAt k w c.loop-index.index)) (sym c.take.ensures.after) tt);
     }

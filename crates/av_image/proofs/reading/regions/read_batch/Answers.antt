@@ -1,13 +1,14 @@
-use Rattle.std.proofs.Common.{◌≢◌, ◌<◌, ◌+◌, get_or, sym, subst, arith}
+use Rattle.std.proofs.Common.{◌≢◌, ◌<◌, ◌+◌, get_or, None, sym, subst, arith}
 use Rattle.av_types.proofs.Exits.{err_from}
 use Rattle.av_types.specs.Places.{chunk_at}
 use Rattle.av_types.specs.declared.fault.Fault.TheVariants.{OutOfMemory}
 use Rattle.av_state.specs.Table.{states}
 use Rattle.av_section.proofs.Numbers.{OnlyGrows-trans}
-use Rattle.av_image.specs.Ahead.{AreAhead}
+use Rattle.av_dealt.specs.Dealt.{AreInPlace}
+use Rattle.av_dealt.proofs.InPlace.{in_place-set}
+use Rattle.av_image.specs.Ahead.{IsMadeBy}
 use Rattle.av_image.specs.Placed.{file_of}
 use Rattle.av_image.specs.Ways.{Stops}
-use Rattle.av_image.proofs.BatchPlaces.{none_in, ahead_set}
 use Rattle.av_image.proofs.Grown.{ahead_grown}
 use Rattle.av_image.proofs.Ways.{grows_nothing, goes_same, goes_more, goes_stop}
 use Rattle.av_image.proofs.reading.regions.read_batch.Goals as goal
@@ -24,7 +25,7 @@ read_place-requires-clause-ahead c =
     let b = c.args.batch.now in
     let i = b.first + c.loop-offset.offset in
     rw c.take_at.ensures.taken
-    (ahead_grown b.height (states c.args.table.now) (states c.loop-offset.table) b.region.bytes.now (chunk_at b.pos i) i (get_or c.loop-offset.ahead.items c.loop-offset.offset none_in) c.loop-offset.invariant.grown c.loop-offset.table.numbered.bounded
+    (ahead_grown b.height (states c.args.table.now) (states c.loop-offset.table) b.region.bytes.now (chunk_at b.pos i) i (get_or c.loop-offset.ahead.items c.loop-offset.offset None) c.loop-offset.invariant.grown c.loop-offset.table.numbered.bounded
     (c.loop-offset.invariant.ahead c.loop-offset.offset))
 
 pub returns-in_err-place-clause-err : goal.returns-in_err-place-clause-err
@@ -51,7 +52,7 @@ loop-offset-preserved c =
       way = goes_more c.args.batch.now.height f (states c.args.table.now) (states c.loop-offset.table) (states c.read_place.new.table) b.first (b.first + c.loop-offset.offset) (b.first + (c.loop-offset.offset + 1)) c.args.places.now.items c.loop-offset.places.items c.push.new.self.items c.in_ok-place.place
           less (omega arith) c.in_ok-push.ensures.items c.loop-offset.invariant.way c.in_ok-place.ensures.ok c.in_ok-place.ensures.table;
       grown = OnlyGrows-trans (states c.args.table.now) (states c.loop-offset.table) (states c.read_place.new.table) c.loop-offset.invariant.grown c.in_ok-place.ensures.table;
-      ahead = subst (λ xs. AreAhead b (states c.args.table.now) xs) (sym c.take_at.ensures.left) (ahead_set b (states c.args.table.now) c.loop-offset.ahead.items c.loop-offset.offset none_in c.loop-offset.invariant.ahead tt);
+      ahead = subst (AreInPlace (IsMadeBy b (states c.args.table.now))) (sym c.take_at.ensures.left) (in_place-set (IsMadeBy b (states c.args.table.now)) c.loop-offset.ahead.items c.loop-offset.offset None c.loop-offset.invariant.ahead tt);
     }
 
 pub returns-clause-ok : goal.returns-clause-ok

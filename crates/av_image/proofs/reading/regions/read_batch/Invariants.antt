@@ -1,7 +1,8 @@
 use Rattle.std.proofs.Common.{◌+◌}
 use Rattle.av_state.specs.Table.{states}
 use Rattle.av_section.specs.Reading.{OnlyGrows}
-use Rattle.av_image.specs.Ahead.{AreAhead}
+use Rattle.av_dealt.specs.Dealt.{AreInPlace}
+use Rattle.av_image.specs.Ahead.{IsMadeBy}
 use Rattle.av_image.specs.Placed.{file_of}
 use Rattle.av_image.specs.Ways.{GoesOn}
 use Rattle.av_image.proofs.reading.regions.read_batch.Given as goal
@@ -11,5 +12,5 @@ invariant-loop-offset l =
     record {
       way : GoesOn l.batch.height (file_of l.batch.pos l.batch.region.bytes.now) (states l.fn.table) l.batch.first l.fn.places.items (states l.table) (l.batch.first + l.offset) l.places.items;
       grown : OnlyGrows (states l.fn.table) (states l.table);
-      ahead : AreAhead l.batch (states l.fn.table) l.ahead.items;
+      ahead : AreInPlace (IsMadeBy l.batch (states l.fn.table)) l.ahead.items;
     }

@@ -3,8 +3,9 @@ use Rattle.std.specs.List.{All}
 use Rattle.std.proofs.Crossing.{crosses}
 use denote.Param.Send.{sendable}
 use Rattle.av_image.proofs.Crossings.{world_sync, region_sync}
-use Rattle.av_image.specs.Making.{IsTaken}
-use Rattle.av_image.proofs.Placing.{all_given}
+use Rattle.av_dealt.specs.Dealt.{IsTaken}
+use Rattle.av_dealt.proofs.Given.{all_given}
+use Rattle.av_image.specs.Making.{IsMade}
 use Rattle.av_image.proofs.writing.dealt.payloads_by.Goals as goal
 
 pub map-requires-send-F : goal.map-requires-send-F
@@ -18,5 +19,6 @@ collect-requires-send-Self g c κs within = search (sendable, crosses, world_syn
 
 pub gathered-requires : goal.gathered-requires
 gathered-requires g c =
-    let h = c.in_ok-taken.ensures {u = tt} in
-    subst (All (IsTaken c.args.job.now)) (sym h.2) (all_given _ (IsTaken c.args.job.now) (λ x y a. rw c.map.ensures.f at a) h.1.0 h.0 h.1.2)
+    let made = IsTaken 1024 (IsMade c.args.job.now) in
+    let h = c.in_ok-all.ensures {u = tt} in
+    subst (All made) (sym h.2) (all_given _ made (λ x y a. rw c.map.ensures.f at a) h.1.0 h.0 h.1.2)
