@@ -7,7 +7,9 @@ use crate::holding::LockFiles;
 use crate::system_folder::SystemFolder;
 use crate::tidying::hold_if_free;
 use av_commands::names::region_of_name;
-use av_exchange::{Folder, JOURNAL, close, place, place_alone, repair, stage, sweep, unstage};
+use av_exchange::{
+    Folder, JOURNAL, close, is_own, place, place_alone, repair, stage, sweep, unstage,
+};
 use av_sink::{FailedFile, OutputFolder, Repair, Sink, SinkFailed, Teller};
 use std::alloc::{AllocError, Global};
 use std::io::{self, ErrorKind};
@@ -64,22 +66,37 @@ fn write_alone<R: LockFiles + AllocGlobal + Clone + Drop>(
     placed
 }
 
-/// Writes a file of a folder. One of a region waits for its place, and its name is noted.
+/// What is said of a name that a file by itself can't have.
+const NO_NAME: &str =
+    "it is a name of region files, or of what stands beside them while they are written";
+
+/// Whether a file by itself would have the name of a region's, or that of an exchange's own file, or would be written under one first.
+fn is_of_exchange(alloc: Global, name: &str) -> Result<bool, AllocError> {
+    let is_part = name == "journal" || name == "journal-new" || name == "trial";
+    Ok(is_part || is_own(name) || region_of_name(alloc, name)?.is_some())
+}
+
+/// Writes a file of a folder. One of a region waits for its place, where the folder was repaired for it, and its name is noted.
 fn write<R: LockFiles + AllocGlobal + Clone + Drop>(
     rt: &R,
     folder: &Option<String>,
+    is_repaired: bool,
     names: &mut Vec<String>,
     name: &str,
     bytes: &[u8],
 ) -> io::Result<()> {
     let mut folder = opened(rt, folder)?;
-    if region_of_name(rt.alloc(), name)?.is_some() {
+    if is_repaired && region_of_name(rt.alloc(), name)?.is_some() {
         return write_region(rt.alloc(), &mut folder, names, name, bytes);
+    }
+    if is_of_exchange(rt.alloc(), name)? {
+        return Err(io::Error::new(ErrorKind::InvalidInput, NO_NAME));
     }
     write_alone(rt, &mut folder, name, bytes)
 }
 
-/// A folder that files are written to. Those of regions take their places all or none; any other file takes its own at once. A region's
+/// A folder that files are written to. Those of regions take their places all or none, in a folder that was repaired; any other file takes
+/// its own at once, and has no name of these. A region's
 /// file that has its bytes already is left alone. What is a link in the place of a file is not written to. Want of memory for a path is a
 /// failed write too, as is each write before the folder is opened.
 #[derive(Drop)]
@@ -177,7 +194,15 @@ impl<'a, R: LockFiles + AllocGlobal + Clone + Drop> Sink for FolderSink<'a, R> {
     }
 
     fn write_file(&mut self, name: &str, bytes: &[u8]) -> Result<(), SinkFailed> {
-        match write(self.rt, &self.folder, &mut self.names, name, bytes) {
+        let is_repaired = self.repaired.is_some();
+        match write(
+            self.rt,
+            &self.folder,
+            is_repaired,
+            &mut self.names,
+            name,
+            bytes,
+        ) {
             Ok(()) => {
                 self.handed += 1;
                 Ok(())

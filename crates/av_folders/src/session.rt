@@ -13,21 +13,19 @@ use std::rt::Files;
 /// The file of a world that the game locks while it has the world open.
 const SESSION: &str = "session.lock";
 
-/// What is said of a file that the game holds, where it does.
-fn held_text<R: Files + AllocGlobal>(rt: &R, session: Path<'_>) -> Option<String> {
+/// What is said of a file that the game holds, where it does, and of what helps.
+fn held_text<R: Files + AllocGlobal>(rt: &R, session: Path<'_>, help: &str) -> Option<String> {
     let found = fs::metadata(rt, session).ok()?;
     let holder = holder_of(rt, &found)?;
-    format!(in rt.alloc();
-        "{holder} has the world open: stop the game, or call again with --in-use"
-    ).ok()
+    format!(in rt.alloc(); "{holder} has the world open: {help}").ok()
 }
 
 /// Whether nobody holds the `session.lock` of a folder, as far as the system tells.
-fn look_in<R: Files + AllocGlobal>(rt: &R, folder: Path<'_>) -> Result<(), Failure>
+fn look_in<R: Files + AllocGlobal>(rt: &R, folder: Path<'_>, help: &str) -> Result<(), Failure>
     ensures { IfErr result (λ e. IsSessionFault e.fault) }
 {
     let session = folder.join(rt.alloc(), SESSION)?;
-    match held_text(rt, session.as_path()) {
+    match held_text(rt, session.as_path(), help) {
         None => Ok(()),
         Some(text) => {
             let error = io::Error::new(ErrorKind::WouldBlock, text.as_str());
@@ -37,23 +35,36 @@ fn look_in<R: Files + AllocGlobal>(rt: &R, folder: Path<'_>) -> Result<(), Failu
     }
 }
 
+/// Whether nobody holds the `session.lock` of a folder above a path.
+fn look_above<R: Files + AllocGlobal>(rt: &R, path: Path<'_>, help: &str) -> Result<(), Failure>
+    ensures { IfErr result (λ e. IsSessionFault e.fault) }
+{
+    for above in path.ancestors().skip(1) {
+        look_in(rt, above, help)?;
+    }
+    Ok(())
+}
+
 /// The path of a folder without links, where it can be told.
 fn real_path<R: Files + AllocGlobal>(rt: &R, folder: &str) -> Option<PathBuf> {
     fs::canonicalize(rt, folder).ok()
 }
 
 /// Looks whether the game has the world open that a folder of region files is of: of one whose folder lies above, since a dimension's can
-/// lie deep in its world, as `dimensions/PACK/NAME/region`.
-fn look_for_game<R: Files + AllocGlobal>(rt: &R, folder: &str) -> Result<(), Failure>
+/// lie deep in its world, as `dimensions/PACK/NAME/region`. A world's folder may be a link to another disk, so it is looked above the path
+/// that was given and above that to which its links lead. What is told says what helps.
+pub(crate) fn look_for_game<R: Files + AllocGlobal>(
+    rt: &R,
+    folder: &str,
+    help: &str,
+) -> Result<(), Failure>
     ensures { IfErr result (λ e. IsSessionFault e.fault) }
 {
-    let Some(real) = real_path(rt, folder) else {
-        return Ok(());
-    };
-    for above in real.ancestors().skip(1) {
-        look_in(rt, above)?;
+    look_above(rt, Path::new(folder), help)?;
+    match real_path(rt, folder) {
+        Some(real) => look_above(rt, real.as_path(), help),
+        None => Ok(()),
     }
-    Ok(())
 }
 
 /// Holds a folder for a run, as `hold_folder` does, and looks whether the game has the world open that it is of, unless that is no matter:
@@ -72,6 +83,6 @@ pub fn hold_output<R: LockFiles + AllocGlobal>(
     if in_use {
         return Ok(held);
     }
-    look_for_game(rt, folder)?;
+    look_for_game(rt, folder, "stop the game, or call again with --in-use")?;
     Ok(held)
 }

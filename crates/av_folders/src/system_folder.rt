@@ -5,7 +5,7 @@ use av_exchange::Folder;
 use std::alloc::Global;
 use std::fs::{self, DirEntry, File, Metadata, OpenFile};
 use std::io::{self, ErrorKind, Write};
-use std::os::unix::fs::{MetadataExt, chown};
+use std::os::unix::fs::{MetadataExt, lchown};
 use std::path::{Path, PathBuf};
 use std::rt::Files;
 
@@ -63,18 +63,31 @@ fn file_there<R: Files>(rt: &R, path: Path<'_>) -> io::Result<Option<Metadata>> 
     }
 }
 
-/// Passes over that something is not permitted.
+/// Whether something is not permitted, or not known to the file system, as owners are to some.
+fn is_passed_over(error: &io::Error) -> bool {
+    matches!(
+        error.kind(),
+        ErrorKind::PermissionDenied | ErrorKind::InvalidInput | ErrorKind::Unsupported
+    )
+}
+
+/// Passes over what is not permitted.
 fn where_permitted(done: io::Result<()>) -> io::Result<()> {
     match done {
-        Err(error) if error.kind() != ErrorKind::PermissionDenied => Err(error),
+        Err(error) if !is_passed_over(&error) => Err(error),
         _ => Ok(()),
     }
 }
 
-/// Gives a new file the owner and the rights of the one that it is to replace, where this process may.
-fn keep_owner<R: Files>(rt: &R, path: Path<'_>, file: &R::File, old: &Metadata) -> io::Result<()> {
-    where_permitted(chown(rt, path, Some(old.uid()), Some(old.gid())))?;
-    where_permitted(file.set_permissions(old.permissions()))
+/// Gives a new file the owner and the group of the one that it is to replace, or the group alone, where this process may. A link that came
+/// in the place of the new file is not followed.
+fn keep_owner<R: Files>(rt: &R, path: Path<'_>, old: &Metadata) -> io::Result<()> {
+    match lchown(rt, path, Some(old.uid()), Some(old.gid())) {
+        Err(error) if is_passed_over(&error) => {
+            where_permitted(lchown(rt, path, None, Some(old.gid())))
+        }
+        done => done,
+    }
 }
 
 /// Writes a new file, up to the device.
@@ -87,7 +100,8 @@ fn fill<R: Files>(
 ) -> io::Result<()> {
     let mut file = file;
     if let Some(old) = old {
-        keep_owner(rt, path, &file, &old)?;
+        keep_owner(rt, path, &old)?;
+        where_permitted(file.set_permissions(old.permissions()))?;
     }
     file.write_all(bytes)?;
     file.sync_all()

@@ -5,7 +5,9 @@ ghost use Rattle.av_folders.specs.Folders.{IsFolderFault};
 ghost use Rattle.av_folders.specs.Repairs.{removed_text};
 
 use crate::holding::LockFiles;
+use crate::session::look_for_game;
 use crate::system_folder::SystemFolder;
+use av_commands::device::device_fault;
 use av_commands::failure::Failure;
 use av_exchange::{Folder, JOURNAL, is_own, repair};
 use av_sink::{Repair, Teller};
@@ -45,25 +47,67 @@ pub(crate) fn hold_if_free<R: LockFiles>(rt: &R, folder: &str) -> io::Result<Opt
     }
 }
 
+/// That of a folder whose journal can't be done with.
+fn undone<R: Files + AllocGlobal>(rt: &R, path: &str, name: &str, error: io::Error) -> Failure
+    ensures { IsFolderFault name.now result.fault }
+{
+    match Path::new(path).join(rt.alloc(), JOURNAL) {
+        Ok(journal) => Failure::of_device(rt.alloc(), error, name, journal.as_str()),
+        Err(refused) => Failure::from(refused),
+    }
+}
+
+/// Lets no file take its place in a world that the game has open: what it wrote there afterwards would be lost.
+fn wait_for_game<R: Files + AllocGlobal>(rt: &R, path: &str, name: &str) -> Result<(), Failure>
+    ensures { IfErr result (λ e. IsFolderFault name.now e.fault) }
+{
+    let help = "stop the game first, since a run that was cut off is to be finished";
+    match look_for_game(rt, path, help) {
+        Ok(()) => Ok(()),
+        Err(Failure { reason, .. }) => {
+            let error: io::Error = io::ErrorKind::WouldBlock.into();
+            let fault = device_fault(rt.alloc(), &error, name);
+            Err(Failure { fault, reason })
+        }
+    }
+}
+
 /// Repairs a folder that is not held. Nothing is done about one that another process holds, which works on it.
 fn repair_if_free<R: LockFiles + Eprint + AllocGlobal + Clone + Drop>(
     rt: &R,
     path: &str,
-    folder: &mut SystemFolder<'_, R>,
-) -> io::Result<Option<Repair>> {
-    let Some(_held) = hold_if_free(rt, path)? else {
-        return Ok(None);
+    name: &str,
+    found: Traces,
+) -> Result<Option<Repair>, Failure>
+    ensures { IfErr result (λ e. IsFolderFault name.now e.fault) }
+{
+    let held = match hold_if_free(rt, path) {
+        Ok(held) => held,
+        Err(error) => return Err(undone(rt, path, name, error)),
     };
+    if held.is_none() {
+        return Ok(None);
+    }
+    if found.journal {
+        wait_for_game(rt, path, name)?;
+    }
+    let mut folder = SystemFolder::new(rt, String::from_str(rt.alloc(), path)?);
     let teller = RepairTeller { rt, folder: path };
-    Ok(Some(repair(rt.alloc(), folder, &teller)?))
+    match repair(rt.alloc(), &mut folder, &teller) {
+        Ok(repaired) => Ok(Some(repaired)),
+        Err(error) => Err(undone(rt, path, name, error)),
+    }
 }
 
 /// Repairs a folder where a run was cut off there. Files that belong to none may stay, as where nothing can be written.
 fn repair_found<R: LockFiles + Eprint + AllocGlobal + Clone + Drop>(
     rt: &R,
     path: &str,
-) -> io::Result<Option<Repair>> {
-    let mut folder = SystemFolder::new(rt, String::from_str(rt.alloc(), path)?);
+    name: &str,
+) -> Result<Option<Repair>, Failure>
+    ensures { IfErr result (λ e. IsFolderFault name.now e.fault) }
+{
+    let folder = SystemFolder::new(rt, String::from_str(rt.alloc(), path)?);
     let Ok(names) = folder.names(rt.alloc()) else {
         return Ok(None);
     };
@@ -71,7 +115,7 @@ fn repair_found<R: LockFiles + Eprint + AllocGlobal + Clone + Drop>(
     if !found.any {
         return Ok(None);
     }
-    match repair_if_free(rt, path, &mut folder) {
+    match repair_if_free(rt, path, name, found) {
         Err(_) if !found.journal => Ok(None),
         repaired => repaired,
     }
@@ -112,7 +156,8 @@ impl<'a, R: Eprint> Teller for RepairTeller<'a, R> {
 /// Repairs a folder that is to be read, where a run was cut off there and no other process holds it, and says so on standard error.
 ///
 /// # Errors
-/// `Device` with the name that is given for the folder in faults, where a journal stands that can't be done with; and want of memory.
+/// `Device` with the name that is given for the folder in faults, where a journal stands that can't be done with, as where the game has
+/// the world open; and want of memory.
 pub fn tidy<R: LockFiles + Eprint + AllocGlobal + Clone + Drop, E: Write>(
     rt: &R,
     folder: &str,
@@ -121,15 +166,8 @@ pub fn tidy<R: LockFiles + Eprint + AllocGlobal + Clone + Drop, E: Write>(
 ) -> Result<(), Failure>
     ensures { IfErr result (λ e. IsFolderFault name.now e.fault) }
 {
-    match repair_found(rt, folder) {
-        Ok(Some(repaired)) => {
-            note_removed(err, folder, repaired);
-            Ok(())
-        }
-        Ok(None) => Ok(()),
-        Err(error) => {
-            let path = Path::new(folder).join(rt.alloc(), JOURNAL)?;
-            Err(Failure::of_device(rt.alloc(), error, name, path.as_str()))
-        }
+    if let Some(repaired) = repair_found(rt, folder, name)? {
+        note_removed(err, folder, repaired);
     }
+    Ok(())
 }

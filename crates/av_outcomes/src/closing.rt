@@ -28,7 +28,8 @@ pub fn report_folder<S: OutputFolder, E: Write>(
     report_failure(alloc, err, &failure, manner.explains)
 }
 
-/// Notes that all is told of a run, and answers its status, unless that can't be noted.
+/// Notes that all is told of a run, and answers its status, unless that can't be noted. Of a run that failed it notes nothing: where its
+/// files have their places and that could not be told, the next command tells it, and no tick is run twice.
 pub fn close<S: OutputFolder, E: Write>(
     alloc: Global,
     folder: &str,
@@ -40,6 +41,9 @@ pub fn close<S: OutputFolder, E: Write>(
     ensures status { (result ≡ status) ⊎ (result ≡ FAULT) }
     ensures same { S.account sink.new ≡ S.account sink.old }
 {
+    if status != 0 {
+        return status;
+    }
     match sink.close() {
         Ok(()) => status,
         Err(_) => report_folder(alloc, folder, sink, manner, err),
