@@ -260,13 +260,14 @@ def closed(world, may_mount):
 
 
 def no_output(world):
-    """A run whose line can't be written says so, and leaves no half of its files."""
+    """A run whose line can't be written says so, and leaves no half of its files. The next one tells of it, and runs no tick again."""
     folder = world.laid(world.old)
     with open("/dev/full", "w") as device:
         done = subprocess.run(world.words(folder), stdin=subprocess.DEVNULL, stdout=device, stderr=subprocess.PIPE, text=True, env={})
     yield "no output", (1, ["standard output: No space left on device (os error 28)"]), (done.returncode, done.stderr.splitlines())
-    yield "check after that", 0, world.check(folder).status
-    yield "files after that", [], differing(world.new, shots(folder))
+    yield "files after that", [], differing(contents(world.new), contents(shots(folder)), REGIONS)
+    yield "a run after that", Answer(0, "", [FINISHED % (folder, 3), NOTHING_ELSE]), world.run(folder)
+    yield "its files", [], differing(world.new, shots(folder))
 
 
 def has_own_mounts():

@@ -113,6 +113,47 @@ def check_session(program, work, want):
         expect("another file that is locked", (0, []), run(program, TOP / "samples", folders[0]))
 
 
+def check_linked_world(program, work, want):
+    """A world that the game has open is seen too where its folder of regions is a link to another place."""
+    world = work / "linked_world"
+    world.mkdir()
+    (work / "disk").mkdir()
+    folder = world / "region"
+    folder.symlink_to(regions(work / "disk" / "region"))
+    session = world / "session.lock"
+    before = contents(folder)
+    if os.path.exists("/proc/locks"):
+        with locked(session, fcntl.lockf):
+            expect("an open world by a link", (1, ["fault 25: Device %s" % session]), run(program, TOP / "samples", folder))
+            expect("its files", before, contents(folder))
+    expect("the same that nobody has open", (0, []), run(program, TOP / "samples", folder))
+    expect("what is written to it", want, contents(folder))
+
+
+def check_waiting(program, work, want):
+    """Where new files are to take their places in a world that the game has open, each command waits for the game."""
+    folder = work / "waiting" / "region"
+    folder.parent.mkdir()
+    regions(folder)
+    for name in NAMES:
+        (folder / (".anvilwater-" + name)).write_bytes(want[name])
+    (folder / ".anvilwater-journal").write_text("anvilwater journal 1\n" + "".join(name + "\n" for name in NAMES))
+    before = contents(folder)
+    session = folder.parent / "session.lock"
+    check = [program, "check", "--in", str(folder), "--explain"]
+    if os.path.exists("/proc/locks"):
+        with locked(session, fcntl.lockf):
+            done = subprocess.run(check, stdin=subprocess.DEVNULL, capture_output=True, text=True)
+            help = "process %d has the world open: stop the game first, since a run that was cut off is to be finished" % os.getpid()
+            lines = ["fault 25: Device %s" % folder, "  %s: %s" % (os.path.realpath(session), help)]
+            expect("a journal in an open world", (1, lines), (done.returncode, done.stderr.splitlines()))
+            expect("its files", before, contents(folder))
+    done = subprocess.run(check, stdin=subprocess.DEVNULL, capture_output=True, text=True)
+    line = "%s: a run that was cut off is finished: 2 files took their places" % folder
+    expect("the same once it is closed", (0, [line]), (done.returncode, [line for line in done.stderr.splitlines() if "findings" not in line]))
+    expect("its files then", want, contents(folder))
+
+
 def check_links(program, work, want):
     """A region that is a link is refused; what it leads to stays. A link under the name of a new file is not followed."""
     folder = work / "linked"
@@ -181,7 +222,7 @@ def main():
         expect("a run", (0, []), run(program, TOP / "samples", own))
         want = contents(own)
         expect("its files", NAMES, sorted(want))
-        for check in (check_held, check_session, check_links, check_others, check_owners, check_killed):
+        for check in (check_held, check_session, check_linked_world, check_waiting, check_links, check_others, check_owners, check_killed):
             check(program, work, want)
     print("folders: %d asked, %d wrong" % (asked, len(wrong)))
     sys.exit(1 if wrong else 0)
