@@ -144,7 +144,7 @@ def check_waiting(program, work, want):
     if os.path.exists("/proc/locks"):
         with locked(session, fcntl.lockf):
             done = subprocess.run(check, stdin=subprocess.DEVNULL, capture_output=True, text=True)
-            help = "process %d has the world open: stop the game first, since a run that was cut off is to be finished" % os.getpid()
+            help = "process %d has the world open: stop the game: a run is to be finished first" % os.getpid()
             lines = ["fault 25: Device %s" % folder, "  %s: %s" % (os.path.realpath(session), help)]
             expect("a journal in an open world", (1, lines), (done.returncode, done.stderr.splitlines()))
             expect("its files", before, contents(folder))

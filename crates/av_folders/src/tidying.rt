@@ -61,7 +61,8 @@ fn undone<R: Files + AllocGlobal>(rt: &R, path: &str, name: &str, error: io::Err
 fn wait_for_game<R: Files + AllocGlobal>(rt: &R, path: &str, name: &str) -> Result<(), Failure>
     ensures { IfErr result (λ e. IsFolderFault name.now e.fault) }
 {
-    let help = "stop the game first, since a run that was cut off is to be finished";
+    // The system's error, in which this is told, holds 80 bytes.
+    let help = "stop the game: a run is to be finished first";
     match look_for_game(rt, path, help) {
         Ok(()) => Ok(()),
         Err(Failure { reason, .. }) => {
