@@ -196,6 +196,28 @@ def check_owners(program, work, want):
     expect("what is written to it", want, contents(folder))
 
 
+def check_groups(program, work, want):
+    """Where a user can't give a file its old owner, it gets its old group, if the user is in that."""
+    if os.geteuid() != 0:
+        return
+    user, group, own = 4321, 2345, work / "grouped"
+    own.mkdir()
+    table, edits = (shutil.copy(TOP / file, own) for file in ("tables/blocks.toml", "samples/edits.txt"))
+    copied = shutil.copy(program, own)
+    folder = regions(own / "region")
+    for name in NAMES:
+        (folder / name).chmod(0o660)
+        os.chown(folder / name, 0, group)
+    os.chown(folder, user, user)
+    work.chmod(0o755)
+    call = [copied, "run", "--in", str(folder), "--out", str(folder), "--table", table, "--edits", edits, "--ticks", "20"]
+    done = subprocess.run(call, stdin=subprocess.DEVNULL, capture_output=True, user=user, group=user, extra_groups=[group], cwd="/")
+    expect("a file of another's, by a user of its group", 0, done.returncode)
+    found = (folder / "r.0.0.mca").stat()
+    expect("its owner, group and rights", (user, group, 0o660), (found.st_uid, found.st_gid, found.st_mode & 0o777))
+    expect("what is written to it", want, contents(folder))
+
+
 def check_killed(program, work, want):
     """Wherever a call is killed, each region's file is the old or the new one, and the next call leaves the new ones and nothing else."""
     old = contents(regions(work / "old"))
@@ -222,7 +244,7 @@ def main():
         expect("a run", (0, []), run(program, TOP / "samples", own))
         want = contents(own)
         expect("its files", NAMES, sorted(want))
-        for check in (check_held, check_session, check_linked_world, check_waiting, check_links, check_others, check_owners, check_killed):
+        for check in (check_held, check_session, check_linked_world, check_waiting, check_links, check_others, check_owners, check_groups, check_killed):
             check(program, work, want)
     print("folders: %d asked, %d wrong" % (asked, len(wrong)))
     sys.exit(1 if wrong else 0)
