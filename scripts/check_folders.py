@@ -126,6 +126,12 @@ def check_linked_world(program, work, want):
         with locked(session, fcntl.lockf):
             expect("an open world by a link", (1, ["fault 25: Device %s" % session]), run(program, TOP / "samples", folder))
             expect("its files", before, contents(folder))
+    beside = work / "beside_linked_world"
+    beside.mkdir()
+    with locked(session, fcntl.lockf):
+        call = words(program, TOP / "samples", "../beside_linked_world")
+        done = subprocess.run(call, stdin=subprocess.DEVNULL, capture_output=True, cwd=world)
+        expect("a folder beside the world, from in it", 0, done.returncode)
     expect("the same that nobody has open", (0, []), run(program, TOP / "samples", folder))
     expect("what is written to it", want, contents(folder))
 
@@ -145,13 +151,17 @@ def check_waiting(program, work, want):
         with locked(session, fcntl.lockf):
             done = subprocess.run(check, stdin=subprocess.DEVNULL, capture_output=True, text=True)
             help = "process %d has the world open: stop the game: a run is to be finished first" % os.getpid()
-            lines = ["fault 25: Device %s" % folder, "  %s: %s" % (os.path.realpath(session), help)]
+            lines = ["fault 25: Device %s" % folder, "  %s: %s" % (session, help)]
             expect("a journal in an open world", (1, lines), (done.returncode, done.stderr.splitlines()))
             expect("its files", before, contents(folder))
     done = subprocess.run(check, stdin=subprocess.DEVNULL, capture_output=True, text=True)
     line = "%s: a run that was cut off is finished: 2 files took their places" % folder
     expect("the same once it is closed", (0, [line]), (done.returncode, [line for line in done.stderr.splitlines() if "findings" not in line]))
     expect("its files then", want, contents(folder))
+    (folder / ".anvilwater-journal").write_text("anvilwater journal 1\n" + "".join(name + "\n" for name in NAMES))
+    with locked(session, fcntl.lockf):
+        done = subprocess.run(check, stdin=subprocess.DEVNULL, capture_output=True, text=True)
+    expect("a journal whose files have their places", (0, True), (done.returncode, done.stderr.startswith(line + "\n")))
 
 
 def check_links(program, work, want):

@@ -67,8 +67,7 @@ fn write_alone<R: LockFiles + AllocGlobal + Clone + Drop>(
 }
 
 /// What is said of a name that a file by itself can't have.
-const NO_NAME: &str =
-    "it is a name of region files, or of what stands beside them while they are written";
+const NO_NAME: &str = "it is a name of region files, or of what stands beside them for a while";
 
 /// Whether a file by itself would have the name of a region's, or that of an exchange's own file, or would be written under one first.
 fn is_of_exchange(alloc: Global, name: &str) -> Result<bool, AllocError> {
@@ -96,9 +95,8 @@ fn write<R: LockFiles + AllocGlobal + Clone + Drop>(
 }
 
 /// A folder that files are written to. Those of regions take their places all or none, in a folder that was repaired; any other file takes
-/// its own at once, and has no name of these. A region's
-/// file that has its bytes already is left alone. What is a link in the place of a file is not written to. Want of memory for a path is a
-/// failed write too, as is each write before the folder is opened.
+/// its own at once, and has no name of these. A region's file that has its bytes already is left alone. What is a link in the place of a
+/// file is not written to. Want of memory for a path is a failed write too, as is each write before the folder is opened.
 #[derive(Drop)]
 pub struct FolderSink<'a, R> {
     rt: &'a R,

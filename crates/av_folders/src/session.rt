@@ -50,6 +50,16 @@ fn real_path<R: Files + AllocGlobal>(rt: &R, folder: &str) -> Option<PathBuf> {
     fs::canonicalize(rt, folder).ok()
 }
 
+/// Whether a path goes down alone, so that what is written before its end lies above it.
+fn goes_down(path: &str) -> bool {
+    for part in path.as_bytes().split(|byte| *byte == b'/') {
+        if part == b"..".as_slice() || part == b".".as_slice() {
+            return false;
+        }
+    }
+    true
+}
+
 /// Looks whether the game has the world open that a folder of region files is of: of one whose folder lies above, since a dimension's can
 /// lie deep in its world, as `dimensions/PACK/NAME/region`. A world's folder may be a link to another disk, so it is looked above the path
 /// that was given and above that to which its links lead. What is told says what helps.
@@ -60,7 +70,9 @@ pub(crate) fn look_for_game<R: Files + AllocGlobal>(
 ) -> Result<(), Failure>
     ensures { IfErr result (λ e. IsSessionFault e.fault) }
 {
-    look_above(rt, Path::new(folder), help)?;
+    if goes_down(folder) {
+        look_above(rt, Path::new(folder), help)?;
+    }
     match real_path(rt, folder) {
         Some(real) => look_above(rt, real.as_path(), help),
         None => Ok(()),

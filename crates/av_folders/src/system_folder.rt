@@ -71,7 +71,7 @@ fn is_passed_over(error: &io::Error) -> bool {
     )
 }
 
-/// Passes over what is not permitted.
+/// Passes over what is not permitted or not known.
 fn where_permitted(done: io::Result<()>) -> io::Result<()> {
     match done {
         Err(error) if !is_passed_over(&error) => Err(error),

@@ -23,6 +23,8 @@ struct Traces {
     any: bool,
     /// Whether there is a journal.
     journal: bool,
+    /// Whether there is anything but the journal, as new files that have no places yet.
+    others: bool,
 }
 
 /// What a folder has by its files' names.
@@ -30,10 +32,13 @@ fn traces_in(names: &[String]) -> Traces {
     let mut found = Traces {
         any: false,
         journal: false,
+        others: false,
     };
     for name in names {
+        let is_journal = name.as_str() == JOURNAL;
         found.any |= is_own(name.as_str());
-        found.journal |= name.as_str() == JOURNAL;
+        found.journal |= is_journal;
+        found.others |= is_own(name.as_str()) && !is_journal;
     }
     found
 }
@@ -89,7 +94,7 @@ fn repair_if_free<R: LockFiles + Eprint + AllocGlobal + Clone + Drop>(
     if held.is_none() {
         return Ok(None);
     }
-    if found.journal {
+    if found.journal && found.others {
         wait_for_game(rt, path, name)?;
     }
     let mut folder = SystemFolder::new(rt, String::from_str(rt.alloc(), path)?);
