@@ -96,7 +96,8 @@ pub(crate) fn entries_of(
     kind: Kind,
     count: u32,
 ) -> Result<Vec<Entry>, Fault>
-    ensures { IfOk result (λ entries. All (λ e. IsTrue ((blocks world.now).loaded e.pos)) entries.items) }
+    ensures { IfOk result (λ entries. All (λ e. IsTrue ((blocks world.now).loaded e.pos))
+        entries.items) }
 {
     let mut entries = Vec::new(alloc);
     for number in 0..count {

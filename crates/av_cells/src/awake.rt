@@ -84,7 +84,8 @@ fn wake_all<C: Cells, const N: usize>(
     made: &mut ArrayVec<Entry, N>,
 )
     requires kinds { HasKinds (kind_count kinds.now) (C.world cells.old) }
-    requires room { HaveRoom (C.world cells.old) (C.room cells.old) (length positions.now) positions.now }
+    requires room { HaveRoom (C.world cells.old) (C.room cells.old)
+        (length positions.now) positions.now }
     requires capacity { array_vec_len made.old + length positions.now ≤ N }
     ensures changed { change (C.world cells.new) made.new.items
         ≡ woken_all (kinds_of kinds.now) now positions.now (change (C.world cells.old) made.old.items) }

@@ -15,7 +15,8 @@ const PLACES: u16 = 4096;
 fn raise(counts: &mut Vec<u64>, number: u16, more: u64)
     requires within { number < length counts.old.items }
     requires room { slice_index counts.old.items number + more < 2 ^ 64 }
-    ensures { counts.new.items ≡ slice_set counts.old.items number (slice_index counts.old.items number + more) }
+    ensures { counts.new.items ≡ slice_set counts.old.items number
+        (slice_index counts.old.items number + more) }
 {
     counts[usize::from(number)] += more;
 }
@@ -25,7 +26,8 @@ fn count_place(counts: &mut Vec<u64>, section: &Section, index: u16)
     requires place { index < 4096 }
     requires below { HasNumbersBelow section.now (length counts.old.items) }
     requires room { (k : ℕ) → slice_index counts.old.items k + 1 < 2 ^ 64 }
-    ensures { counts.new.items ≡ slice_set counts.old.items (number_at section.now index) (slice_index counts.old.items (number_at section.now index) + 1) }
+    ensures { counts.new.items ≡ slice_set counts.old.items (number_at section.now index)
+        (slice_index counts.old.items (number_at section.now index) + 1) }
 {
     raise(counts, section.get(Place::new(index)), 1);
 }
@@ -34,7 +36,8 @@ fn count_place(counts: &mut Vec<u64>, section: &Section, index: u16)
 fn count_places(counts: &mut Vec<u64>, section: &Section)
     requires below { HasNumbersBelow section.now (length counts.old.items) }
     requires room { (k : ℕ) → slice_index counts.old.items k + 4096 < 2 ^ 64 }
-    ensures { CountsMore counts.old.items counts.new.items (λ table. first_places table section.now 4096) 4096 }
+    ensures { CountsMore counts.old.items counts.new.items
+        (λ table. first_places table section.now 4096) 4096 }
 {
     for index in 0..PLACES {
         count_place(counts, section, index);
@@ -57,7 +60,8 @@ fn only_number(section: &Section) -> Option<u16>
 fn count_section(counts: &mut Vec<u64>, section: &Section)
     requires below { HasNumbersBelow section.now (length counts.old.items) }
     requires room { (k : ℕ) → slice_index counts.old.items k + 4096 < 2 ^ 64 }
-    ensures { CountsMore counts.old.items counts.new.items (λ table. section_states table section.now) 4096 }
+    ensures { CountsMore counts.old.items counts.new.items
+        (λ table. section_states table section.now) 4096 }
 {
     match only_number(section) {
         Some(number) => raise(counts, number, u64::from(PLACES)),
@@ -69,7 +73,8 @@ fn count_section(counts: &mut Vec<u64>, section: &Section)
 fn count_slot(counts: &mut Vec<u64>, slot: Option<&Section>)
     requires below { SlotBelow (length counts.old.items) (option_copied slot) }
     requires room { (k : ℕ) → slice_index counts.old.items k + 4096 < 2 ^ 64 }
-    ensures { CountsMore counts.old.items counts.new.items (λ table. slot_states table (option_copied slot.entry)) 4096 }
+    ensures { CountsMore counts.old.items counts.new.items
+        (λ table. slot_states table (option_copied slot.entry)) 4096 }
 {
     if let Some(section) = slot {
         count_section(counts, section);
@@ -91,7 +96,8 @@ pub(crate) fn count_blocks(
 ) -> Result<Vec<u64>, AllocError>
     requires few { length slots.now ≤ 64 }
     requires below { SlotsBelow numbers slots.now }
-    ensures { IfOk result (λ counts. AreSlotCounts slots.now numbers (length slots.now) counts.items) }
+    ensures { IfOk result (λ counts. AreSlotCounts slots.now numbers
+        (length slots.now) counts.items) }
 {
     let mut counts = vec![in alloc; 0; numbers]?;
     for index in 0..slots.len() {

@@ -33,7 +33,8 @@ fn row_text(alloc: Global, row: Row) -> Result<String, AllocError>
 
 /// What a table has for a state, and nothing where there is no table.
 fn table_text(alloc: Global, state: &State, rules: Option<&Rules>) -> Result<String, AllocError>
-    ensures { IfOk result (λ text. string_bytes text ≡ table_text (option_map table_of (option_copied rules.entry)) (state_of state.now)) }
+    ensures { IfOk result (λ text. string_bytes text
+        ≡ table_text (option_map table_of (option_copied rules.entry)) (state_of state.now)) }
 {
     let Some(rules) = rules else {
         return Ok(String::new(alloc));
@@ -51,7 +52,8 @@ fn push_line(
     count: &StateCount,
     rules: Option<&Rules>,
 ) -> Result<(), Fault>
-    ensures ok { OnOk result (text.new.items ≡ text.old.items ++ count_line (option_map table_of (option_copied rules.entry)) count.now) }
+    ensures ok { OnOk result (text.new.items ≡ text.old.items
+        ++ count_line (option_map table_of (option_copied rules.entry)) count.now) }
     ensures memory { IfErr result (λ e. e ≡ OutOfMemory) }
 {
     let blocks = count.blocks;
@@ -72,7 +74,8 @@ pub fn listing(
     counts: &[StateCount],
     rules: Option<&Rules>,
 ) -> Result<Vec<u8>, Fault>
-    ensures ok { IfOk result (λ text. text.items ≡ listing (option_map table_of (option_copied rules.entry)) counts.now) }
+    ensures ok { IfOk result (λ text. text.items ≡ listing
+        (option_map table_of (option_copied rules.entry)) counts.now) }
     ensures memory { IfErr result (λ e. e ≡ OutOfMemory) }
 {
     let mut text = Vec::new(alloc);

@@ -17,7 +17,8 @@ use std::collections::BTreeMap;
 fn add_counted(tally: &mut Tally, counted: &Counted) -> Result<u64, AllocError>
     requires few { AreFew counted.now }
     requires room { HasRoom tally.old 262144 }
-    ensures { IfOk result (λ left_out. (blocks : List BlockState) (n : ℕ) → IsCountOf blocks n counted.now → IsAdded tally.old tally.new blocks n left_out) }
+    ensures { IfOk result (λ left_out. (blocks : List BlockState) (n : ℕ)
+        → IsCountOf blocks n counted.now → IsAdded tally.old tally.new blocks n left_out) }
 {
     match counted {
         Counted::Nothing => Ok(0),
@@ -41,7 +42,8 @@ fn tally_place(
     requires limits { IsInLimits pos }
     requires index { index < 1024 }
     requires room { HasRoom tally.old 262144 }
-    ensures { IfOk result (TalliesAt height region.now.bytes.now (chunk_at pos index) index tally.old tally.new) }
+    ensures { IfOk result (TalliesAt height region.now.bytes.now
+        (chunk_at pos index) index tally.old tally.new) }
 {
     let counted = counted_at(alloc, region, pos, index, height)?;
     add_counted(tally, &counted)

@@ -21,8 +21,10 @@ pub(crate) type Tally = BTreeMap<State, u64>;
 /// Counts more blocks of a state that is there. Answers whether it is.
 fn raise(tally: &mut Tally, state: &State, more: u64) -> bool
     requires room { tallied tally.old state.now + more < 2 ^ 64 }
-    ensures here { result ≡ true → get state_order tally.new state.now ≡ Some (tallied tally.old state.now + more) }
-    ensures others { result ≡ true → (s : State) → is_at (state_order state.now) s ≡ false → get state_order tally.new s ≡ get state_order tally.old s }
+    ensures here { result ≡ true → get state_order tally.new state.now
+        ≡ Some (tallied tally.old state.now + more) }
+    ensures others { result ≡ true → (s : State) → is_at (state_order state.now) s ≡ false
+        → get state_order tally.new s ≡ get state_order tally.old s }
     ensures absent { result ≡ false → get state_order tally.old state.now ≡ None }
     ensures same { result ≡ false → tally.new.entries ≡ tally.old.entries }
 {
@@ -37,7 +39,8 @@ fn raise(tally: &mut Tally, state: &State, more: u64) -> bool
 fn add_state(tally: &mut Tally, state: State, blocks: u64) -> Result<(), AllocError>
     requires absent { get state_order tally.old state ≡ None }
     ensures here { OnOk result (get state_order tally.new state ≡ Some blocks) }
-    ensures others { OnOk result ((s : State) → is_at (state_order state) s ≡ false → get state_order tally.new s ≡ get state_order tally.old s) }
+    ensures others { OnOk result ((s : State) → is_at (state_order state) s ≡ false
+        → get state_order tally.new s ≡ get state_order tally.old s) }
 {
     tally.insert(state, blocks)?;
     Ok(())
@@ -47,7 +50,8 @@ fn add_state(tally: &mut Tally, state: State, blocks: u64) -> Result<(), AllocEr
 fn add(tally: &mut Tally, state: &State, more: u64) -> Result<(), AllocError>
     requires some { 0 < more }
     requires room { tallied tally.old state.now + more < 2 ^ 64 }
-    ensures { OnOk result (Tallies tally.old tally.new (λ s. if same_state s (state_of state.now) then more else 0)) }
+    ensures { OnOk result (Tallies tally.old tally.new
+        (λ s. if same_state s (state_of state.now) then more else 0)) }
 {
     if raise(tally, state, more) {
         return Ok(());
@@ -60,7 +64,8 @@ fn add(tally: &mut Tally, state: &State, more: u64) -> Result<(), AllocError>
 /// Counts more blocks of a state, of which there may be none.
 fn add_some(tally: &mut Tally, state: &State, more: u64) -> Result<(), AllocError>
     requires room { tallied tally.old state.now + more < 2 ^ 64 }
-    ensures { OnOk result (Tallies tally.old tally.new (λ s. if same_state s (state_of state.now) then more else 0)) }
+    ensures { OnOk result (Tallies tally.old tally.new
+        (λ s. if same_state s (state_of state.now) then more else 0)) }
 {
     if more == 0 {
         return Ok(());
@@ -76,8 +81,10 @@ pub(crate) fn add_all(
     counts: &[u64],
 ) -> Result<(), AllocError>
     requires long { length counts.now ≡ length (states table.now) }
-    requires room { (s : State) → tallied tally.old s + weighed (state_of s) (states table.now) counts.now < 2 ^ 64 }
-    ensures { OnOk result (Tallies tally.old tally.new (λ s. weighed s (states table.now) counts.now)) }
+    requires room { (s : State) → tallied tally.old s + weighed (state_of s)
+        (states table.now) counts.now < 2 ^ 64 }
+    ensures { OnOk result (Tallies tally.old tally.new
+        (λ s. weighed s (states table.now) counts.now)) }
 {
     for number in 0..counts.len() {
         add_some(tally, table.state(number as u16), counts[number])?;
@@ -87,7 +94,9 @@ pub(crate) fn add_all(
 
 /// The counts of a tally, in the order of the states.
 pub(crate) fn listed(alloc: Global, tally: Tally) -> Result<Vec<StateCount>, AllocError>
-    ensures { IfOk result (λ counts. (blocks : List BlockState) → HasNoZero tally → ((s : State) → tallied tally s ≡ times (state_of s) blocks) → AreCounts blocks counts.items) }
+    ensures { IfOk result (λ counts. (blocks : List BlockState) → HasNoZero tally
+        → ((s : State) → tallied tally s ≡ times (state_of s) blocks)
+        → AreCounts blocks counts.items) }
 {
     let mut counts = Vec::new(alloc);
     for (state, blocks) in tally {

@@ -59,7 +59,8 @@ pub fn add_change(
 /// Changes in the byte order of the files' names.
 pub fn by_name(changes: Vec<Change>) -> Result<Vec<Change>, AllocError>
     ensures same { IfOk result (λ sorted. IsPermutation changes.items sorted.items) }
-    ensures order { IfOk result (λ sorted. IsSortedBy (λ a b. is_lt (string_cmp a.name b.name)) sorted.items) }
+    ensures order { IfOk result (λ sorted. IsSortedBy
+        (λ a b. is_lt (string_cmp a.name b.name)) sorted.items) }
 {
     let mut changes = changes;
     changes.sort_by(|a, b| a.name.cmp(&b.name))?;

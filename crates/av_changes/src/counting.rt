@@ -26,7 +26,8 @@ fn readable(file: &[u8]) -> &[u8]
 
 /// Whether two payloads, which may not be there, are the same.
 fn is_same_payload(old: Option<&[u8]>, new: Option<&[u8]>) -> bool
-    ensures { IsTrue result ↔ (option_map (λ p. p.now) old.entry ≡ option_map (λ p. p.now) new.entry) }
+    ensures { IsTrue result ↔ (option_map (λ p. p.now) old.entry
+        ≡ option_map (λ p. p.now) new.entry) }
 {
     old == new
 }

@@ -13,7 +13,8 @@ pub const WOULD_CHANGE: &str = "would change";
 pub const CHANGED: &str = "changed";
 
 fn write_change<O: Write>(out: &mut O, change: &Change, verb: &str) -> io::Result<()>
-    ensures { OnOk result (Appends (O.contents out.old) (O.contents out.new) (change_line verb.now change.now)) }
+    ensures { OnOk result (Appends (O.contents out.old) (O.contents out.new)
+        (change_line verb.now change.now)) }
 {
     let Change { name, chunks } = change;
     writeln!(out, "{name}: {chunks} chunks {verb}")
@@ -21,7 +22,8 @@ fn write_change<O: Write>(out: &mut O, change: &Change, verb: &str) -> io::Resul
 
 /// Writes a line for each change, in their order: `r.X.Z.mca: N chunks would change`, or have changed.
 pub fn write_changes<O: Write>(out: &mut O, changes: &[Change], verb: &str) -> io::Result<()>
-    ensures { OnOk result (Appends (O.contents out.old) (O.contents out.new) (change_lines verb.now changes.now)) }
+    ensures { OnOk result (Appends (O.contents out.old) (O.contents out.new)
+        (change_lines verb.now changes.now)) }
 {
     for change in changes {
         write_change(out, change, verb)?;

@@ -32,8 +32,8 @@ use Rattle.av_document.specs.Chunk.{root_tags, sections, ticks, numbered, sectio
 use Rattle.av_document.proofs.Positions.{within_from, place_of-lt}
 use Rattle.av_chunk.specs.declared.chunk.Chunk.{Chunk}
 use Rattle.av_chunk.specs.declared.rest.ChunkRest.{ChunkRest}
-use Rattle.av_chunk.specs.declared.sections.Sections.{Sections}
-use Rattle.av_chunk.specs.declared.water.Ticks.{Ticks}
+use Rattle.av_chunk.specs.declared.reading.sections.Sections.{Sections}
+use Rattle.av_chunk.specs.declared.reading.water.Ticks.{Ticks}
 use Rattle.av_chunk.specs.Rest.{rest_with, found_outside}
 use Rattle.av_chunk.specs.Views.{section_in, state_in, cells_of, rest_of}
 use Rattle.av_chunk.specs.Reading.{IsLoaded}

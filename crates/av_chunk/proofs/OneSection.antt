@@ -12,7 +12,7 @@ use Rattle.av_section.specs.declared.section.Section.{Section}
 use Rattle.av_document.specs.Chunk.{section_number, is_other, block_states_of}
 use Rattle.av_chunk.specs.declared.rest.SectionTags.{SectionTags}
 use Rattle.av_chunk.specs.declared.rest.OutsideSection.{OutsideSection}
-use Rattle.av_chunk.specs.declared.sections.Part.TheVariants.{Inside, Outside}
+use Rattle.av_chunk.specs.declared.reading.sections.Part.TheVariants.{Inside, Outside}
 use Rattle.av_chunk.specs.Working.{checked_number}
 use Rattle.av_chunk.specs.SectionsRead.{AreStates, AreStatesRefused, IsSectionRead, IsSectionRefused}
 

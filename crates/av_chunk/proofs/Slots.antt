@@ -21,9 +21,9 @@ use Rattle.av_section.specs.declared.section.Section.{Section}
 use Rattle.av_document.specs.Chunk.{section_number, numbered, is_number, section_faults, section_states, section_rest, block_states_of, block_cell}
 use Rattle.av_chunk.specs.declared.rest.SectionTags.{SectionTags}
 use Rattle.av_chunk.specs.declared.rest.OutsideSection.{OutsideSection}
-use Rattle.av_chunk.specs.declared.sections.Part.{Part}
-use Rattle.av_chunk.specs.declared.sections.Part.TheVariants.{Inside, Outside}
-use Rattle.av_chunk.specs.declared.sections.Sections.{Sections}
+use Rattle.av_chunk.specs.declared.reading.sections.Part.{Part}
+use Rattle.av_chunk.specs.declared.reading.sections.Part.TheVariants.{Inside, Outside}
+use Rattle.av_chunk.specs.declared.reading.sections.Sections.{Sections}
 use Rattle.av_chunk.specs.Rest.{section_or_missing, found_outside}
 use Rattle.av_chunk.specs.SectionsRead.{HasCells, IsInside, IsOutside, IsPart, IsSectionRead, IsSectionRefused, or_missing, SlotHas, SlotFinds, SlotFilled, AreFilled, FilledBelow, HoldSections, AreMissing, IsPartPlaced, AreFound, AreSectionsRead, AreJudged, FitsHeight}
 use Rattle.av_chunk.proofs.Heights.{offset_below, offset_apart}

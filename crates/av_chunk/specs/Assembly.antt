@@ -10,8 +10,8 @@ use Rattle.av_state.specs.BlockState.{BlockState}
 use Rattle.av_state.specs.StateList.{most_states}
 use Rattle.av_document.specs.Chunk.{root_tags, sections, ticks}
 use Rattle.av_document.specs.Stored.{IsStored}
-use Rattle.av_chunk.specs.declared.sections.Sections.{Sections}
-use Rattle.av_chunk.specs.declared.water.Ticks.{Ticks}
+use Rattle.av_chunk.specs.declared.reading.sections.Sections.{Sections}
+use Rattle.av_chunk.specs.declared.reading.water.Ticks.{Ticks}
 use Rattle.av_chunk.specs.Reading.{IsAdmitted}
 use Rattle.av_chunk.specs.SectionsRead.{AreSectionsRead}
 use Rattle.av_chunk.specs.TicksRead.{AreTicks}

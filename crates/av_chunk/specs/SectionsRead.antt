@@ -16,9 +16,9 @@ use Rattle.av_section.specs.BlockStates.{when}
 use Rattle.av_section.specs.Section.{number_at, is_pending, IsFilled}
 use Rattle.av_section.specs.declared.section.Section.{Section}
 use Rattle.av_document.specs.Chunk.{section_number, numbered, section_faults, section_states, section_rest, block_states_of, block_faults, block_palette, block_cell}
-use Rattle.av_chunk.specs.declared.sections.Part.{Part}
-use Rattle.av_chunk.specs.declared.sections.Part.TheVariants.{Inside, Outside}
-use Rattle.av_chunk.specs.declared.sections.Sections.{Sections}
+use Rattle.av_chunk.specs.declared.reading.sections.Part.{Part}
+use Rattle.av_chunk.specs.declared.reading.sections.Part.TheVariants.{Inside, Outside}
+use Rattle.av_chunk.specs.declared.reading.sections.Sections.{Sections}
 use Rattle.av_chunk.specs.declared.rest.SectionTags.{SectionTags}
 use Rattle.av_chunk.specs.declared.rest.OutsideSection.{OutsideSection}
 use Rattle.av_chunk.specs.Rest.{tags_of, section_or_missing, found_outside}

@@ -14,7 +14,7 @@ use Rattle.av_tags.specs.Nbt.{NamedTag}
 use Rattle.av_tags.specs.View.{views}
 use Rattle.av_ticks.specs.Ticks.{entries}
 use Rattle.av_document.specs.Ticks.{is_bad_tick, with_water, foreign}
-use Rattle.av_chunk.specs.declared.water.Ticks.{Ticks}
+use Rattle.av_chunk.specs.declared.reading.water.Ticks.{Ticks}
 use Rattle.av_chunk.specs.Working.{has_other}
 use Rattle.av_chunk.specs.Rest.{opened}
 

@@ -9,7 +9,7 @@ ghost use Rattle.av_chunk.specs.Block.{is_of_region, IsFound, IsBlockRefused, Is
 
 use crate::chunk::{Chunk, Reading};
 use crate::payload::read_payload;
-use crate::sections::section_index;
+use crate::index::section_index;
 use av_region::Region;
 use av_state::{State, StateTable};
 use av_types::{Fault, Height, Pos, RegionPos};
@@ -58,7 +58,8 @@ fn state_in(
 ) -> Result<Option<State>, AllocError>
     requires whole { HasAllSections height chunk.now }
     requires numbered { IsNumbered (states table.now) height chunk.now pos }
-    ensures { IfOk result (λ found. option_map state_of found ≡ found_in (states table.now) height chunk.now pos) }
+    ensures { IfOk result (λ found. option_map state_of found
+        ≡ found_in (states table.now) height chunk.now pos) }
 {
     if !is_in_height(height, pos.y) {
         return Ok(None);
@@ -77,7 +78,8 @@ fn block_in_payload(
     height: Height,
 ) -> Result<Option<State>, Fault>
     requires { length payload.now ≤ 1044475 }
-    ensures ok { IfOk result (λ found. IsDenoted payload.now height pos (option_map state_of found)) }
+    ensures ok { IfOk result (λ found. IsDenoted payload.now height pos
+        (option_map state_of found)) }
     ensures err { IfErr result (IsPayloadRefused payload.now height pos) }
 {
     let mut table = StateTable::new(alloc)?;
@@ -99,7 +101,8 @@ pub fn block_at(
     pos: Pos,
     height: Height,
 ) -> Result<Option<State>, Fault>
-    ensures ok { IfOk result (λ found. IsFound bytes.now region height pos (option_map state_of found)) }
+    ensures ok { IfOk result (λ found. IsFound bytes.now region height pos
+        (option_map state_of found)) }
     ensures err { IfErr result (IsBlockRefused bytes.now region height pos) }
 {
     let file = Region::read(bytes)?;

@@ -11,12 +11,12 @@ ghost use Rattle.av_chunk.specs.TicksRead.{AreTicks, ArePartsRefused};
 ghost use Rattle.av_chunk.specs.Rest.{opened};
 ghost use Rattle.av_chunk.specs.Working.{has_other, has_bad_number, list_items, list_rows};
 
-use crate::faults::lesser;
-use crate::loaded::assembled;
+use crate::reading::faults::lesser;
+use crate::reading::loaded::assembled;
 use crate::rest::ChunkRest;
-use crate::sections::{Sections, emptied, read_sections};
-use crate::shape::admitted;
-use crate::water::{Ticks, read_ticks};
+use crate::reading::sections::{Sections, emptied, read_sections};
+use crate::reading::shape::admitted;
+use crate::reading::water::{Ticks, read_ticks};
 use av_section::Section;
 use av_state::StateTable;
 use av_tags::{Root, Tag};
@@ -67,9 +67,12 @@ fn read_parts(
     requires numbers { has_bad_number height (views sections.items) ≡ false }
     requires apart { share_a_number (opened (views sections.items)) ≡ false }
     requires compounds { has_other (views ticks.items) ≡ false }
-    ensures sections { IfOk result (λ parts. AreSectionsRead height (opened (views sections.items)) (states table.old) (states table.new) parts.0) }
-    ensures ticks { IfOk result (λ parts. AreTicks place height (opened (views ticks.items)) parts.1) }
-    ensures err { IfErr result (ArePartsRefused place height (opened (views sections.items)) (opened (views ticks.items)) (states table.old)) }
+    ensures sections { IfOk result (λ parts. AreSectionsRead height (opened (views sections.items))
+        (states table.old) (states table.new) parts.0) }
+    ensures ticks { IfOk result (λ parts. AreTicks place height
+        (opened (views ticks.items)) parts.1) }
+    ensures err { IfErr result (ArePartsRefused place height (opened (views sections.items))
+        (opened (views ticks.items)) (states table.old)) }
     ensures table { OnlyGrows (states table.old) (states table.new) }
 {
     match read_ticks(alloc, ticks, place, height) {
@@ -104,9 +107,12 @@ impl Chunk {
         table: &mut StateTable,
     ) -> Result<Reading, Fault>
         requires { IsStored (document root) }
-        ensures ok { IfOk result (IsReading place height (document root) (states table.old) (states table.new)) }
-        ensures err { IfErr result (IsChunkRefusal place height (document root) (states table.old)) }
-        ensures memory { IfErr result (λ e. e ≡ OutOfMemory → IsAdmitted height place (root_tags (document root))) }
+        ensures ok { IfOk result (IsReading place height (document root) (states table.old)
+            (states table.new)) }
+        ensures err { IfErr result (IsChunkRefusal place height (document root)
+            (states table.old)) }
+        ensures memory { IfErr result (λ e. e ≡ OutOfMemory
+            → IsAdmitted height place (root_tags (document root))) }
         ensures table { OnlyGrows (states table.old) (states table.new) }
     {
         let Root { name, mut tags } = root;

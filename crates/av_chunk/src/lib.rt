@@ -2,22 +2,12 @@
 #![tactic(auto)]
 
 pub mod block;
-mod build;
 pub mod chunk;
-mod faults;
-mod known;
+mod index;
 pub mod light;
-mod loaded;
 pub mod payload;
-mod pending;
+mod reading;
 pub mod rest;
-mod sections;
-mod shape;
-mod tags;
-mod water;
-mod write_section;
-mod write_sections;
-mod write_ticks;
 pub mod writing;
 
 pub use block::block_at;

@@ -24,8 +24,10 @@ pub fn read_payload(
     table: &mut StateTable,
 ) -> Result<Reading, Fault>
     requires { length payload.now ≤ 1044475 }
-    ensures ok { IfOk result (IsPayloadReading place height payload.now (states table.old) (states table.new)) }
-    ensures err { IfErr result (λ e. e ≢ OutOfMemory → IsPayloadFault place height payload.now (states table.old) e) }
+    ensures ok { IfOk result (IsPayloadReading place height payload.now (states table.old)
+        (states table.new)) }
+    ensures err { IfErr result (λ e. e ≢ OutOfMemory
+        → IsPayloadFault place height payload.now (states table.old) e) }
     ensures table { OnlyGrows (states table.old) (states table.new) }
 {
     let root = decode(alloc, payload)?;

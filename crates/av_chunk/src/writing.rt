@@ -5,12 +5,17 @@ ghost use Rattle.av_tags.specs.View.{document};
 ghost use Rattle.av_nbt.specs.Writing.{IsWellFormed};
 ghost use Rattle.av_chunk.specs.Writing.{CanWrite, DenotesSooner, written};
 
-use crate::build::{compounds, placed};
+mod build;
+mod section;
+mod sections;
+mod ticks;
+
+use crate::writing::build::{compounds, placed};
 use crate::chunk::Chunk;
 use crate::light::ChunkLight;
 use crate::rest::ChunkRest;
-use crate::write_sections::all_sections;
-use crate::write_ticks::all_ticks;
+use crate::writing::sections::all_sections;
+use crate::writing::ticks::all_ticks;
 use av_rules::Kinds;
 use av_tags::{Root, copy_tags};
 use av_types::Fault;
@@ -32,9 +37,11 @@ impl Chunk {
         elapsed: u32,
     ) -> Result<Root, Fault>
         requires { CanWrite self.now rest.now kinds.now light.now elapsed }
-        ensures ok { IfOk result (λ root. document root ≡ written self.now rest.now kinds.now light.now elapsed) }
+        ensures ok { IfOk result (λ root. document root
+            ≡ written self.now rest.now kinds.now light.now elapsed) }
         ensures well_formed { IfOk result (λ root. IsWellFormed (document root)) }
-        ensures denotes { IfOk result (λ root. DenotesSooner self.now rest.now kinds.now elapsed (document root)) }
+        ensures denotes { IfOk result (λ root. DenotesSooner self.now rest.now kinds.now elapsed
+            (document root)) }
         ensures memory { IfErr result (λ e. e ≡ OutOfMemory) }
     {
         let sections = all_sections(alloc, self, rest, kinds, light)?;

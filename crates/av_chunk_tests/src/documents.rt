@@ -75,7 +75,8 @@ fn written_by(
     light: &ChunkLight,
     ticks: u32,
 ) -> Result<Vec<u8>, Fault>
-    requires { (kinds : Kinds) → states_of_kinds kinds ≡ states table → CanWrite chunk.now rest.now kinds light.now ticks }
+    requires { (kinds : Kinds) → states_of_kinds kinds ≡ states table
+        → CanWrite chunk.now rest.now kinds light.now ticks }
 {
     let kinds = kinds_of(alloc, table)?;
     written(alloc, chunk, rest, &kinds, light, ticks)

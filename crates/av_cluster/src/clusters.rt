@@ -47,9 +47,13 @@ fn touch(
 ) -> Result<(), AllocError>
     requires falling { IsFalling parents.old }
     requires place { place < length parents.old }
-    requires owner { (k : ℕ) → owner_in owners.old.entries.items (section_of block) ≡ Some k → k < length parents.old }
-    requires loaded { (k : ℕ) → owner_in owners.old.entries.items (section_of block) ≡ Some k → (blocks world.now).loaded block ≡ true }
-    ensures { OnOk result (IsTouchedIf ((blocks world.now).loaded block) parents.old parents.new (owner_in owners.old.entries.items) (owner_in owners.new.entries.items) (section_of block) place) }
+    requires owner { (k : ℕ) → owner_in owners.old.entries.items (section_of block) ≡ Some k
+        → k < length parents.old }
+    requires loaded { (k : ℕ) → owner_in owners.old.entries.items (section_of block) ≡ Some k
+        → (blocks world.now).loaded block ≡ true }
+    ensures { OnOk result (IsTouchedIf ((blocks world.now).loaded block) parents.old parents.new
+        (owner_in owners.old.entries.items) (owner_in owners.new.entries.items)
+        (section_of block) place) }
 {
     let section = block.section();
     if !is_high(world.height(), section) {
@@ -76,8 +80,10 @@ fn touch_all(
 ) -> Result<(), AllocError>
     requires place { place < length entries.now }
     requires loaded { All (λ e. IsTrue ((blocks world.now).loaded e.pos)) entries.now }
-    requires noted { IsNoted (blocks world.now) entries.now parents.old (owner_in owners.old.entries.items) (IsBefore (blocks world.now) entries.now place) }
-    ensures { OnOk result (IsNoted (blocks world.now) entries.now parents.new (owner_in owners.new.entries.items) (IsBefore (blocks world.now) entries.now (place + 1))) }
+    requires noted { IsNoted (blocks world.now) entries.now parents.old
+        (owner_in owners.old.entries.items) (IsBefore (blocks world.now) entries.now place) }
+    ensures { OnOk result (IsNoted (blocks world.now) entries.now parents.new
+        (owner_in owners.new.entries.items) (IsBefore (blocks world.now) entries.now (place + 1))) }
 {
     let corners = corners(entries[place].pos);
     for corner in corners.as_slice() {
@@ -98,8 +104,10 @@ fn touch_next(
 ) -> Result<(), AllocError>
     requires place { place < length entries.now }
     requires loaded { All (λ e. IsTrue ((blocks world.now).loaded e.pos)) entries.now }
-    requires noted { IsNoted (blocks world.now) entries.now parents.old (owner_in owners.old.entries.items) (IsBefore (blocks world.now) entries.now place) }
-    ensures { OnOk result (IsNoted (blocks world.now) entries.now parents.new (owner_in owners.new.entries.items) (IsBefore (blocks world.now) entries.now (place + 1))) }
+    requires noted { IsNoted (blocks world.now) entries.now parents.old
+        (owner_in owners.old.entries.items) (IsBefore (blocks world.now) entries.now place) }
+    ensures { OnOk result (IsNoted (blocks world.now) entries.now parents.new
+        (owner_in owners.new.entries.items) (IsBefore (blocks world.now) entries.now (place + 1))) }
 {
     let index = reach_index(entries[place].pos);
     let before = near[index];
@@ -122,8 +130,11 @@ fn connect(
     parents: &mut [usize],
 ) -> Result<(), AllocError>
     requires loaded { All (λ e. IsTrue ((blocks world.now).loaded e.pos)) entries.now }
-    requires noted { IsNoted (blocks world.now) entries.now parents.old (owner_in owners.old.entries.items) (IsBefore (blocks world.now) entries.now 0) }
-    ensures { OnOk result (IsNoted (blocks world.now) entries.now parents.new (owner_in owners.new.entries.items) (IsBefore (blocks world.now) entries.now (length entries.now))) }
+    requires noted { IsNoted (blocks world.now) entries.now parents.old
+        (owner_in owners.old.entries.items) (IsBefore (blocks world.now) entries.now 0) }
+    ensures { OnOk result (IsNoted (blocks world.now) entries.now parents.new
+        (owner_in owners.new.entries.items) (IsBefore (blocks world.now) entries.now
+        (length entries.now))) }
 {
     let mut near = [0; 256];
     for place in 0..entries.len() {
@@ -145,8 +156,10 @@ fn alone(alloc: Global, count: usize) -> Result<Vec<usize>, AllocError>
 
 /// Begins a part, with room for as many entries as the parts before it have on average.
 fn begin(clusters: &mut Vec<Cluster>, placed: Placed) -> Result<(), AllocError>
-    ensures parts { OnOk result (parts_of clusters.new.items ≡ parts_of clusters.old.items ++ (placed ∷ []) ∷ []) }
-    ensures bare { OnOk result (sections_of clusters.new.items ≡ sections_of clusters.old.items ++ [] ∷ []) }
+    ensures parts { OnOk result (parts_of clusters.new.items
+        ≡ parts_of clusters.old.items ++ (placed ∷ []) ∷ []) }
+    ensures bare { OnOk result (sections_of clusters.new.items
+        ≡ sections_of clusters.old.items ++ [] ∷ []) }
 {
     let alloc = *clusters.allocator();
     let usual = placed.place as usize / clusters.len().max(1);
@@ -160,7 +173,9 @@ fn begin(clusters: &mut Vec<Cluster>, placed: Placed) -> Result<(), AllocError>
 /// Appends an entry to a part.
 fn put(clusters: &mut Vec<Cluster>, number: usize, placed: Placed) -> Result<(), AllocError>
     requires { number < length (parts_of clusters.old.items) }
-    ensures parts { OnOk result (parts_of clusters.new.items ≡ slice_set (parts_of clusters.old.items) number (slice_index_or (parts_of clusters.old.items) number [] ++ placed ∷ [])) }
+    ensures parts { OnOk result (parts_of clusters.new.items
+        ≡ slice_set (parts_of clusters.old.items) number
+        (slice_index_or (parts_of clusters.old.items) number [] ++ placed ∷ [])) }
     ensures bare { OnOk result (sections_of clusters.new.items ≡ sections_of clusters.old.items) }
 {
     let cluster = &mut clusters[number];
@@ -172,7 +187,9 @@ fn put(clusters: &mut Vec<Cluster>, number: usize, placed: Placed) -> Result<(),
 fn own(clusters: &mut Vec<Cluster>, number: usize, section: SectionPos) -> Result<(), AllocError>
     requires { number < length (parts_of clusters.old.items) }
     ensures parts { OnOk result (parts_of clusters.new.items ≡ parts_of clusters.old.items) }
-    ensures sections { OnOk result (sections_of clusters.new.items ≡ slice_set (sections_of clusters.old.items) number (slice_index_or (sections_of clusters.old.items) number [] ++ section ∷ [])) }
+    ensures sections { OnOk result (sections_of clusters.new.items
+        ≡ slice_set (sections_of clusters.old.items) number
+        (slice_index_or (sections_of clusters.old.items) number [] ++ section ∷ [])) }
 {
     let cluster = &mut clusters[number];
     cluster.sections.push(section)?;
@@ -190,10 +207,13 @@ fn gather_one(
     requires place { place < length entries.now }
     requires falling { IsFalling parents.old }
     requires count { length parents.old ≡ length entries.now }
-    requires gathered { IsGathered entries.now (first parents.old) place numbers.old.items (parts_of clusters.old.items) }
+    requires gathered { IsGathered entries.now (first parents.old) place numbers.old.items
+        (parts_of clusters.old.items) }
     ensures same { OnOk result (AreSame parents.old parents.new) }
-    ensures bare { OnOk result (AreBare (sections_of clusters.old.items) → AreBare (sections_of clusters.new.items)) }
-    ensures gathered { OnOk result (IsGathered entries.now (first parents.old) (place + 1) numbers.new.items (parts_of clusters.new.items)) }
+    ensures bare { OnOk result (AreBare (sections_of clusters.old.items)
+        → AreBare (sections_of clusters.new.items)) }
+    ensures gathered { OnOk result (IsGathered entries.now (first parents.old)
+        (place + 1) numbers.new.items (parts_of clusters.new.items)) }
 {
     let placed = Placed {
         place: place as u64,
@@ -220,9 +240,12 @@ fn gather(
 ) -> Result<(), AllocError>
     requires falling { IsFalling parents.old }
     requires count { length parents.old ≡ length entries.now }
-    requires gathered { IsGathered entries.now (first parents.old) 0 numbers.old.items (parts_of clusters.old.items) }
-    ensures bare { OnOk result (AreBare (sections_of clusters.old.items) → AreBare (sections_of clusters.new.items)) }
-    ensures gathered { OnOk result (IsGathered entries.now (first parents.old) (length entries.now) numbers.new.items (parts_of clusters.new.items)) }
+    requires gathered { IsGathered entries.now (first parents.old) 0 numbers.old.items
+        (parts_of clusters.old.items) }
+    ensures bare { OnOk result (AreBare (sections_of clusters.old.items)
+        → AreBare (sections_of clusters.new.items)) }
+    ensures gathered { OnOk result (IsGathered entries.now (first parents.old)
+        (length entries.now) numbers.new.items (parts_of clusters.new.items)) }
 {
     for place in 0..entries.len() {
         gather_one(entries, place, parents, numbers, clusters)?;
@@ -238,20 +261,25 @@ fn give(
     clusters: &mut Vec<Cluster>,
 ) -> Result<(), AllocError>
     requires owner { owner < length numbers.now }
-    requires numbers { (k : ℕ) → k < length numbers.now → slice_index numbers.now k < length (parts_of clusters.old.items) }
+    requires numbers { (k : ℕ) → k < length numbers.now
+        → slice_index numbers.now k < length (parts_of clusters.old.items) }
     ensures parts { OnOk result (parts_of clusters.new.items ≡ parts_of clusters.old.items) }
-    ensures sections { OnOk result (IsGiven (Some owner) numbers.now section (sections_of clusters.old.items) (sections_of clusters.new.items)) }
+    ensures sections { OnOk result (IsGiven (Some owner) numbers.now section
+        (sections_of clusters.old.items) (sections_of clusters.new.items)) }
 {
     own(clusters, numbers[owner], section)
 }
 
 /// Gives each part its sections.
 fn share(owners: &Owners, numbers: &[usize], clusters: &mut Vec<Cluster>) -> Result<(), AllocError>
-    requires numbers { (k : ℕ) → k < length numbers.now → slice_index numbers.now k < length (parts_of clusters.old.items) }
-    requires owners { (s : SectionPos) (k : ℕ) → owner_in owners.now.entries.items s ≡ Some k → k < length numbers.now }
+    requires numbers { (k : ℕ) → k < length numbers.now
+        → slice_index numbers.now k < length (parts_of clusters.old.items) }
+    requires owners { (s : SectionPos) (k : ℕ) → owner_in owners.now.entries.items s ≡ Some k
+        → k < length numbers.now }
     requires bare { AreBare (sections_of clusters.old.items) }
     ensures parts { OnOk result (parts_of clusters.new.items ≡ parts_of clusters.old.items) }
-    ensures sections { OnOk result (AreShared (owner_in owners.now.entries.items) numbers.now (keys_of owners.now.entries.items) (sections_of clusters.new.items)) }
+    ensures sections { OnOk result (AreShared (owner_in owners.now.entries.items) numbers.now
+        (keys_of owners.now.entries.items) (sections_of clusters.new.items)) }
     ensures once { OnOk result (AreOnce (sections_of clusters.new.items)) }
 {
     for entry in owners.entries() {
@@ -269,7 +297,8 @@ fn share(owners: &Owners, numbers: &[usize], clusters: &mut Vec<Cluster>) -> Res
 /// `OutOfMemory`, also where there are more than 4,294,967,295 parts.
 pub fn plan(alloc: Global, world: &World, entries: &[Entry]) -> Result<Vec<Cluster>, Fault>
     requires loaded { All (λ e. IsTrue ((blocks world.now).loaded e.pos)) entries.now }
-    ensures planned { IfOk result (λ clusters. ArePlanned (blocks world.now) entries.now clusters.items) }
+    ensures planned { IfOk result (λ clusters. ArePlanned
+        (blocks world.now) entries.now clusters.items) }
     ensures count { IfOk result (λ clusters. vec_len clusters ≤ 4294967295) }
     ensures memory { IfErr result (λ e. e ≡ OutOfMemory) }
 {

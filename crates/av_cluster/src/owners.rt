@@ -84,7 +84,8 @@ impl Owners {
 
     /// Where a section stands, if it has an owner.
     fn index(&self, section: SectionPos) -> Option<usize>
-        ensures { result ≡ index_in self.now.slots.items (keys_of self.now.entries.items) (get key_cmp self.now.others) (key_of section) }
+        ensures { result ≡ index_in self.now.slots.items (keys_of self.now.entries.items)
+            (get key_cmp self.now.others) (key_of section) }
     {
         let next = self.slots[slot(self.slots.len(), section)];
         if next == 0 {
@@ -109,7 +110,9 @@ impl Owners {
     /// Notes the owner of a section that has none. Where memory is wanted all is as it was.
     pub(crate) fn add(&mut self, section: SectionPos, owner: usize) -> Result<(), AllocError>
         requires { owner_in self.old.entries.items section ≡ None }
-        ensures ok { OnOk result ((s : SectionPos) → owner_in self.new.entries.items s ≡ (if same_key (key_of section) (key_of s) then Some owner else owner_in self.old.entries.items s)) }
+        ensures ok { OnOk result ((s : SectionPos)
+            → owner_in self.new.entries.items s ≡ (if same_key (key_of section) (key_of s)
+            then Some owner else owner_in self.old.entries.items s)) }
         ensures err { OnErr result (self.new.entries.items ≡ self.old.entries.items) }
     {
         let key = key(section);

@@ -177,7 +177,8 @@ pub(crate) fn reach_index(at: Pos) -> usize
 /// Appends the section of a block, where that is loaded.
 fn add_loaded(world: &World, block: Pos, found: &mut ArrayVec<SectionPos, 8>)
     requires { array_vec_len found.old < 8 }
-    ensures items { found.new.items ≡ found.old.items ++ one_if (is_here (grid world.now (section_of block))) (section_of block) }
+    ensures items { found.new.items ≡ found.old.items
+        ++ one_if (is_here (grid world.now (section_of block))) (section_of block) }
     ensures len { array_vec_len found.new ≤ array_vec_len found.old + 1 }
 {
     if world.loaded(block) {
@@ -189,7 +190,8 @@ fn add_loaded(world: &World, block: Pos, found: &mut ArrayVec<SectionPos, 8>)
 /// by y. Takes no memory.
 pub fn territory(world: &World, at: Pos) -> ArrayVec<SectionPos, 8>
     requires { IsTrue ((blocks world.now).loaded at) }
-    ensures exact { (s : SectionPos) → Contains result.items s ↔ InTerritory (blocks world.now) at s }
+    ensures exact { (s : SectionPos) → Contains result.items s
+        ↔ InTerritory (blocks world.now) at s }
     ensures order { AreRising result.items }
 {
     let corners = corners(at);

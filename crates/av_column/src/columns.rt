@@ -127,7 +127,8 @@ impl Column {
     pub fn take_first(&mut self) -> Option<Entry>
         ensures first { result ≡ slice_get (entries_of self.old) 0 }
         ensures rest { entries_of self.new ≡ drop 1 (entries_of self.old) }
-        ensures leaves { IfSome result (λ e. blocks_of self.new ≡ without_entry (blocks_of self.old) e) }
+        ensures leaves { IfSome result (λ e. blocks_of self.new
+            ≡ without_entry (blocks_of self.old) e) }
         ensures stays { IfNone result (blocks_of self.new ≡ blocks_of self.old) }
     {
         if self.entries.is_empty() {

@@ -113,7 +113,8 @@ pub fn block_text<O: Write, E: Write>(
     out: &mut O,
     err: &mut E,
 ) -> u8
-    ensures { HasAnswered path.now bytes.now pos height (O.contents out.old) (O.contents out.new) result }
+    ensures { HasAnswered path.now bytes.now pos height (O.contents out.old)
+        (O.contents out.new) result }
 {
     match answer(alloc, path, bytes, pos, height) {
         Ok(line) => match write_first(out, line.as_slice()) {

@@ -32,7 +32,8 @@ fn write_finding<O: Write>(out: &mut O, finding: &Finding) -> io::Result<()>
 /// Writes a line for each finding, in their order: `r.X.Z.mca FAULT` for one of a file, and `r.X.Z.mca CX CZ FAULT`, with the
 /// chunk's coordinates in the world, for one of a chunk.
 pub fn write_findings<O: Write>(out: &mut O, found: &[Finding]) -> io::Result<()>
-    ensures { OnOk result (Appends (O.contents out.old) (O.contents out.new) (finding_lines found.now)) }
+    ensures { OnOk result (Appends (O.contents out.old) (O.contents out.new)
+        (finding_lines found.now)) }
 {
     for finding in found {
         write_finding(out, finding)?;
@@ -42,7 +43,8 @@ pub fn write_findings<O: Write>(out: &mut O, found: &[Finding]) -> io::Result<()
 
 /// Writes, once, how files of other compressions are made readable, where a finding is of one.
 pub fn write_advice<E: Write>(err: &mut E, found: &[Finding]) -> io::Result<()>
-    ensures { OnOk result (Appends (E.contents err.old) (E.contents err.new) (advice_on found.now)) }
+    ensures { OnOk result (Appends (E.contents err.old) (E.contents err.new)
+        (advice_on found.now)) }
 {
     for finding in found {
         if is_compression(&finding.fault) {
@@ -59,7 +61,8 @@ pub fn write_unread<E: Write>(
     unread: Vec<UnreadFile>,
     explains: bool,
 ) -> io::Result<()>
-    ensures { OnOk result (TellsUnread explains unread.items (E.contents err.old) (E.contents err.new)) }
+    ensures { OnOk result (TellsUnread explains unread.items (E.contents err.old)
+        (E.contents err.new)) }
 {
     for file in unread {
         let failure = Failure::from(file);
@@ -80,7 +83,8 @@ pub struct Counts {
 
 /// Writes how much was looked at and found: `4 files, 3012 chunks, 2 findings`.
 pub fn write_counts<E: Write>(err: &mut E, counts: Counts) -> io::Result<()>
-    ensures { OnOk result (Appends (E.contents err.old) (E.contents err.new) (line (counts_text counts))) }
+    ensures { OnOk result (Appends (E.contents err.old) (E.contents err.new)
+        (line (counts_text counts))) }
 {
     let Counts {
         files,

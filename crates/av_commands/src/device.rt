@@ -56,7 +56,8 @@ pub fn read_text_or<R: Files + Input + AllocGlobal>(
     name: Option<&str>,
     otherwise: &str,
 ) -> Result<Vec<u8>, Failure>
-    ensures left_out { IfOk result (λ text. option_map (λ t. t.now) name.entry ≡ None → text.items ≡ otherwise.now) }
+    ensures left_out { IfOk result (λ text. option_map (λ t. t.now) name.entry ≡ None
+        → text.items ≡ otherwise.now) }
     ensures unread { IfErr result (λ e. IsUnreadText (option_map (λ t. t.now) name.entry) e.fault) }
 {
     match name {

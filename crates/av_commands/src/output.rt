@@ -94,7 +94,8 @@ fn write_advice<E: Write>(err: &mut E, fault: &Fault) -> io::Result<()>
 
 /// Writes a fault's line.
 fn write_line<E: Write>(err: &mut E, fault: &Fault) -> io::Result<()>
-    ensures { OnOk result (Appends (E.contents err.old) (E.contents err.new) (line (fault_text fault.now))) }
+    ensures { OnOk result (Appends (E.contents err.old) (E.contents err.new)
+        (line (fault_text fault.now))) }
 {
     writeln!(err, "{fault}")
 }
@@ -102,7 +103,8 @@ fn write_line<E: Write>(err: &mut E, fault: &Fault) -> io::Result<()>
 /// Writes a fault's line, and how to go on behind that of a chunk of another compression. What was written is not said where
 /// writing fails.
 pub fn write_fault<E: Write>(err: &mut E, fault: &Fault) -> io::Result<()>
-    ensures { OnOk result (Appends (E.contents err.old) (E.contents err.new) (fault_lines fault.now)) }
+    ensures { OnOk result (Appends (E.contents err.old) (E.contents err.new)
+        (fault_lines fault.now)) }
 {
     write_line(err, fault)?;
     write_advice(err, fault)
@@ -110,7 +112,8 @@ pub fn write_fault<E: Write>(err: &mut E, fault: &Fault) -> io::Result<()>
 
 /// Writes how many chunks, and files cut short, were left out for their faults.
 pub fn write_left_out<E: Write>(err: &mut E, left_out: u64) -> io::Result<()>
-    ensures { OnOk result (Appends (E.contents err.old) (E.contents err.new) (line (left_out_text left_out))) }
+    ensures { OnOk result (Appends (E.contents err.old) (E.contents err.new)
+        (line (left_out_text left_out))) }
 {
     writeln!(
         err,

@@ -129,14 +129,16 @@ fn lines_of(alloc: Global, failure: &Failure) -> Vec<String> {
 }
 
 fn write_reason<E: Write>(err: &mut E, reason: &str) -> io::Result<()>
-    ensures { OnOk result (Appends (E.contents err.old) (E.contents err.new) (line (codes "  " ++ reason.now))) }
+    ensures { OnOk result (Appends (E.contents err.old) (E.contents err.new)
+        (line (codes "  " ++ reason.now))) }
 {
     writeln!(err, "  {reason}")
 }
 
 /// Writes lines that two spaces begin.
 pub fn write_reasons<E: Write>(err: &mut E, reasons: &[String]) -> io::Result<()>
-    ensures { OnOk result (Appends (E.contents err.old) (E.contents err.new) (reason_lines (map string_bytes reasons.now))) }
+    ensures { OnOk result (Appends (E.contents err.old) (E.contents err.new)
+        (reason_lines (map string_bytes reasons.now))) }
 {
     for reason in reasons {
         write_reason(err, reason.as_str())?;
@@ -151,7 +153,8 @@ pub fn write_failure<E: Write>(
     failure: &Failure,
     explains: bool,
 ) -> io::Result<()>
-    ensures { OnOk result (TellsFailure explains failure.now.fault (E.contents err.old) (E.contents err.new)) }
+    ensures { OnOk result (TellsFailure explains failure.now.fault (E.contents err.old)
+        (E.contents err.new)) }
 {
     write_fault(err, &failure.fault)?;
     if explains {

@@ -18,8 +18,10 @@ pub fn read_rules<R: Files + Input + AllocGlobal>(
     rt: &R,
     table: Option<&str>,
 ) -> Result<Option<Rules>, Failure>
-    ensures table { IfOk result (λ rules. IsTableBy (option_map (λ t. t.now) table.entry) (option_map table_of rules)) }
-    ensures unread { IfErr result (λ e. IsUnreadTable (option_map (λ t. t.now) table.entry) e.fault) }
+    ensures table { IfOk result (λ rules. IsTableBy (option_map (λ t. t.now) table.entry)
+        (option_map table_of rules)) }
+    ensures unread { IfErr result (λ e. IsUnreadTable
+        (option_map (λ t. t.now) table.entry) e.fault) }
 {
     let Some(name) = table else {
         return Ok(None);
@@ -47,7 +49,8 @@ pub fn read_height<R: Files + Input + AllocGlobal>(
     table: Option<&str>,
 ) -> Result<Height, Failure>
     ensures height { IfOk result (IsHeightBy (option_map (λ t. t.now) table.entry)) }
-    ensures unread { IfErr result (λ e. IsUnreadTable (option_map (λ t. t.now) table.entry) e.fault) }
+    ensures unread { IfErr result (λ e. IsUnreadTable
+        (option_map (λ t. t.now) table.entry) e.fault) }
 {
     let rules = read_rules(rt, table)?;
     Ok(world_height(&rules))
@@ -58,8 +61,10 @@ pub fn read_table<R: Files + Input + AllocGlobal>(
     rt: &R,
     table: Option<&str>,
 ) -> Result<Vec<u8>, Failure>
-    ensures left_out { IfOk result (λ text. option_map (λ t. t.now) table.entry ≡ None → text.items ≡ shipped_table) }
-    ensures unread { IfErr result (λ e. IsUnreadText (option_map (λ t. t.now) table.entry) e.fault) }
+    ensures left_out { IfOk result (λ text. option_map (λ t. t.now) table.entry ≡ None
+        → text.items ≡ shipped_table) }
+    ensures unread { IfErr result (λ e. IsUnreadText
+        (option_map (λ t. t.now) table.entry) e.fault) }
 {
     read_text_or(rt, table, SHIPPED_TABLE)
 }

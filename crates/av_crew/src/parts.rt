@@ -49,9 +49,11 @@ pub fn carve_all(
     requires empty { jobs.old.items ≡ [] }
     requires few { vec_len clusters ≤ 4294967295 }
     requires cut { (entries : List Entry) × IsCut (grid world.old) entries clusters.items }
-    ensures jobs { OnOk result (AreJobs (grid world.old) (parts_of clusters.items) (picks_of clusters.items) 0 jobs.new.items) }
+    ensures jobs { OnOk result (AreJobs (grid world.old) (parts_of clusters.items)
+        (picks_of clusters.items) 0 jobs.new.items) }
     ensures count { OnOk result (vec_len jobs.new ≡ vec_len clusters) }
-    ensures carved { IsCarved (grid world.old) (picks_of clusters.items) (vec_len clusters) (grid world.new) }
+    ensures carved { IsCarved (grid world.old) (picks_of clusters.items) (vec_len clusters)
+        (grid world.new) }
     ensures parts { OnOk result (HaveParts world.new jobs.new.items) }
     ensures same { IsSamePlaces world.old world.new }
     ensures memory { IfErr result (λ e. e ≡ OutOfMemory) }
@@ -69,7 +71,8 @@ pub fn carve_all(
 fn mend_one(world: &mut World, done: Done, made: &mut Vec<Vec<Made>>) -> bool
     requires part { IsPartIn world.old done.parcel }
     requires room { vec_len made.old < vec_capacity made.old }
-    ensures mended { blocks world.new ≡ mended_all (λ d. parcel_blocks d.parcel) (lists world.old) (done ∷ []) (blocks world.old) }
+    ensures mended { blocks world.new ≡ mended_all (λ d. parcel_blocks d.parcel) (lists world.old)
+        (done ∷ []) (blocks world.old) }
     ensures same { IsSamePlaces world.old world.new }
     ensures made { made.new.items ≡ made.old.items ++ done.made ∷ [] }
     ensures capacity { vec_capacity made.new ≡ vec_capacity made.old }
@@ -98,9 +101,11 @@ fn either(first: bool, second: bool) -> bool
 pub fn mend_all(world: &mut World, dones: Vec<Done>, made: &mut Vec<Vec<Made>>) -> bool
     requires parts { All (λ d. IsPartIn world.old d.parcel) dones.items }
     requires room { vec_len made.old + vec_len dones ≤ vec_capacity made.old }
-    ensures mended { blocks world.new ≡ mended_all (λ d. parcel_blocks d.parcel) (lists world.old) dones.items (blocks world.old) }
+    ensures mended { blocks world.new ≡ mended_all (λ d. parcel_blocks d.parcel)
+        (lists world.old) dones.items (blocks world.old) }
     ensures same { IsSamePlaces world.old world.new }
-    ensures made { flat_map (λ m. m.items) made.new.items ≡ flat_map (λ m. m.items) made.old.items ++ flat_map (λ d. d.made.items) dones.items }
+    ensures made { flat_map (λ m. m.items) made.new.items
+        ≡ flat_map (λ m. m.items) made.old.items ++ flat_map (λ d. d.made.items) dones.items }
     ensures refused { result ≡ list_any (λ d. is_some d.fault) dones.items }
 {
     let mut refused = false;

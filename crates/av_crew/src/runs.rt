@@ -49,9 +49,12 @@ pub fn run_ticks<R: Threads + Wait + Sync, G: Gate + Sync>(
     gate: &G,
 ) -> Result<u128, Fault>
     requires ready { is_broken world.old ≡ false → IsReady (kind_count kinds.now) world.old }
-    requires edits { is_broken world.old ≡ false → All (CanApply (kind_count kinds.now) world.old) edits.now }
-    ensures done { OnOk result (land_of world.new ≡ run (kinds_of kinds.now) (number_sets edits.now) n (land_of world.old)) }
-    ensures count { IfOk result (λ total. total ≡ run_count (kinds_of kinds.now) (number_sets edits.now) n (land_of world.old)) }
+    requires edits { is_broken world.old ≡ false → All
+        (CanApply (kind_count kinds.now) world.old) edits.now }
+    ensures done { OnOk result (land_of world.new ≡ run (kinds_of kinds.now)
+        (number_sets edits.now) n (land_of world.old)) }
+    ensures count { IfOk result (λ total. total ≡ run_count (kinds_of kinds.now)
+        (number_sets edits.now) n (land_of world.old)) }
     ensures ready { OnOk result (IsReady (kind_count kinds.now) world.new) }
     ensures place { OnOk result (IsSamePlace world.old world.new) }
     ensures sound { OnOk result (is_broken world.old ≡ false) }
@@ -59,7 +62,8 @@ pub fn run_ticks<R: Threads + Wait + Sync, G: Gate + Sync>(
     ensures stands { OnErr result ((world.new ≡ world.old) ⊎ (is_broken world.new ≡ true)) }
     ensures unchanged { is_broken world.old ≡ true → world.new ≡ world.old }
     ensures refused { is_count_of_workers workers ≡ false → world.new ≡ world.old }
-    ensures err { IfErr result (λ e. e ≡ (if is_count_of_workers workers then (if is_broken world.old then Broken else OutOfMemory) else BadCount)) }
+    ensures err { IfErr result (λ e. e ≡ (if is_count_of_workers workers
+        then (if is_broken world.old then Broken else OutOfMemory) else BadCount)) }
 {
     let crew = Crew::new(Workers::new(workers)?);
     keep_pages(alloc);

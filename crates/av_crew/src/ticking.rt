@@ -41,8 +41,12 @@ pub fn turn_parts<R: Threads + Wait + Sync, G: Gate + Sync>(
     requires whole { is_broken world.old ≡ false }
     requires few { vec_len clusters ≤ 4294967295 }
     requires kinds { HasKinds (kind_count kinds.now) (blocks world.old) }
-    requires cut { (entries : List Entry) × IsCut (grid world.old) entries clusters.items × All (λ e. IsTrue ((blocks world.old).loaded e.pos)) entries }
-    ensures ok { IfOk result (λ made. (entries : List Entry) → IsCut (grid world.old) entries clusters.items → AreBroughtTogether (kinds_of kinds.now) now entries (blocks world.old) (lists world.old) (blocks world.new) made.items) }
+    requires cut { (entries : List Entry) × IsCut (grid world.old) entries clusters.items
+        × All (λ e. IsTrue ((blocks world.old).loaded e.pos)) entries }
+    ensures ok { IfOk result (λ made. (entries : List Entry)
+        → IsCut (grid world.old) entries clusters.items
+        → AreBroughtTogether (kinds_of kinds.now) now entries (blocks world.old) (lists world.old)
+        (blocks world.new) made.items) }
     ensures same { IsSamePlaces world.old world.new }
     ensures others { AreOthersKept (picks_of clusters.items) (blocks world.old) (blocks world.new) }
     ensures memory { IfErr result (λ e. e ≡ OutOfMemory) }

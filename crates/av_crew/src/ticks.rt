@@ -64,7 +64,8 @@ fn turn_planned<R: Threads + Wait + Sync, G: Gate + Sync>(
     requires loaded { list_all (λ e. (blocks world.old).loaded e.pos) entries.now ≡ true }
     requires planned { ArePlanned (blocks world.old) entries.now clusters.items }
     requires few { vec_len clusters ≤ 4294967295 }
-    ensures done { OnOk result (land_of world.new ≡ turned_all (kinds_of kinds.now) now entries.now (land_of world.old)) }
+    ensures done { OnOk result (land_of world.new ≡ turned_all (kinds_of kinds.now) now entries.now
+        (land_of world.old)) }
     ensures ready { OnOk result (IsReady (kind_count kinds.now) world.new) }
     ensures place { OnOk result (IsSamePlace world.old world.new) }
 {
@@ -91,7 +92,8 @@ fn turn_taken<R: Threads + Wait + Sync, G: Gate + Sync>(
     requires ready { IsReady (kind_count kinds.now) world.old }
     requires sound { is_broken world.old ≡ false }
     requires loaded { list_all (λ e. (blocks world.old).loaded e.pos) entries.now ≡ true }
-    ensures done { OnOk result (land_of world.new ≡ turned_all (kinds_of kinds.now) now entries.now (land_of world.old)) }
+    ensures done { OnOk result (land_of world.new ≡ turned_all (kinds_of kinds.now) now entries.now
+        (land_of world.old)) }
     ensures ready { OnOk result (IsReady (kind_count kinds.now) world.new) }
     ensures place { OnOk result (IsSamePlace world.old world.new) }
 {
@@ -121,7 +123,8 @@ fn turn_due<R: Threads + Wait + Sync, G: Gate + Sync>(
 ) -> Result<u64, AllocError>
     requires ready { IsReady (kind_count kinds.now) world.old }
     requires sound { is_broken world.old ≡ false }
-    ensures done { OnOk result (land_of world.new ≡ turned_all (kinds_of kinds.now) now (due_entries now (land_of world.old)) (without_due now (land_of world.old))) }
+    ensures done { OnOk result (land_of world.new ≡ turned_all (kinds_of kinds.now) now
+        (due_entries now (land_of world.old)) (without_due now (land_of world.old))) }
     ensures count { IfOk result (λ n. n ≡ length (due_entries now (land_of world.old))) }
     ensures ready { OnOk result (IsReady (kind_count kinds.now) world.new) }
     ensures place { OnOk result (IsSamePlace world.old world.new) }
@@ -148,8 +151,10 @@ fn work_tick<R: Threads + Wait + Sync, G: Gate + Sync>(
     requires ready { IsReady (kind_count kinds.now) world.old }
     requires sound { is_broken world.old ≡ false }
     requires edits { All (CanApply (kind_count kinds.now) world.old) edits.now }
-    ensures done { OnOk result (land_of world.new ≡ ticked (kinds_of kinds.now) now (number_sets edits.now) (land_of world.old)) }
-    ensures count { IfOk result (λ n. n ≡ tick_count (kinds_of kinds.now) now (number_sets edits.now) (land_of world.old)) }
+    ensures done { OnOk result (land_of world.new ≡ ticked (kinds_of kinds.now) now
+        (number_sets edits.now) (land_of world.old)) }
+    ensures count { IfOk result (λ n. n ≡ tick_count (kinds_of kinds.now) now
+        (number_sets edits.now) (land_of world.old)) }
     ensures ready { OnOk result (IsReady (kind_count kinds.now) world.new) }
     ensures place { OnOk result (IsSamePlace world.old world.new) }
 {
@@ -172,8 +177,10 @@ pub(crate) fn tick_or_give_up<R: Threads + Wait + Sync, G: Gate + Sync>(
     requires ready { IsReady (kind_count kinds.now) world.old }
     requires sound { is_broken world.old ≡ false }
     requires edits { All (CanApply (kind_count kinds.now) world.old) edits.now }
-    ensures done { OnOk result (land_of world.new ≡ ticked (kinds_of kinds.now) now (number_sets edits.now) (land_of world.old)) }
-    ensures count { IfOk result (λ n. n ≡ tick_count (kinds_of kinds.now) now (number_sets edits.now) (land_of world.old)) }
+    ensures done { OnOk result (land_of world.new ≡ ticked (kinds_of kinds.now) now
+        (number_sets edits.now) (land_of world.old)) }
+    ensures count { IfOk result (λ n. n ≡ tick_count (kinds_of kinds.now) now
+        (number_sets edits.now) (land_of world.old)) }
     ensures ready { OnOk result (IsReady (kind_count kinds.now) world.new) }
     ensures place { OnOk result (IsSamePlace world.old world.new) }
     ensures broken { OnErr result (is_broken world.new ≡ true) }
@@ -204,14 +211,18 @@ pub fn tick<R: Threads + Wait + Sync, G: Gate + Sync>(
     gate: &G,
 ) -> Result<u64, Fault>
     requires ready { is_broken world.old ≡ false → IsReady (kind_count kinds.now) world.old }
-    requires edits { is_broken world.old ≡ false → All (CanApply (kind_count kinds.now) world.old) edits.now }
-    ensures done { OnOk result (land_of world.new ≡ ticked (kinds_of kinds.now) now (number_sets edits.now) (land_of world.old)) }
-    ensures count { IfOk result (λ n. n ≡ tick_count (kinds_of kinds.now) now (number_sets edits.now) (land_of world.old)) }
+    requires edits { is_broken world.old ≡ false → All
+        (CanApply (kind_count kinds.now) world.old) edits.now }
+    ensures done { OnOk result (land_of world.new ≡ ticked (kinds_of kinds.now) now
+        (number_sets edits.now) (land_of world.old)) }
+    ensures count { IfOk result (λ n. n ≡ tick_count (kinds_of kinds.now) now
+        (number_sets edits.now) (land_of world.old)) }
     ensures ready { OnOk result (IsReady (kind_count kinds.now) world.new) }
     ensures place { OnOk result (IsSamePlace world.old world.new) }
     ensures sound { OnOk result (is_broken world.old ≡ false) }
     ensures workers { OnOk result (is_count_of_workers workers ≡ true) }
-    ensures err { IfErr result (λ e. e ≡ (if is_count_of_workers workers then (if is_broken world.old then Broken else OutOfMemory) else BadCount)) }
+    ensures err { IfErr result (λ e. e ≡ (if is_count_of_workers workers
+        then (if is_broken world.old then Broken else OutOfMemory) else BadCount)) }
     ensures broken { IfErr result (λ e. e ≡ OutOfMemory → is_broken world.new ≡ true) }
     ensures unchanged { IfErr result (λ e. e ≢ OutOfMemory → world.new ≡ world.old) }
 {

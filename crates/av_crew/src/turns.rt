@@ -48,9 +48,13 @@ fn turn_one<C: Cells>(
 ) -> Result<(), AllocError>
     requires kinds { HasKinds (kind_count kinds.now) (C.world cells.old) }
     requires loaded { IsTrue ((C.world cells.old).loaded entry.entry.pos) }
-    ensures world { OnOk result (C.world cells.new ≡ (turn_of (kinds_of kinds.now) now entry (C.world cells.old)).world) }
-    ensures made { OnOk result (made.new.items ≡ made.old.items ++ made_by (kinds_of kinds.now) now entry (C.world cells.old)) }
-    ensures listed { OnOk result (C.lists cells.new ≡ listed_all (C.lists cells.old) (turn_of (kinds_of kinds.now) now entry (C.world cells.old)).made) }
+    ensures world { OnOk result (C.world cells.new
+        ≡ (turn_of (kinds_of kinds.now) now entry (C.world cells.old)).world) }
+    ensures made { OnOk result (made.new.items ≡ made.old.items
+        ++ made_by (kinds_of kinds.now) now entry (C.world cells.old)) }
+    ensures listed { OnOk result (C.lists cells.new
+        ≡ listed_all (C.lists cells.old) (turn_of (kinds_of kinds.now) now entry
+        (C.world cells.old)).made) }
     ensures same_world { OnErr result (C.world cells.new ≡ C.world cells.old) }
     ensures same_lists { OnErr result (C.lists cells.new ≡ C.lists cells.old) }
     ensures same_made { OnErr result (made.new.items ≡ made.old.items) }
@@ -78,8 +82,11 @@ fn turn_all<C: Cells>(
     requires empty { made.old.items ≡ [] }
     requires kinds { HasKinds (kind_count kinds.now) (C.world cells.old) }
     requires loaded { All (λ x. IsTrue ((C.world cells.old).loaded x.entry.pos)) entries.now }
-    ensures ok { OnOk result (AreTurned (kinds_of kinds.now) now (length entries.now) entries.now (C.world cells.old) (C.world cells.new) (C.lists cells.old) (C.lists cells.new) made.new.items) }
-    ensures err { OnErr result (AreBegun (kinds_of kinds.now) now entries.now (C.world cells.old) (C.world cells.new) (C.lists cells.old) (C.lists cells.new) made.new.items) }
+    ensures ok { OnOk result (AreTurned (kinds_of kinds.now) now (length entries.now) entries.now
+        (C.world cells.old) (C.world cells.new) (C.lists cells.old)
+        (C.lists cells.new) made.new.items) }
+    ensures err { OnErr result (AreBegun (kinds_of kinds.now) now entries.now (C.world cells.old)
+        (C.world cells.new) (C.lists cells.old) (C.lists cells.new) made.new.items) }
 {
     let mut added = ArrayVec::new();
     for entry in entries {

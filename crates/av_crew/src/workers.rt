@@ -79,7 +79,8 @@ fn start_one<'s, E, R: Wait + Sync, G: Gate + Sync>(
 ) -> Result<Worker, AllocError>
     requires new { IsNewSeat jobs.now seat }
     requires able { All (CanWork kinds.now) seat.jobs }
-    ensures { IfOk result (λ w. (w.promise.now ≡ now) × (w.promise.kinds.value ≡ kinds.now) × (w.promise.seat.value ≡ seat)) }
+    ensures { IfOk result (λ w. (w.promise.now ≡ now) × (w.promise.kinds.value ≡ kinds.now)
+        × (w.promise.seat.value ≡ seat)) }
 {
     let promise = AnswersTaken {
         now,
@@ -150,7 +151,8 @@ fn in_scope<'s, E, R: Threads + Wait + Sync, G: Gate + Sync>(
     requires some { 0 < vec_len seats }
     requires new { All (IsNewSeat jobs.now) seats.items }
     requires able { All (λ s. All (CanWork kinds.now) s.jobs) seats.items }
-    ensures { IfOk result (λ parts. AllZip (WorkedPart (kinds_of kinds.now) now) seats.items parts.items) }
+    ensures { IfOk result (λ parts. AllZip (WorkedPart (kinds_of kinds.now) now) seats.items
+        parts.items) }
 {
     let Some(last) = seats.pop() else {
         unreachable!()
@@ -210,14 +212,17 @@ fn in_threads<R: Threads + Wait + Sync, G: Gate + Sync>(
     requires some { 0 < vec_len seats }
     requires new { All (IsNewSeat jobs.now) seats.items }
     requires able { All (λ s. All (CanWork kinds.now) s.jobs) seats.items }
-    ensures { IfOk result (λ parts. AllZip (WorkedPart (kinds_of kinds.now) now) seats.items parts.items) }
+    ensures { IfOk result (λ parts. AllZip (WorkedPart (kinds_of kinds.now) now) seats.items
+        parts.items) }
 {
     thread::scope(
         thread::scope_env(),
         rt,
         |scope| -> Result<Vec<Part>, AllocError>
-            requires { (0 < vec_len seats) × All (IsNewSeat jobs.now) seats.items × All (λ s. All (CanWork kinds.now) s.jobs) seats.items }
-            ensures { IfOk result (λ parts. AllZip (WorkedPart (kinds_of kinds.entry.now) now) seats.items parts.items) }
+            requires { (0 < vec_len seats) × All (IsNewSeat jobs.now) seats.items
+                × All (λ s. All (CanWork kinds.now) s.jobs) seats.items }
+            ensures { IfOk result (λ parts. AllZip
+                (WorkedPart (kinds_of kinds.entry.now) now) seats.items parts.items) }
         { in_scope(scope, rt, alloc, jobs, seats, kinds, now, gate) },
     )
 }

@@ -104,7 +104,8 @@ impl Around {
         requires new { is_on self.old.known place ≡ false }
         ensures seen { AreSeen (kinds_of kinds.now) (C.world cells.now) middle self.new }
         ensures here { is_on self.new.known place ≡ true }
-        ensures others { (i : ℕ) → nat_eq i place ≡ false → is_on self.new.known i ≡ is_on self.old.known i }
+        ensures others { (i : ℕ) → nat_eq i place ≡ false
+            → is_on self.new.known i ≡ is_on self.old.known i }
     {
         let seen = look(cells, kinds, spot(middle, place));
         self.known = self.known.with(place);
@@ -138,7 +139,8 @@ impl Around {
     /// Whether one of some places, all of which were read, has a walk of no steps to a drop.
     pub fn drops_at(self, places: Board) -> bool
         ensures some { result ≡ true → SharePlace places self.drops }
-        ensures none { result ≡ false → (i : ℕ) → is_on places i ≡ true → is_on self.drops i ≡ false }
+        ensures none { result ≡ false → (i : ℕ) → is_on places i ≡ true
+            → is_on self.drops i ≡ false }
     {
         let dropping = places.among(self.drops);
         !dropping.is_empty()

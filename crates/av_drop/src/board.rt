@@ -58,7 +58,8 @@ impl Board {
         requires bound { place < 128 }
         requires there { is_on self place ≡ true }
         ensures here { is_on result place ≡ false }
-        ensures others { (i : ℕ) → i < 128 → nat_eq i place ≡ false → is_on result i ≡ is_on self i }
+        ensures others { (i : ℕ) → i < 128 → nat_eq i place ≡ false
+            → is_on result i ≡ is_on self i }
         ensures less { result.bits < self.bits }
     {
         Board {

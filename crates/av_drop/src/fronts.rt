@@ -51,7 +51,8 @@ pub fn advance<C: Cells>(
     requires near { IsNearOrigin middle }
     requires kinds { HasKinds (kind_count kinds.now) (C.world cells.now) }
     requires seen { AreSeen (kinds_of kinds.now) (C.world cells.now) middle around.old }
-    ensures is { IsNext (kinds_of kinds.now) (C.world cells.now) middle front result.front result.drops }
+    ensures is { IsNext (kinds_of kinds.now) (C.world cells.now) middle front result.front
+        result.drops }
     ensures seen { AreSeen (kinds_of kinds.now) (C.world cells.now) middle around.new }
 {
     let beside = front.beside();

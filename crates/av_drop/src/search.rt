@@ -144,7 +144,8 @@ fn is_way_down<C: Cells>(
 ) -> bool
     requires loaded { IsTrue ((C.world cells.now).loaded pos) }
     requires kinds { HasKinds (kind_count kinds.now) (C.world cells.now) }
-    ensures { result ≡ (is_way && has_hole (kinds_of kinds.now) (C.world cells.now) (step pos direction)) }
+    ensures { result ≡ (is_way && has_hole (kinds_of kinds.now) (C.world cells.now)
+        (step pos direction)) }
 {
     is_way && has_hole(cells, kinds, step(pos, direction))
 }

@@ -40,9 +40,13 @@ fn is_skipped(line: &[u8]) -> bool
 fn number(state: &State, table: &mut StateTable) -> Result<u16, Fault>
     requires form { meant (state_of state.now) ≡ Some (state_of state.now) }
     ensures ok { IfOk result (λ n. slice_get (states table.new) n ≡ Some (state_of state.now)) }
-    ensures after { OnOk result (states table.new ≡ with_state (states table.old) (state_of state.now)) }
-    ensures few { OnOk result (nat_lt most_states (length (with_state (states table.old) (state_of state.now))) ≡ false) }
-    ensures err { IfErr result (λ e. e ≢ OutOfMemory → (e ≡ TooManyStates) × (nat_lt most_states (length (with_state (states table.old) (state_of state.now))) ≡ true)) }
+    ensures after { OnOk result (states table.new ≡ with_state (states table.old)
+        (state_of state.now)) }
+    ensures few { OnOk result (nat_lt most_states (length
+        (with_state (states table.old) (state_of state.now))) ≡ false) }
+    ensures err { IfErr result (λ e. e ≢ OutOfMemory
+        → (e ≡ TooManyStates) × (nat_lt most_states (length
+        (with_state (states table.old) (state_of state.now))) ≡ true)) }
     ensures grows { Grows (states table.old) (states table.new) }
 {
     match table.intern(state) {
@@ -63,9 +67,13 @@ fn judge<C: Cells>(
     requires form { meant (state_of statement.now.state) ≡ Some (state_of statement.now.state) }
     ensures ok { IfOk result (λ e. stated_in (states table.new) e ≡ Some (set_of statement.now)) }
     ensures line { IfOk result (λ e. e.line ≡ line) }
-    ensures after { OnOk result (states table.new ≡ with_state (states table.old) (state_of statement.now.state)) }
-    ensures none { OnOk result (edit_fault (C.world cells.now).loaded ticks (states table.old) line (set_of statement.now) ≡ None) }
-    ensures err { IfErr result (λ e. e ≢ OutOfMemory → edit_fault (C.world cells.now).loaded ticks (states table.old) line (set_of statement.now) ≡ Some e) }
+    ensures after { OnOk result (states table.new ≡ with_state (states table.old)
+        (state_of statement.now.state)) }
+    ensures none { OnOk result (edit_fault (C.world cells.now).loaded ticks (states table.old) line
+        (set_of statement.now) ≡ None) }
+    ensures err { IfErr result (λ e. e ≢ OutOfMemory
+        → edit_fault (C.world cells.now).loaded ticks (states table.old) line (set_of statement.now)
+        ≡ Some e) }
     ensures grows { Grows (states table.old) (states table.new) }
 {
     if 1 <= statement.tick && statement.tick <= u64::from(ticks) {
@@ -94,11 +102,15 @@ fn read_line<C: Cells>(
     cells: &C,
     table: &mut StateTable,
 ) -> Result<Option<Edit>, Fault>
-    ensures ok { IfOk result (λ e. map (stated_in (states table.new)) (option_list e) ≡ map Some (edits_in line.now)) }
-    ensures lines { IfOk result (λ e. map (λ e. e.line) (option_list e) ≡ map (λ e. number) (edits_in line.now)) }
+    ensures ok { IfOk result (λ e. map (stated_in (states table.new)) (option_list e)
+        ≡ map Some (edits_in line.now)) }
+    ensures lines { IfOk result (λ e. map (λ e. e.line) (option_list e)
+        ≡ map (λ e. number) (edits_in line.now)) }
     ensures after { OnOk result (states table.new ≡ table_of (states table.old) line.now) }
-    ensures none { OnOk result (fault_of (C.world cells.now).loaded ticks (states table.old) number line.now ≡ None) }
-    ensures err { IfErr result (λ e. e ≢ OutOfMemory → fault_of (C.world cells.now).loaded ticks (states table.old) number line.now ≡ Some e) }
+    ensures none { OnOk result (fault_of (C.world cells.now).loaded ticks
+        (states table.old) number line.now ≡ None) }
+    ensures err { IfErr result (λ e. e ≢ OutOfMemory
+        → fault_of (C.world cells.now).loaded ticks (states table.old) number line.now ≡ Some e) }
     ensures grows { Grows (states table.old) (states table.new) }
 {
     if is_skipped(line) {
@@ -128,11 +140,17 @@ fn read_lines<C: Cells>(
     cells: &C,
     table: &mut StateTable,
 ) -> Result<Vec<Edit>, Fault>
-    ensures ok { IfOk result (λ es. map (stated_in (states table.new)) es.items ≡ map Some (flat_map edits_in (map strip_carriage_return (map (λ x. x.now) lines.now)))) }
-    ensures lines { IfOk result (λ es. map (λ e. e.line) es.items ≡ edit_lines 1 (map strip_carriage_return (map (λ x. x.now) lines.now))) }
-    ensures after { OnOk result (states table.new ≡ table_after_lines (states table.old) (map strip_carriage_return (map (λ x. x.now) lines.now))) }
-    ensures none { OnOk result (first_in_lines (C.world cells.now).loaded ticks (states table.old) 1 (map strip_carriage_return (map (λ x. x.now) lines.now)) ≡ None) }
-    ensures err { IfErr result (λ e. e ≢ OutOfMemory → first_in_lines (C.world cells.now).loaded ticks (states table.old) 1 (map strip_carriage_return (map (λ x. x.now) lines.now)) ≡ Some e) }
+    ensures ok { IfOk result (λ es. map (stated_in (states table.new)) es.items
+        ≡ map Some (flat_map edits_in (map strip_carriage_return (map (λ x. x.now) lines.now)))) }
+    ensures lines { IfOk result (λ es. map (λ e. e.line) es.items
+        ≡ edit_lines 1 (map strip_carriage_return (map (λ x. x.now) lines.now))) }
+    ensures after { OnOk result (states table.new ≡ table_after_lines (states table.old)
+        (map strip_carriage_return (map (λ x. x.now) lines.now))) }
+    ensures none { OnOk result (first_in_lines (C.world cells.now).loaded ticks (states table.old) 1
+        (map strip_carriage_return (map (λ x. x.now) lines.now)) ≡ None) }
+    ensures err { IfErr result (λ e. e ≢ OutOfMemory
+        → first_in_lines (C.world cells.now).loaded ticks (states table.old) 1
+        (map strip_carriage_return (map (λ x. x.now) lines.now)) ≡ Some e) }
     ensures grows { Grows (states table.old) (states table.new) }
 {
     let mut edits = Vec::new(alloc);
@@ -167,11 +185,15 @@ pub fn read<C: Cells>(
     cells: &C,
     table: &mut StateTable,
 ) -> Result<Vec<Edit>, Fault>
-    ensures ok { IfOk result (λ es. map (stated_in (states table.new)) es.items ≡ map Some (edits_of text.now)) }
+    ensures ok { IfOk result (λ es. map (stated_in (states table.new)) es.items
+        ≡ map Some (edits_of text.now)) }
     ensures lines { IfOk result (λ es. map (λ e. e.line) es.items ≡ lines_of_edits text.now) }
-    ensures after { OnOk result (states table.new ≡ table_after_lines (states table.old) (lines_of text.now)) }
-    ensures none { OnOk result (first_in_edits (C.world cells.now).loaded ticks (states table.old) text.now ≡ None) }
-    ensures err { IfErr result (λ e. e ≢ OutOfMemory → first_in_edits (C.world cells.now).loaded ticks (states table.old) text.now ≡ Some e) }
+    ensures after { OnOk result (states table.new ≡ table_after_lines (states table.old)
+        (lines_of text.now)) }
+    ensures none { OnOk result (first_in_edits (C.world cells.now).loaded ticks
+        (states table.old) text.now ≡ None) }
+    ensures err { IfErr result (λ e. e ≢ OutOfMemory
+        → first_in_edits (C.world cells.now).loaded ticks (states table.old) text.now ≡ Some e) }
     ensures grows { Grows (states table.old) (states table.new) }
 {
     let lines = parts(alloc, text, b'\n')?;

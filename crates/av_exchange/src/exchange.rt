@@ -28,7 +28,8 @@ pub struct NotPlaced {
 /// What the system says, and want of memory. The old file stays. What is left of the new one goes by `unstage`, and that of a region's
 /// by a repair too.
 pub fn stage<F: Folder>(alloc: Global, folder: &mut F, name: &str, bytes: &[u8]) -> io::Result<()>
-    ensures ok { OnOk result (F.history folder.new ≡ with_steps (F.history folder.old) (staged (file_named name.now bytes.now) ∷ [])) }
+    ensures ok { OnOk result (F.history folder.new
+        ≡ with_steps (F.history folder.old) (staged (file_named name.now bytes.now) ∷ [])) }
     ensures err { OnErr result (IsUnstaged name.now (F.history folder.old) (F.history folder.new)) }
 {
     let part = part_name(alloc, name)?;
@@ -41,7 +42,8 @@ pub fn stage<F: Folder>(alloc: Global, folder: &mut F, name: &str, bytes: &[u8])
 /// # Errors
 /// What the system says, and want of memory: it may still be there.
 pub fn unstage<F: Folder>(alloc: Global, folder: &mut F, name: &str) -> io::Result<()>
-    ensures ok { OnOk result (F.history folder.new ≡ with_steps (F.history folder.old) (Removed (part_of name.now) ∷ [])) }
+    ensures ok { OnOk result (F.history folder.new
+        ≡ with_steps (F.history folder.old) (Removed (part_of name.now) ∷ [])) }
     ensures err { OnErr result (F.history folder.new ≡ F.history folder.old) }
 {
     let part = part_name(alloc, name)?;
@@ -54,8 +56,10 @@ pub fn unstage<F: Folder>(alloc: Global, folder: &mut F, name: &str) -> io::Resu
 /// # Errors
 /// What the system says, and want of memory: the new file may stay beside the old one.
 pub fn place_alone<F: Folder>(alloc: Global, folder: &mut F, name: &str) -> io::Result<()>
-    ensures ok { OnOk result (F.history folder.new ≡ with_steps (F.history folder.old) (placed name.now ∷ Synced ∷ [])) }
-    ensures err { OnErr result (IsPlacedInPart name.now (F.history folder.old) (F.history folder.new)) }
+    ensures ok { OnOk result (F.history folder.new
+        ≡ with_steps (F.history folder.old) (placed name.now ∷ Synced ∷ [])) }
+    ensures err { OnErr result (IsPlacedInPart name.now (F.history folder.old)
+        (F.history folder.new)) }
 {
     let part = part_name(alloc, name)?;
     folder.move_over(part.as_str(), name)?;
@@ -76,8 +80,10 @@ pub(crate) fn moves_of(alloc: Global, names: &[String]) -> Result<Vec<Move>, All
 
 /// Lets each new file take its place, where it is there.
 fn move_all<F: Folder>(folder: &mut F, moves: &[Move]) -> io::Result<()>
-    ensures ok { OnOk result (F.history folder.new ≡ with_steps (F.history folder.old) (map placed (map name_of moves.now))) }
-    ensures err { OnErr result (IsMovedInPart (map name_of moves.now) (F.history folder.old) (F.history folder.new)) }
+    ensures ok { OnOk result (F.history folder.new
+        ≡ with_steps (F.history folder.old) (map placed (map name_of moves.now))) }
+    ensures err { OnErr result (IsMovedInPart (map name_of moves.now) (F.history folder.old)
+        (F.history folder.new)) }
 {
     for file in moves {
         folder.move_over(file.part.as_str(), file.name.as_str())?;
@@ -90,7 +96,8 @@ fn move_all<F: Folder>(folder: &mut F, moves: &[Move]) -> io::Result<()>
 /// # Errors
 /// What the system says: the journal may be there.
 pub fn close<F: Folder>(folder: &mut F) -> io::Result<()>
-    ensures ok { OnOk result (F.history folder.new ≡ with_steps (F.history folder.old) (all_of closing)) }
+    ensures ok { OnOk result (F.history folder.new
+        ≡ with_steps (F.history folder.old) (all_of closing)) }
     ensures err { OnErr result (HasStopped closing (F.history folder.old) (F.history folder.new)) }
 {
     folder.remove(JOURNAL)?;
@@ -100,8 +107,10 @@ pub fn close<F: Folder>(folder: &mut F) -> io::Result<()>
 
 /// Lets new files take their places, and waits until they have them.
 fn settle<F: Folder>(folder: &mut F, moves: &[Move]) -> io::Result<()>
-    ensures ok { OnOk result (F.history folder.new ≡ with_steps (F.history folder.old) (all_of (map placed (map name_of moves.now) ∷ []))) }
-    ensures err { OnErr result (IsMovedInPart (map name_of moves.now) (F.history folder.old) (F.history folder.new)) }
+    ensures ok { OnOk result (F.history folder.new
+        ≡ with_steps (F.history folder.old) (all_of (map placed (map name_of moves.now) ∷ []))) }
+    ensures err { OnErr result (IsMovedInPart (map name_of moves.now) (F.history folder.old)
+        (F.history folder.new)) }
 {
     move_all(folder, moves)?;
     folder.sync()?;
@@ -114,8 +123,10 @@ pub(crate) fn finish<F: Folder, T: Teller>(
     moves: &[Move],
     teller: &T,
 ) -> io::Result<()>
-    ensures ok { OnOk result (F.history folder.new ≡ with_steps (F.history folder.old) (all_of (finishing (map name_of moves.now)))) }
-    ensures err { OnErr result (HasStopped (finishing (map name_of moves.now)) (F.history folder.old) (F.history folder.new)) }
+    ensures ok { OnOk result (F.history folder.new
+        ≡ with_steps (F.history folder.old) (all_of (finishing (map name_of moves.now)))) }
+    ensures err { OnErr result (HasStopped (finishing (map name_of moves.now))
+        (F.history folder.old) (F.history folder.new)) }
 {
     settle(folder, moves)?;
     teller.finished(moves.len());
@@ -137,8 +148,11 @@ fn record<F: Folder>(folder: &mut F, text: &str) -> io::Result<()>
 
 /// Lets new files take their places once the journal's name is on the device.
 fn settle_behind<F: Folder>(folder: &mut F, moves: &[Move]) -> io::Result<()>
-    ensures ok { OnOk result (F.history folder.new ≡ with_steps (F.history folder.old) (Synced ∷ all_of (map placed (map name_of moves.now) ∷ []))) }
-    ensures err { OnErr result (IsSettledInPart (map name_of moves.now) (F.history folder.old) (F.history folder.new)) }
+    ensures ok { OnOk result (F.history folder.new
+        ≡ with_steps (F.history folder.old) (Synced ∷ all_of
+        (map placed (map name_of moves.now) ∷ []))) }
+    ensures err { OnErr result (IsSettledInPart (map name_of moves.now) (F.history folder.old)
+        (F.history folder.new)) }
 {
     folder.sync()?;
     settle(folder, moves)?;
@@ -152,8 +166,10 @@ fn settle_behind<F: Folder>(folder: &mut F, moves: &[Move]) -> io::Result<()>
 /// What the system says, and want of memory before the first step. Where the journal does not have its name the old files stay, and a repair
 /// takes the new ones away; else a repair lets the others take their places too.
 pub fn place<F: Folder>(alloc: Global, folder: &mut F, names: &[String]) -> Result<(), NotPlaced>
-    ensures ok { OnOk result (F.history folder.new ≡ with_steps (F.history folder.old) (all_of (placing (map string_bytes names.now)))) }
-    ensures err { IfErr result (λ e. IsNotPlaced (map string_bytes names.now) (F.history folder.old) (F.history folder.new) e.begun) }
+    ensures ok { OnOk result (F.history folder.new
+        ≡ with_steps (F.history folder.old) (all_of (placing (map string_bytes names.now)))) }
+    ensures err { IfErr result (λ e. IsNotPlaced (map string_bytes names.now) (F.history folder.old)
+        (F.history folder.new) e.begun) }
 {
     let moves = moves_of(alloc, names)?;
     let text = journal_text(alloc, names)?;

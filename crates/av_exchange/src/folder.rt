@@ -14,17 +14,21 @@ pub trait Folder {
     /// Writes a file of a name that is free, all of it up to the device. It gets the owner and the rights of the file named `like`,
     /// where there is one.
     fn write_new(&mut self, name: &str, bytes: &[u8], like: &str) -> io::Result<()>
-        ensures ok { OnOk result (history self.new ≡ with_steps (history self.old) (Written name.now bytes.now ∷ [])) }
-        ensures err { OnErr result ((left : Option (List ℕ)) × (history self.new ≡ with_steps (history self.old) (Spoiled name.now left ∷ []))) };
+        ensures ok { OnOk result (history self.new
+            ≡ with_steps (history self.old) (Written name.now bytes.now ∷ [])) }
+        ensures err { OnErr result ((left : Option (List ℕ))
+            × (history self.new ≡ with_steps (history self.old) (Spoiled name.now left ∷ []))) };
 
     /// Lets a file take the place of another name's, where it is there.
     fn move_over(&mut self, from: &str, to: &str) -> io::Result<()>
-        ensures ok { OnOk result (history self.new ≡ with_steps (history self.old) (Moved from.now to.now ∷ [])) }
+        ensures ok { OnOk result (history self.new
+            ≡ with_steps (history self.old) (Moved from.now to.now ∷ [])) }
         ensures err { OnErr result (history self.new ≡ history self.old) };
 
     /// Takes a file away, where it is there.
     fn remove(&mut self, name: &str) -> io::Result<()>
-        ensures ok { OnOk result (history self.new ≡ with_steps (history self.old) (Removed name.now ∷ [])) }
+        ensures ok { OnOk result (history self.new
+            ≡ with_steps (history self.old) (Removed name.now ∷ [])) }
         ensures err { OnErr result (history self.new ≡ history self.old) };
 
     /// Waits until all names are on the device.
@@ -34,7 +38,8 @@ pub trait Folder {
 
     /// The text of a file, where it is there.
     fn read_text(&self, alloc: Global, name: &str) -> io::Result<Option<String>>
-        ensures { IfOk result (λ text. IfTold (history self.now) (λ h. h name.now ≡ option_map string_bytes text)) };
+        ensures { IfOk result (λ text. IfTold (history self.now)
+            (λ h. h name.now ≡ option_map string_bytes text)) };
 
     /// The names of all files.
     fn names(&self, alloc: Global) -> io::Result<Vec<String>>

@@ -23,7 +23,8 @@ pub(crate) fn journal_text(alloc: Global, names: &[String]) -> Result<String, Al
 
 /// The names that stand in the lines of a text behind the first, where each is that of a region's file.
 fn names_in(alloc: Global, text: &str) -> Result<Option<Vec<String>>, AllocError>
-    ensures { IfOk result (λ r. IfSome r (λ names. AllByRecursion IsRegionName (map string_bytes names.items))) }
+    ensures { IfOk result (λ r. IfSome r (λ names.
+        AllByRecursion IsRegionName (map string_bytes names.items))) }
 {
     let mut names = Vec::new(alloc);
     for line in text.lines().skip(1) {

@@ -54,7 +54,8 @@ pub(crate) fn is_region_name(alloc: Global, name: &str) -> Result<bool, AllocErr
 
 /// What follows the common beginning of an exchange's names.
 fn behind_start(name: &str) -> Option<&str>
-    ensures { MatchOption result ((rest : List ℕ) → name.now ≢ part_of rest) (λ rest. name.now ≡ part_of rest.now) }
+    ensures { MatchOption result ((rest : List ℕ) → name.now ≢ part_of rest)
+        (λ rest. name.now ≡ part_of rest.now) }
 {
     name.strip_prefix(START)
 }

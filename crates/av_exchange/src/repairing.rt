@@ -36,8 +36,10 @@ fn finish_left<F: Folder, T: Teller>(
 
 /// The names among these that are an exchange's, other than the journal's.
 fn those_beside(alloc: Global, names: Vec<String>) -> Result<Vec<String>, AllocError>
-    ensures beside { IfOk result (λ beside. AllByRecursion IsBeside (map string_bytes beside.items)) }
-    ensures all { IfOk result (λ beside. AreAllBeside (map string_bytes names.items) (map string_bytes beside.items)) }
+    ensures beside { IfOk result (λ beside. AllByRecursion IsBeside
+        (map string_bytes beside.items)) }
+    ensures all { IfOk result (λ beside. AreAllBeside (map string_bytes names.items)
+        (map string_bytes beside.items)) }
 {
     let mut beside = Vec::new(alloc);
     for name in names {
@@ -50,8 +52,10 @@ fn those_beside(alloc: Global, names: Vec<String>) -> Result<Vec<String>, AllocE
 
 /// Takes files away.
 fn remove_all<F: Folder>(folder: &mut F, names: &[String]) -> io::Result<()>
-    ensures ok { OnOk result (F.history folder.new ≡ with_steps (F.history folder.old) (map Removed (map string_bytes names.now))) }
-    ensures err { OnErr result (HasStopped (sweeping (map string_bytes names.now)) (F.history folder.old) (F.history folder.new)) }
+    ensures ok { OnOk result (F.history folder.new
+        ≡ with_steps (F.history folder.old) (map Removed (map string_bytes names.now))) }
+    ensures err { OnErr result (HasStopped (sweeping (map string_bytes names.now))
+        (F.history folder.old) (F.history folder.new)) }
 {
     for name in names {
         folder.remove(name.as_str())?;

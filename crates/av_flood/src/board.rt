@@ -164,7 +164,8 @@ impl Flood {
 
     /// Where a block's byte stands, if it is one of the board.
     pub(crate) fn index(&self, pos: Pos) -> Option<usize>
-        ensures { MatchOption result (IsOff self.now.chunk self.now.height pos) (IsPlace self.now.chunk self.now.height pos) }
+        ensures { MatchOption result (IsOff self.now.chunk self.now.height pos)
+            (IsPlace self.now.chunk self.now.height pos) }
     {
         let x = self.along_x(pos)?;
         let z = self.along_z(pos)?;
@@ -193,7 +194,8 @@ impl Flood {
     #[inline(always)]
     pub(crate) fn byte(&self, spot: Spot) -> u8
         requires { IsSpot self.now.chunk self.now.height spot }
-        ensures place { IsPlace self.now.chunk self.now.height spot.pos spot.index → result ≡ raw_of self.now spot.pos }
+        ensures place { IsPlace self.now.chunk self.now.height spot.pos spot.index
+            → result ≡ raw_of self.now spot.pos }
         ensures far { apart (spot.index % 1936) ≤ result }
         ensures least { result < 14 → IsPlace self.now.chunk self.now.height spot.pos spot.index }
     {
@@ -253,8 +255,10 @@ impl Flood {
         requires on { IsTrue (is_on self.old.chunk self.old.height pos) }
         requires unsettled { is_settled self.old pos ≡ false }
         requires level { level ≤ 15 }
-        ensures light { (q : Pos) → light_of self.new q ≡ (if same_pos q pos then level else light_of self.old q) }
-        ensures settled { (q : Pos) → is_settled self.new q ≡ (if same_pos q pos then true else is_settled self.old q) }
+        ensures light { (q : Pos) → light_of self.new q
+            ≡ (if same_pos q pos then level else light_of self.old q) }
+        ensures settled { (q : Pos) → is_settled self.new q
+            ≡ (if same_pos q pos then true else is_settled self.old q) }
         ensures count { settled_count self.new ≡ settled_count self.old + 1 }
         ensures chunk { self.new.chunk ≡ self.old.chunk }
         ensures height { self.new.height ≡ self.old.height }
@@ -287,7 +291,8 @@ impl Flood {
         requires y { y < 16 * self.now.height.sections }
         requires z { z < 16 }
         ensures length { length result.now ≡ 16 }
-        ensures light { (x : ℕ) → x < 16 → slice_index result.now x - 128 ≡ light_at self.now (256 * y + 16 * z + x) }
+        ensures light { (x : ℕ) → x < 16 → slice_index result.now x - 128
+            ≡ light_at self.now (256 * y + 16 * z + x) }
         ensures dim { All (λ n. n < 144) result.now }
     {
         self.sixteen((44 * (44 * (y + 1) + z + 14) + 14) as usize)
@@ -296,7 +301,8 @@ impl Flood {
     /// The bytes of the chunk's blocks in a layer, row by row.
     fn layer(&self, y: u32) -> [u8; 256]
         requires { y < 16 * self.now.height.sections }
-        ensures light { (j : ℕ) → j < 256 → slice_index result j - 128 ≡ light_at self.now (256 * y + j) }
+        ensures light { (j : ℕ) → j < 256 → slice_index result j - 128
+            ≡ light_at self.now (256 * y + j) }
         ensures dim { (j : ℕ) → j < 256 → slice_index result j < 144 }
     {
         let mut bytes = [0; 256];

@@ -61,7 +61,8 @@ impl Buckets {
     /// Takes a block out.
     pub fn pop(&mut self, level: u8) -> Option<Pos>
         requires { level < 16 }
-        ensures { MatchOption result (IsNone (todo_of self.old) (todo_of self.new) level) (IsPopped (todo_of self.old) (todo_of self.new) level) }
+        ensures { MatchOption result (IsNone (todo_of self.old) (todo_of self.new) level)
+            (IsPopped (todo_of self.old) (todo_of self.new) level) }
     {
         let bucket = &mut self.levels[level as usize];
         bucket.pop()

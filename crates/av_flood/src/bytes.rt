@@ -77,7 +77,8 @@ pub(crate) fn clear(light: &mut Vec<u8>, touched: &mut Vec<bool>, layer: usize, 
     ensures quiet { IsQuiet touched.new.items light.new.items }
     ensures fenced { IsFenced (1936 * vec_len touched.old + 1936) light.new.items }
     ensures here { slice_index_or touched.new.items layer true ≡ false }
-    ensures others { (s : ℕ) → slice_index_or touched.old.items s true ≡ false → slice_index_or touched.new.items s true ≡ false }
+    ensures others { (s : ℕ) → slice_index_or touched.old.items s true ≡ false
+        → slice_index_or touched.new.items s true ≡ false }
 {
     if !touched[layer] {
         return;
@@ -123,8 +124,10 @@ pub(crate) fn put_row(layer: &mut [u8; 256], z: usize, row: &[u8])
 pub(crate) fn halves(layer: &[u8; 256]) -> [u8; 128]
     requires { (j : ℕ) → j < 256 → slice_index layer.now j < 144 }
     ensures count { length result ≡ 128 }
-    ensures low { (k : ℕ) → k < 128 → slice_index result k % 16 ≡ slice_index layer.now (2 * k) - 128 }
-    ensures high { (k : ℕ) → k < 128 → slice_index result k / 16 ≡ slice_index layer.now (2 * k + 1) - 128 }
+    ensures low { (k : ℕ) → k < 128 → slice_index result k % 16
+        ≡ slice_index layer.now (2 * k) - 128 }
+    ensures high { (k : ℕ) → k < 128 → slice_index result k / 16
+        ≡ slice_index layer.now (2 * k + 1) - 128 }
 {
     let mut halves = [0; 128];
     for pair in 0..128 {

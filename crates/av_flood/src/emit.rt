@@ -21,13 +21,17 @@ fn emit<B: Blocks>(
 ) -> Result<(), AllocError>
     requires height { flood.old.height ≡ B.tall blocks.now }
     requires dark { IsDark flood.old }
-    requires noted { IsNoted (B.terrain blocks.now) flood.old.chunk (raw_of flood.old) (todo_of buckets.old) }
+    requires noted { IsNoted (B.terrain blocks.now) flood.old.chunk (raw_of flood.old)
+        (todo_of buckets.old) }
     ensures chunk { flood.new.chunk ≡ flood.old.chunk }
     ensures height { flood.new.height ≡ flood.old.height }
     ensures dark { OnOk result (IsDark flood.new) }
-    ensures noted { OnOk result (IsNoted (B.terrain blocks.now) flood.old.chunk (raw_of flood.new) (todo_of buckets.new)) }
-    ensures grown { OnOk result (IsGrown (B.terrain blocks.now) flood.old.chunk 16 (todo_of buckets.old) (todo_of buckets.new)) }
-    ensures ready { OnOk result (WaitsIfEmitting (B.terrain blocks.now) flood.old.chunk (todo_of buckets.new) pos) }
+    ensures noted { OnOk result (IsNoted (B.terrain blocks.now) flood.old.chunk (raw_of flood.new)
+        (todo_of buckets.new)) }
+    ensures grown { OnOk result (IsGrown (B.terrain blocks.now) flood.old.chunk 16
+        (todo_of buckets.old) (todo_of buckets.new)) }
+    ensures ready { OnOk result (WaitsIfEmitting (B.terrain blocks.now) flood.old.chunk
+        (todo_of buckets.new) pos) }
 {
     let Some(index) = flood.index(pos) else {
         return Ok(());
@@ -53,13 +57,17 @@ fn emit_all<B: Blocks>(
 ) -> Result<(), AllocError>
     requires height { flood.old.height ≡ B.tall blocks.now }
     requires dark { IsDark flood.old }
-    requires noted { IsNoted (B.terrain blocks.now) flood.old.chunk (raw_of flood.old) (todo_of buckets.old) }
+    requires noted { IsNoted (B.terrain blocks.now) flood.old.chunk (raw_of flood.old)
+        (todo_of buckets.old) }
     ensures chunk { flood.new.chunk ≡ flood.old.chunk }
     ensures height { flood.new.height ≡ flood.old.height }
     ensures dark { OnOk result (IsDark flood.new) }
-    ensures noted { OnOk result (IsNoted (B.terrain blocks.now) flood.old.chunk (raw_of flood.new) (todo_of buckets.new)) }
-    ensures grown { OnOk result (IsGrown (B.terrain blocks.now) flood.old.chunk 16 (todo_of buckets.old) (todo_of buckets.new)) }
-    ensures ready { OnOk result ((p : Pos) → Contains lamps.now p → WaitsIfEmitting (B.terrain blocks.now) flood.old.chunk (todo_of buckets.new) p) }
+    ensures noted { OnOk result (IsNoted (B.terrain blocks.now) flood.old.chunk (raw_of flood.new)
+        (todo_of buckets.new)) }
+    ensures grown { OnOk result (IsGrown (B.terrain blocks.now) flood.old.chunk 16
+        (todo_of buckets.old) (todo_of buckets.new)) }
+    ensures ready { OnOk result ((p : Pos) → Contains lamps.now p
+        → WaitsIfEmitting (B.terrain blocks.now) flood.old.chunk (todo_of buckets.new) p) }
 {
     for lamp in lamps {
         emit(flood, blocks, *lamp, buckets)?;
@@ -103,8 +111,10 @@ pub(crate) fn start<B: Blocks>(
     ensures chunk { flood.new.chunk ≡ flood.old.chunk }
     ensures height { flood.new.height ≡ flood.old.height }
     ensures dark { OnOk result (IsDark flood.new) }
-    ensures noted { OnOk result (IsNoted (B.terrain blocks.now) flood.old.chunk (raw_of flood.new) (todo_of buckets.new)) }
-    ensures started { OnOk result (IsStarted (B.terrain blocks.now) flood.old.chunk (todo_of buckets.new)) }
+    ensures noted { OnOk result (IsNoted (B.terrain blocks.now) flood.old.chunk (raw_of flood.new)
+        (todo_of buckets.new)) }
+    ensures started { OnOk result (IsStarted (B.terrain blocks.now) flood.old.chunk
+        (todo_of buckets.new)) }
 {
     for number in 0..9 {
         let lamps = blocks.lamps(column_at(flood.chunk, number));

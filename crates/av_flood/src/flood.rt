@@ -33,8 +33,10 @@ fn bring<B: Blocks>(
     requires beside { IsAdjacent from pos }
     requires comes { HasLight (B.terrain blocks.now) from level }
     requires matters { (v : ℕ) → seen < v → Matters chunk v pos }
-    ensures grown { OnOk result (IsGrown (B.terrain blocks.now) chunk level (todo_of buckets.old) (todo_of buckets.new)) }
-    ensures brought { OnOk result (IsBrought (B.terrain blocks.now) level seen (todo_of buckets.new) pos) }
+    ensures grown { OnOk result (IsGrown (B.terrain blocks.now) chunk level (todo_of buckets.old)
+        (todo_of buckets.new)) }
+    ensures brought { OnOk result (IsBrought (B.terrain blocks.now) level seen
+        (todo_of buckets.new) pos) }
     ensures others { OnOk result (todo_of buckets.new level ≡ todo_of buckets.old level) }
 {
     let Some(cost) = blocks.cost(pos) else {
@@ -64,13 +66,17 @@ fn offer<B: Blocks>(
     requires beside { IsAdjacent from spot.pos }
     requires comes { HasLight (B.terrain blocks.now) from level }
     requires bright { (q : Pos) → 0 < light_of flood.old q → level ≤ light_of flood.old q }
-    requires marked { IsMarked (B.terrain blocks.now) flood.old.chunk level (raw_of flood.old) (todo_of buckets.old) }
+    requires marked { IsMarked (B.terrain blocks.now) flood.old.chunk level (raw_of flood.old)
+        (todo_of buckets.old) }
     ensures chunk { flood.new.chunk ≡ flood.old.chunk }
     ensures height { flood.new.height ≡ flood.old.height }
     ensures same { OnOk result ((q : Pos) → light_of flood.new q ≡ light_of flood.old q) }
-    ensures marked { OnOk result (IsMarked (B.terrain blocks.now) flood.old.chunk level (raw_of flood.new) (todo_of buckets.new)) }
-    ensures grown { OnOk result (IsGrown (B.terrain blocks.now) flood.old.chunk level (todo_of buckets.old) (todo_of buckets.new)) }
-    ensures offered { OnOk result (IsOffered (B.terrain blocks.now) flood.old.chunk level (light_of flood.old) (todo_of buckets.new) spot.pos) }
+    ensures marked { OnOk result (IsMarked (B.terrain blocks.now) flood.old.chunk level
+        (raw_of flood.new) (todo_of buckets.new)) }
+    ensures grown { OnOk result (IsGrown (B.terrain blocks.now) flood.old.chunk level
+        (todo_of buckets.old) (todo_of buckets.new)) }
+    ensures offered { OnOk result (IsOffered (B.terrain blocks.now) flood.old.chunk level
+        (light_of flood.old) (todo_of buckets.new) spot.pos) }
     ensures others { OnOk result (todo_of buckets.new level ≡ todo_of buckets.old level) }
 {
     let seen = flood.byte(spot);
@@ -102,14 +108,19 @@ fn offer_both<B: Blocks>(
     requires second_beside { IsAdjacent from second.pos }
     requires comes { HasLight (B.terrain blocks.now) from level }
     requires bright { (q : Pos) → 0 < light_of flood.old q → level ≤ light_of flood.old q }
-    requires marked { IsMarked (B.terrain blocks.now) flood.old.chunk level (raw_of flood.old) (todo_of buckets.old) }
+    requires marked { IsMarked (B.terrain blocks.now) flood.old.chunk level (raw_of flood.old)
+        (todo_of buckets.old) }
     ensures chunk { flood.new.chunk ≡ flood.old.chunk }
     ensures height { flood.new.height ≡ flood.old.height }
     ensures same { OnOk result ((q : Pos) → light_of flood.new q ≡ light_of flood.old q) }
-    ensures marked { OnOk result (IsMarked (B.terrain blocks.now) flood.old.chunk level (raw_of flood.new) (todo_of buckets.new)) }
-    ensures grown { OnOk result (IsGrown (B.terrain blocks.now) flood.old.chunk level (todo_of buckets.old) (todo_of buckets.new)) }
-    ensures first { OnOk result (IsOffered (B.terrain blocks.now) flood.old.chunk level (light_of flood.old) (todo_of buckets.new) first.pos) }
-    ensures second { OnOk result (IsOffered (B.terrain blocks.now) flood.old.chunk level (light_of flood.old) (todo_of buckets.new) second.pos) }
+    ensures marked { OnOk result (IsMarked (B.terrain blocks.now) flood.old.chunk level
+        (raw_of flood.new) (todo_of buckets.new)) }
+    ensures grown { OnOk result (IsGrown (B.terrain blocks.now) flood.old.chunk level
+        (todo_of buckets.old) (todo_of buckets.new)) }
+    ensures first { OnOk result (IsOffered (B.terrain blocks.now) flood.old.chunk level
+        (light_of flood.old) (todo_of buckets.new) first.pos) }
+    ensures second { OnOk result (IsOffered (B.terrain blocks.now) flood.old.chunk level
+        (light_of flood.old) (todo_of buckets.new) second.pos) }
     ensures others { OnOk result (todo_of buckets.new level ≡ todo_of buckets.old level) }
 {
     offer(flood, blocks, from, first, level, buckets)?;
@@ -131,13 +142,18 @@ fn spread<B: Blocks>(
     requires place { IsPlace flood.old.chunk flood.old.height spot.pos spot.index }
     requires comes { HasLight (B.terrain blocks.now) spot.pos level }
     requires bright { (q : Pos) → 0 < light_of flood.old q → level ≤ light_of flood.old q }
-    requires marked { IsMarked (B.terrain blocks.now) flood.old.chunk level (raw_of flood.old) (todo_of buckets.old) }
+    requires marked { IsMarked (B.terrain blocks.now) flood.old.chunk level (raw_of flood.old)
+        (todo_of buckets.old) }
     ensures chunk { flood.new.chunk ≡ flood.old.chunk }
     ensures height { flood.new.height ≡ flood.old.height }
     ensures same { OnOk result ((q : Pos) → light_of flood.new q ≡ light_of flood.old q) }
-    ensures marked { OnOk result (IsMarked (B.terrain blocks.now) flood.old.chunk level (raw_of flood.new) (todo_of buckets.new)) }
-    ensures grown { OnOk result (IsGrown (B.terrain blocks.now) flood.old.chunk level (todo_of buckets.old) (todo_of buckets.new)) }
-    ensures offered { OnOk result ((q : Pos) → IsAdjacent spot.pos q → IsOffered (B.terrain blocks.now) flood.old.chunk level (light_of flood.old) (todo_of buckets.new) q) }
+    ensures marked { OnOk result (IsMarked (B.terrain blocks.now) flood.old.chunk level
+        (raw_of flood.new) (todo_of buckets.new)) }
+    ensures grown { OnOk result (IsGrown (B.terrain blocks.now) flood.old.chunk level
+        (todo_of buckets.old) (todo_of buckets.new)) }
+    ensures offered { OnOk result ((q : Pos) → IsAdjacent spot.pos q
+        → IsOffered (B.terrain blocks.now) flood.old.chunk level (light_of flood.old)
+        (todo_of buckets.new) q) }
     ensures others { OnOk result (todo_of buckets.new level ≡ todo_of buckets.old level) }
 {
     if level < 2 {
@@ -163,12 +179,16 @@ fn settle_level<B: Blocks>(
     requires low { 0 < level }
     requires high { level < 16 }
     requires height { flood.old.height ≡ B.tall blocks.now }
-    requires flooding { IsFlooding (B.terrain blocks.now) flood.old.chunk level (light_of flood.old) (todo_of buckets.old) }
-    requires marked { IsMarked (B.terrain blocks.now) flood.old.chunk level (raw_of flood.old) (todo_of buckets.old) }
+    requires flooding { IsFlooding (B.terrain blocks.now) flood.old.chunk level (light_of flood.old)
+        (todo_of buckets.old) }
+    requires marked { IsMarked (B.terrain blocks.now) flood.old.chunk level (raw_of flood.old)
+        (todo_of buckets.old) }
     ensures chunk { flood.new.chunk ≡ flood.old.chunk }
     ensures height { flood.new.height ≡ flood.old.height }
-    ensures flooding { OnOk result (IsFlooding (B.terrain blocks.now) flood.new.chunk (level - 1) (light_of flood.new) (todo_of buckets.new)) }
-    ensures marked { OnOk result (IsMarked (B.terrain blocks.now) flood.new.chunk (level - 1) (raw_of flood.new) (todo_of buckets.new)) }
+    ensures flooding { OnOk result (IsFlooding (B.terrain blocks.now) flood.new.chunk (level - 1)
+        (light_of flood.new) (todo_of buckets.new)) }
+    ensures marked { OnOk result (IsMarked (B.terrain blocks.now) flood.new.chunk (level - 1)
+        (raw_of flood.new) (todo_of buckets.new)) }
 {
     while let Some(pos) = buckets.pop(level) {
         let spot = flood.spot(pos);
@@ -189,7 +209,8 @@ fn fill<B: Blocks>(blocks: &B, flood: &mut Flood, buckets: &mut Buckets) -> Resu
     requires none { (n : ℕ) → todo_of buckets.old n ≡ [] }
     ensures chunk { flood.new.chunk ≡ flood.old.chunk }
     ensures height { flood.new.height ≡ flood.old.height }
-    ensures light { OnOk result ((p : Pos) → chunk_of p ≡ flood.old.chunk → IsLight (B.terrain blocks.now) p (light_of flood.new p)) }
+    ensures light { OnOk result ((p : Pos) → chunk_of p ≡ flood.old.chunk
+        → IsLight (B.terrain blocks.now) p (light_of flood.new p)) }
 {
     start(flood, blocks, buckets)?;
     for step in 0..15 {
@@ -212,7 +233,8 @@ pub fn flooded<B: Blocks>(
     requires { AreKnown (B.terrain blocks.now) (B.lamps blocks.now) chunk }
     ensures chunk { IfOk result (λ f. f.chunk ≡ chunk) }
     ensures height { IfOk result (λ f. f.height ≡ B.tall blocks.now) }
-    ensures light { IfOk result (λ f. (p : Pos) → chunk_of p ≡ chunk → IsLight (B.terrain blocks.now) p (light_of f p)) }
+    ensures light { IfOk result (λ f. (p : Pos) → chunk_of p ≡ chunk
+        → IsLight (B.terrain blocks.now) p (light_of f p)) }
 {
     let mut flood = Flood::dark(alloc, chunk, blocks.height(), used)?;
     if !may_be_loaded(chunk) {

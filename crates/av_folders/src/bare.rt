@@ -10,20 +10,23 @@ use std::rt::Files;
 use std::{fs, io};
 
 fn write_none<E: Write>(err: &mut E, folder: &str) -> io::Result<()>
-    ensures { OnOk result (Appends (E.contents err.old) (E.contents err.new) (line (bare_text folder.now None))) }
+    ensures { OnOk result (Appends (E.contents err.old) (E.contents err.new)
+        (line (bare_text folder.now None))) }
 {
     writeln!(err, "{folder} has no region files")
 }
 
 fn write_inner<E: Write>(err: &mut E, folder: &str, inner: &str) -> io::Result<()>
-    ensures { OnOk result (Appends (E.contents err.old) (E.contents err.new) (line (bare_text folder.now (Some inner.now)))) }
+    ensures { OnOk result (Appends (E.contents err.old) (E.contents err.new)
+        (line (bare_text folder.now (Some inner.now)))) }
 {
     writeln!(err, "{folder} has no region files, but {inner} is there")
 }
 
 /// Writes that a folder has no region files, and the folder in it that may have been meant.
 pub fn write_bare<E: Write>(err: &mut E, folder: &str, inner: Option<&str>) -> io::Result<()>
-    ensures { OnOk result (Appends (E.contents err.old) (E.contents err.new) (line (bare_text folder.now (option_map (λ t. t.now) inner.entry)))) }
+    ensures { OnOk result (Appends (E.contents err.old) (E.contents err.new)
+        (line (bare_text folder.now (option_map (λ t. t.now) inner.entry)))) }
 {
     match inner {
         None => write_none(err, folder),

@@ -82,7 +82,8 @@ fn push_filled<'a>(words: &mut Vec<&'a [u8]>, part: &'a [u8]) -> Result<(), Allo
 
 /// The parts that are not empty.
 fn filled<'a>(alloc: Global, parts: Vec<&'a [u8]>) -> Result<Vec<&'a [u8]>, AllocError>
-    ensures { IfOk result (λ words. texts words.items ≡ filter is_filled (texts parts.entry.items)) }
+    ensures { IfOk result (λ words. texts words.items
+        ≡ filter is_filled (texts parts.entry.items)) }
 {
     let mut words = Vec::new(alloc);
     for part in parts {
@@ -162,7 +163,8 @@ fn is_diskless(major: &[u8]) -> bool
 impl<'a> Lock<'a> {
     /// Whether it has a device's numbers.
     fn has_device(&self, major: &[u8], minor: &[u8]) -> bool
-        ensures { result ≡ (bytes_eq self.now.major.now major.now && bytes_eq self.now.minor.now minor.now) }
+        ensures { result ≡ (bytes_eq self.now.major.now major.now
+            && bytes_eq self.now.minor.now minor.now) }
     {
         self.major == major && self.minor == minor
     }
@@ -170,7 +172,8 @@ impl<'a> Lock<'a> {
     /// Whether it may be on a file: it has the file's number, and the devices are not two disks. Where a file system has no disk, as one in
     /// memory or one over others, the list may have another number for its device than its files have.
     pub fn may_be_on(&self, file: &FileNumbers) -> bool
-        ensures { result ≡ may_be_on (lock_words self.now) (string_bytes file.now.major) (string_bytes file.now.minor) (string_bytes file.now.number) }
+        ensures { result ≡ may_be_on (lock_words self.now) (string_bytes file.now.major)
+            (string_bytes file.now.minor) (string_bytes file.now.number) }
     {
         let major = file.major.as_bytes();
         if self.number != file.number.as_bytes() {

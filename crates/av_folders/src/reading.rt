@@ -47,7 +47,8 @@ impl FolderFiles {
 
     fn add_read(&mut self, listed: &Listed, file: RegionFile) -> Result<(), Fault>
         requires { file.pos ≡ listed.now.region }
-        ensures adds { OnOk result ((before : List RegionPos) → AreRead before self.old → AreRead (before ++ listed.now.region ∷ []) self.new) }
+        ensures adds { OnOk result ((before : List RegionPos) → AreRead before self.old
+            → AreRead (before ++ listed.now.region ∷ []) self.new) }
         ensures memory { IfErr result (λ e. e ≡ OutOfMemory) }
     {
         Ok(self.files.push(file)?)
@@ -61,7 +62,8 @@ impl FolderFiles {
         error: io::Error,
     ) -> Result<(), Fault>
         requires { IsListed listed.now }
-        ensures adds { OnOk result ((before : List RegionPos) → AreRead before self.old → AreRead (before ++ listed.now.region ∷ []) self.new) }
+        ensures adds { OnOk result ((before : List RegionPos) → AreRead before self.old
+            → AreRead (before ++ listed.now.region ∷ []) self.new) }
         ensures memory { IfErr result (λ e. e ≡ OutOfMemory) }
     {
         if error.kind() == io::ErrorKind::OutOfMemory {
@@ -82,7 +84,8 @@ impl FolderFiles {
     ) -> Result<(), Fault>
         requires listed { IsListed listed.now }
         requires pos { IfOk read (λ file. file.pos ≡ listed.now.region) }
-        ensures adds { OnOk result ((before : List RegionPos) → AreRead before self.old → AreRead (before ++ listed.now.region ∷ []) self.new) }
+        ensures adds { OnOk result ((before : List RegionPos) → AreRead before self.old
+            → AreRead (before ++ listed.now.region ∷ []) self.new) }
         ensures memory { IfErr result (λ e. e ≡ OutOfMemory) }
     {
         match read {
@@ -121,7 +124,8 @@ fn list_folder<R: Files + AllocGlobal + Clone + Drop>(
     folder: &str,
 ) -> io::Result<Vec<Listed>>
     ensures named { IfOk result (λ files. All IsListed files.items) }
-    ensures order { IfOk result (λ files. IsStrictlySortedBy (λ a b. string_cmp a.name b.name) files.items) }
+    ensures order { IfOk result (λ files. IsStrictlySortedBy
+        (λ a b. string_cmp a.name b.name) files.items) }
 {
     let mut files = Vec::new(rt.alloc());
     for entry in fs::read_dir(rt, folder)? {
@@ -141,7 +145,8 @@ fn list_files<R: LockFiles + Eprint + AllocGlobal + Clone + Drop, E: Write>(
     err: &mut E,
 ) -> Result<Vec<Listed>, Failure>
     ensures named { IfOk result (λ files. All IsListed files.items) }
-    ensures order { IfOk result (λ files. IsStrictlySortedBy (λ a b. string_cmp a.name b.name) files.items) }
+    ensures order { IfOk result (λ files. IsStrictlySortedBy
+        (λ a b. string_cmp a.name b.name) files.items) }
     ensures unlisted { IfErr result (λ e. IsFolderFault folder.now e.fault) }
 {
     tidy(rt, folder, folder, err)?;
@@ -193,7 +198,8 @@ fn read_region<R: Files + AllocGlobal>(
     file: &Listed,
 ) -> Result<RegionFile, Failure>
     ensures pos { IfOk result (λ read. read.pos ≡ file.now.region) }
-    ensures unread { IfErr result (λ e. (e.fault ≡ OutOfMemory) ⊎ IsDevice (string_bytes file.now.name) e.fault) }
+    ensures unread { IfErr result (λ e. (e.fault ≡ OutOfMemory)
+        ⊎ IsDevice (string_bytes file.now.name) e.fault) }
 {
     match read_listed(rt, folder, file) {
         Ok(read) => Ok(read),
@@ -214,7 +220,8 @@ fn read_each<R: Files + AllocGlobal, E: Write>(
     err: &mut E,
 ) -> Result<Vec<RegionFile>, Failure>
     requires { All IsListed listed.now }
-    ensures read { IfOk result (λ files. map (λ f. f.pos) files.items ≡ map (λ l. l.region) listed.now) }
+    ensures read { IfOk result (λ files. map (λ f. f.pos) files.items
+        ≡ map (λ l. l.region) listed.now) }
     ensures unread { IfErr result (λ e. IsUnreadFolder folder.now e.fault) }
 {
     let mut files = Vec::new(rt.alloc());

@@ -128,7 +128,8 @@ fn repair_found<R: LockFiles + Eprint + AllocGlobal + Clone + Drop>(
 }
 
 fn write_removed<E: Write>(err: &mut E, folder: &str, files: usize) -> io::Result<()>
-    ensures { OnOk result (Appends (E.contents err.old) (E.contents err.new) (removed_text folder.now files)) }
+    ensures { OnOk result (Appends (E.contents err.old) (E.contents err.new)
+        (removed_text folder.now files)) }
 {
     writeln!(
         err,

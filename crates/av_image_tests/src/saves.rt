@@ -37,7 +37,8 @@ fn read(
 /// No light for each chunk of a world.
 fn dark(alloc: Global, world: &World) -> Result<Vec<ChunkLight>, Fault>
     ensures each { IfOk result (λ lights. length lights.items ≡ length (positions_of world.now)) }
-    ensures whole { IfOk result (λ lights. All (λ l. section_count l ≡ (height_of world.now).sections) lights.items) }
+    ensures whole { IfOk result (λ lights. All (λ l. section_count l
+        ≡ (height_of world.now).sections) lights.items) }
 {
     let mut lights = Vec::new(alloc);
     for _ in world.positions() {

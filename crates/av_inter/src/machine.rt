@@ -46,9 +46,12 @@ impl<'a> Core<'a> {
 
     /// A part that waits is held by the worker from then on.
     fn take(&mut self, worker: u32, part: u32) -> Result<(), Refused>
-        ensures ok { OnOk result (state_of self.new ≡ moved (state_of self.old) part (Stage.Held worker 0)) }
-        ensures lawful { OnOk result (IsLawfulEvent (parts_in self.old) (state_of self.old) (Event.Take worker part)) }
-        ensures refused { IfErr result (λ e. IsEventRefusal (parts_in self.old) (state_of self.old) (Event.Take worker part) e) }
+        ensures ok { OnOk result (state_of self.new
+            ≡ moved (state_of self.old) part (Stage.Held worker 0)) }
+        ensures lawful { OnOk result (IsLawfulEvent (parts_in self.old) (state_of self.old)
+            (Event.Take worker part)) }
+        ensures refused { IfErr result (λ e. IsEventRefusal (parts_in self.old) (state_of self.old)
+            (Event.Take worker part) e) }
         ensures unchanged { OnErr result (state_of self.new ≡ state_of self.old) }
         ensures same { IsSameTick self.old self.new }
     {
@@ -61,9 +64,13 @@ impl<'a> Core<'a> {
 
     /// The next entry of a part that the worker holds is turned, and what that makes is put aside.
     fn turn_next(&mut self, worker: u32, part: u32) -> Result<(), Refused>
-        ensures ok { OnOk result (state_of self.new ≡ after (kinds_in self.old) (now_in self.old) (parts_in self.old) (state_of self.old) (Event.Turn worker part)) }
-        ensures lawful { OnOk result (IsLawfulEvent (parts_in self.old) (state_of self.old) (Event.Turn worker part)) }
-        ensures refused { IfErr result (λ e. IsEventRefusal (parts_in self.old) (state_of self.old) (Event.Turn worker part) e) }
+        ensures ok { OnOk result (state_of self.new
+            ≡ after (kinds_in self.old) (now_in self.old) (parts_in self.old) (state_of self.old)
+            (Event.Turn worker part)) }
+        ensures lawful { OnOk result (IsLawfulEvent (parts_in self.old) (state_of self.old)
+            (Event.Turn worker part)) }
+        ensures refused { IfErr result (λ e. IsEventRefusal (parts_in self.old) (state_of self.old)
+            (Event.Turn worker part) e) }
         ensures unchanged { OnErr result (state_of self.new ≡ state_of self.old) }
         ensures same { IsSameTick self.old self.new }
     {
@@ -86,8 +93,10 @@ impl<'a> Core<'a> {
     /// A part that the worker holds, all of whose entries were turned, is back from then on: its parcel is mended.
     fn back(&mut self, worker: u32, part: u32) -> Result<(), Refused>
         ensures ok { OnOk result (state_of self.new ≡ moved (state_of self.old) part Stage.Ended) }
-        ensures lawful { OnOk result (IsLawfulEvent (parts_in self.old) (state_of self.old) (Event.Back worker part)) }
-        ensures refused { IfErr result (λ e. IsEventRefusal (parts_in self.old) (state_of self.old) (Event.Back worker part) e) }
+        ensures lawful { OnOk result (IsLawfulEvent (parts_in self.old) (state_of self.old)
+            (Event.Back worker part)) }
+        ensures refused { IfErr result (λ e. IsEventRefusal (parts_in self.old) (state_of self.old)
+            (Event.Back worker part) e) }
         ensures unchanged { OnErr result (state_of self.new ≡ state_of self.old) }
         ensures same { IsSameTick self.old self.new }
     {
@@ -109,9 +118,12 @@ impl<'a> Core<'a> {
     /// `NotWaiting`, `NotHolder`, `NoEntry` or `NotDone` where the event is not lawful, as each of them says, and
     /// `NoMemory` where memory is refused to a lawful turn. Nothing changes then.
     pub fn step(&mut self, event: Event) -> Result<(), Refused>
-        ensures ok { OnOk result (state_of self.new ≡ after (kinds_in self.old) (now_in self.old) (parts_in self.old) (state_of self.old) event) }
+        ensures ok { OnOk result (state_of self.new
+            ≡ after (kinds_in self.old) (now_in self.old) (parts_in self.old)
+            (state_of self.old) event) }
         ensures lawful { OnOk result (IsLawfulEvent (parts_in self.old) (state_of self.old) event) }
-        ensures refused { IfErr result (λ e. IsEventRefusal (parts_in self.old) (state_of self.old) event e) }
+        ensures refused { IfErr result (λ e. IsEventRefusal (parts_in self.old)
+            (state_of self.old) event e) }
         ensures unchanged { OnErr result (state_of self.new ≡ state_of self.old) }
         ensures same { IsSameTick self.old self.new }
     {

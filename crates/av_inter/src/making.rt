@@ -54,7 +54,8 @@ impl<'a> Core<'a> {
         requires unbroken { is_broken world ≡ false }
         requires kinds { HasKinds (kind_count kinds.now) (blocks world) }
         requires plan { IsPlanOf (blocks world) clusters.items }
-        ensures start { IfOk result (λ core. state_of core ≡ start (blocks world) (lists world) (parts_of clusters.items)) }
+        ensures start { IfOk result (λ core. state_of core
+            ≡ start (blocks world) (lists world) (parts_of clusters.items)) }
         ensures parts { IfOk result (λ core. parts_in core ≡ parts_of clusters.items) }
         ensures kinds { IfOk result (λ core. kinds_in core ≡ kinds_of kinds.now) }
         ensures now { IfOk result (λ core. now_in core ≡ now) }

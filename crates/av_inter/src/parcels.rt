@@ -37,7 +37,8 @@ pub(crate) fn carve_all(
 /// Puts a parcel back, if it is out.
 pub(crate) fn mend_one(world: &mut World, slot: Option<Parcel>)
     requires { HoldsPartOf world.old slot }
-    ensures blocks { blocks world.new ≡ put_blocks (lists world.old) (out_in slot) (blocks world.old) }
+    ensures blocks { blocks world.new ≡ put_blocks (lists world.old) (out_in slot)
+        (blocks world.old) }
     ensures grid { grid world.new ≡ put_grid slot (grid world.old) }
     ensures same { IsSamePlaces world.old world.new }
 {

@@ -44,9 +44,13 @@ fn turn_one<C: Cells>(
 ) -> Result<(), AllocError>
     requires kinds { HasKinds (kind_count kinds.now) (C.world cells.old) }
     requires loaded { IsTrue ((C.world cells.old).loaded next.entry.pos) }
-    ensures world { OnOk result (C.world cells.new ≡ (turn_of (kinds_of kinds.now) now next (C.world cells.old)).world) }
-    ensures listed { OnOk result (C.lists cells.new ≡ listed_all (C.lists cells.old) (turn_of (kinds_of kinds.now) now next (C.world cells.old)).made) }
-    ensures made { OnOk result (made.new.items ≡ made.old.items ++ made_by (kinds_of kinds.now) now next (C.world cells.old)) }
+    ensures world { OnOk result (C.world cells.new
+        ≡ (turn_of (kinds_of kinds.now) now next (C.world cells.old)).world) }
+    ensures listed { OnOk result (C.lists cells.new
+        ≡ listed_all (C.lists cells.old) (turn_of (kinds_of kinds.now) now next
+        (C.world cells.old)).made) }
+    ensures made { OnOk result (made.new.items ≡ made.old.items
+        ++ made_by (kinds_of kinds.now) now next (C.world cells.old)) }
     ensures kinds { HasKinds (kind_count kinds.now) (C.world cells.new) }
     ensures same_world { OnErr result (C.world cells.new ≡ C.world cells.old) }
     ensures same_lists { OnErr result (C.lists cells.new ≡ C.lists cells.old) }
@@ -72,7 +76,8 @@ fn turn_parcel(
     made: &mut Vec<Made>,
 ) -> Result<(), AllocError>
     requires { CanTurn (kind_count kinds.now) next (out_of parcel.old) }
-    ensures turned { OnOk result (Turns (kinds_of kinds.now) now (kind_count kinds.now) next (out_of parcel.old) (out_of parcel.new) made.old.items made.new.items) }
+    ensures turned { OnOk result (Turns (kinds_of kinds.now) now (kind_count kinds.now) next
+        (out_of parcel.old) (out_of parcel.new) made.old.items made.new.items) }
     ensures same_parcel { OnErr result (out_of parcel.new ≡ out_of parcel.old) }
     ensures same_made { OnErr result (made.new.items ≡ made.old.items) }
 {
@@ -91,7 +96,8 @@ pub(crate) fn turn_in(
     made: &mut Vec<Made>,
 ) -> Result<(), AllocError>
     requires { CanTurnIn (kind_count kinds.now) next (out_in slot.old) }
-    ensures turned { OnOk result (TurnsIn (kinds_of kinds.now) now (kind_count kinds.now) next (out_in slot.old) (out_in slot.new) made.old.items made.new.items) }
+    ensures turned { OnOk result (TurnsIn (kinds_of kinds.now) now (kind_count kinds.now) next
+        (out_in slot.old) (out_in slot.new) made.old.items made.new.items) }
     ensures same_slot { OnErr result (out_in slot.new ≡ out_in slot.old) }
     ensures same_made { OnErr result (made.new.items ≡ made.old.items) }
 {

@@ -29,7 +29,9 @@ fn lights_by(
     alloc: Global,
     lamps: &Lamps<'_>,
 ) -> Result<Vec<ChunkLight>, AllocError>
-    ensures { IfOk result (λ lights. AllZip (IsChunkLight lamps.now.kinds.now (blocks lamps.now.world.now) (height_of lamps.now.world.now)) (positions_of lamps.now.world.now) lights.items) }
+    ensures { IfOk result (λ lights. AllZip (IsChunkLight lamps.now.kinds.now
+        (blocks lamps.now.world.now) (height_of lamps.now.world.now))
+        (positions_of lamps.now.world.now) lights.items) }
 {
     let next = AtomicU64::new(0);
     let count = current_num_threads(rt).min(lamps.world.positions().len());
@@ -38,7 +40,8 @@ fn lights_by(
         .with_min_len(1)
         .map(
             |_thread: usize| -> Result<Vec<Placed<ChunkLight>>, AllocError>
-                ensures { IsTaken (length (positions_of lamps.entry.now.world.now)) (IsChunkLightAt lamps.entry.now.kinds.now lamps.entry.now.world.now) result }
+                ensures { IsTaken (length (positions_of lamps.entry.now.world.now))
+                    (IsChunkLightAt lamps.entry.now.kinds.now lamps.entry.now.world.now) result }
             { taken(alloc, lamps, &next) },
         )
         .collect::<Vec<Result<Vec<Placed<ChunkLight>>, AllocError>>>(rt, alloc)?;
@@ -53,7 +56,8 @@ fn lights(
     world: &World,
     kinds: &Kinds,
 ) -> Result<Vec<ChunkLight>, AllocError>
-    ensures { IfOk result (λ lights. AllZip (IsChunkLight kinds.now (blocks world.now) (height_of world.now)) (positions_of world.now) lights.items) }
+    ensures { IfOk result (λ lights. AllZip (IsChunkLight kinds.now (blocks world.now)
+        (height_of world.now)) (positions_of world.now) lights.items) }
 {
     let lamps = Lamps::new(rt, alloc, world, kinds)?;
     lights_by(rt, alloc, &lamps)
@@ -69,9 +73,11 @@ pub fn light_all(
     world: &World,
     kinds: &Kinds,
 ) -> Result<Vec<ChunkLight>, Fault>
-    ensures each { IfOk result (λ lights. AllZip (IsChunkLight kinds.now (blocks world.now) (height_of world.now)) (positions_of world.now) lights.items) }
+    ensures each { IfOk result (λ lights. AllZip (IsChunkLight kinds.now (blocks world.now)
+        (height_of world.now)) (positions_of world.now) lights.items) }
     ensures count { IfOk result (λ lights. length lights.items ≡ length (positions_of world.now)) }
-    ensures sections { IfOk result (λ lights. All (λ l. section_count l ≡ (height_of world.now).sections) lights.items) }
+    ensures sections { IfOk result (λ lights. All (λ l. section_count l
+        ≡ (height_of world.now).sections) lights.items) }
     ensures blocks { IfOk result (λ lights. AreLit kinds.now world.now lights.items) }
     ensures sound { OnOk result (is_broken world.now ≡ false) }
     ensures err { IfErr result (λ e. e ≡ (if is_broken world.now then Broken else OutOfMemory)) }

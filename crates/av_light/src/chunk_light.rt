@@ -47,7 +47,8 @@ pub(crate) fn light_at(
     chunk: ChunkPos,
     board: &mut Option<Flood>,
 ) -> Result<ChunkLight, AllocError>
-    ensures { IfOk result (IsChunkLight lamps.now.kinds.now (blocks lamps.now.world.now) (height_of lamps.now.world.now) chunk) }
+    ensures { IfOk result (IsChunkLight lamps.now.kinds.now (blocks lamps.now.world.now)
+        (height_of lamps.now.world.now) chunk) }
 {
     let around = Around::new(lamps.world, lamps.lists.as_slice(), chunk);
     let Ok(light) = light_in(alloc, &around, lamps.kinds, chunk, board) else {
@@ -66,7 +67,8 @@ pub fn light_of_chunk(
     kinds: &Kinds,
     chunk: ChunkPos,
 ) -> Result<ChunkLight, Fault>
-    ensures light { IfOk result (IsChunkLight kinds.now (blocks world.now) (height_of world.now) chunk) }
+    ensures light { IfOk result (IsChunkLight kinds.now (blocks world.now)
+        (height_of world.now) chunk) }
     ensures sound { OnOk result (is_broken world.now ≡ false) }
     ensures err { IfErr result (λ e. e ≡ (if is_broken world.now then Broken else OutOfMemory)) }
 {

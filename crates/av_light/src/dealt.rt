@@ -51,8 +51,10 @@ fn light_of(
     chunk: ChunkPos,
     slot: Option<ChunkLight>,
 ) -> Result<ChunkLight, AllocError>
-    requires { IfSome slot (IsChunkLight lamps.now.kinds.now (blocks lamps.now.world.now) (height_of lamps.now.world.now) chunk) }
-    ensures { IfOk result (IsChunkLight lamps.now.kinds.now (blocks lamps.now.world.now) (height_of lamps.now.world.now) chunk) }
+    requires { IfSome slot (IsChunkLight lamps.now.kinds.now (blocks lamps.now.world.now)
+        (height_of lamps.now.world.now) chunk) }
+    ensures { IfOk result (IsChunkLight lamps.now.kinds.now (blocks lamps.now.world.now)
+        (height_of lamps.now.world.now) chunk) }
 {
     match slot {
         Some(light) => Ok(light),
@@ -67,8 +69,11 @@ pub(crate) fn in_order(
     mut slots: Vec<Option<ChunkLight>>,
 ) -> Result<Vec<ChunkLight>, AllocError>
     requires long { length slots.items ≡ length (positions_of lamps.now.world.now) }
-    requires placed { AreInPlace (IsChunkLightAt lamps.now.kinds.now lamps.now.world.now) slots.items }
-    ensures { IfOk result (λ lights. AllZip (IsChunkLight lamps.now.kinds.now (blocks lamps.now.world.now) (height_of lamps.now.world.now)) (positions_of lamps.now.world.now) lights.items) }
+    requires placed { AreInPlace (IsChunkLightAt lamps.now.kinds.now lamps.now.world.now)
+        slots.items }
+    ensures { IfOk result (λ lights. AllZip (IsChunkLight lamps.now.kinds.now
+        (blocks lamps.now.world.now) (height_of lamps.now.world.now))
+        (positions_of lamps.now.world.now) lights.items) }
 {
     let positions = lamps.world.positions();
     let mut lights = Vec::with_capacity(alloc, positions.len())?;

@@ -24,7 +24,8 @@ pub(crate) fn lamps_of(
     kinds: &Kinds,
     chunk: ChunkPos,
 ) -> Result<Vec<Pos>, AllocError>
-    ensures { IfOk result (λ lamps. HasLamps (terrain_of kinds.now (blocks world.now)) chunk lamps.items) }
+    ensures { IfOk result (λ lamps. HasLamps (terrain_of kinds.now (blocks world.now)) chunk
+        lamps.items) }
 {
     let around = Around::new(world, &[], chunk);
     lamps_in(alloc, &around, kinds, chunk)
@@ -37,7 +38,9 @@ fn lists_by(
     world: &World,
     kinds: &Kinds,
 ) -> Result<Vec<Vec<Pos>>, AllocError>
-    ensures { IfOk result (λ lists. AllZip (λ c v. HasLamps (terrain_of kinds.now (blocks world.now)) c v.items) (positions_of world.now) lists.items) }
+    ensures { IfOk result (λ lists. AllZip (λ c v.
+        HasLamps (terrain_of kinds.now (blocks world.now)) c v.items)
+        (positions_of world.now) lists.items) }
 {
     let positions = world.positions();
     let piece = positions.len() / current_num_threads(rt);
@@ -46,7 +49,8 @@ fn lists_by(
         .with_min_len(piece)
         .map(
             |chunk: &ChunkPos| -> Result<Vec<Pos>, AllocError>
-                ensures { IfOk result (λ lamps. HasLamps (terrain_of kinds.entry.now (blocks world.entry.now)) chunk.now lamps.items) }
+                ensures { IfOk result (λ lamps. HasLamps
+                    (terrain_of kinds.entry.now (blocks world.entry.now)) chunk.now lamps.items) }
             { lamps_of(alloc, world, kinds, *chunk) },
         )
         .collect::<Result<Vec<Vec<Pos>>, AllocError>>(rt, alloc)?;

@@ -45,7 +45,8 @@ fn lamps_beside(
     chunk: ChunkPos,
     other: ChunkPos,
 ) -> Result<Vec<Pos>, AllocError>
-    ensures { IfOk result (λ lamps. IsBeside chunk other → HasLamps (terrain_of kinds.now (blocks world.now)) other lamps.items) }
+    ensures { IfOk result (λ lamps. IsBeside chunk other
+        → HasLamps (terrain_of kinds.now (blocks world.now)) other lamps.items) }
 {
     if !is_beside(chunk, other) {
         return Ok(Vec::new(alloc));
@@ -61,7 +62,8 @@ pub(crate) fn lists_beside(
     kinds: &Kinds,
     chunk: ChunkPos,
 ) -> Result<Vec<Vec<Pos>>, AllocError>
-    ensures { IfOk result (λ lists. AreKnown (terrain_of kinds.now (blocks world.now)) (lamps_at world.now (map (λ v. v.items) lists.items)) chunk) }
+    ensures { IfOk result (λ lists. AreKnown (terrain_of kinds.now (blocks world.now))
+        (lamps_at world.now (map (λ v. v.items) lists.items)) chunk) }
 {
     let positions = world.positions();
     let mut lists = Vec::with_capacity(alloc, positions.len())?;

@@ -166,7 +166,8 @@ impl Colours {
     pub fn read(alloc: Global, text: &[u8]) -> Result<Colours, Fault>
         ensures utf8 { IfOk result (λ _. IsUtf8 text.now) }
         ensures ok { IfOk result (λ c. colours_spelled text.now ≡ Some (colours_of c)) }
-        ensures refused { IfErr result (λ e. e ≡ BadTable → IsUtf8 text.now → colours_spelled text.now ≡ None) }
+        ensures refused { IfErr result (λ e. e ≡ BadTable → IsUtf8 text.now
+            → colours_spelled text.now ≡ None) }
         ensures memory { IfErr result (λ e. e ≢ BadTable → e ≡ OutOfMemory) }
     {
         match toml::table_from_slice(alloc, text) {
@@ -221,7 +222,8 @@ impl Colours {
 
     /// What the blocks of each number show.
     pub(crate) fn looks(&self, alloc: Global, table: &StateTable) -> Result<Vec<Look>, AllocError>
-        ensures { IfOk result (λ looks. looks.items ≡ map (look_of (colours_of self.now)) (states table.now)) }
+        ensures { IfOk result (λ looks. looks.items
+            ≡ map (look_of (colours_of self.now)) (states table.now)) }
     {
         let mut looks = Vec::with_capacity(alloc, table.len())?;
         for number in 0..table.len() {

@@ -55,7 +55,8 @@ fn section_look(looks: &[Look], section: &Option<Section>, place: Place) -> Look
 
 /// Whether all numbers of a palette are air.
 fn are_air(looks: &[Look], palette: &[u16]) -> bool
-    ensures { result ≡ true → (k : ℕ) → k < length palette.now → (get_or looks.now (slice_index palette.now k) air_look).is_air ≡ true }
+    ensures { result ≡ true → (k : ℕ) → k < length palette.now
+        → (get_or looks.now (slice_index palette.now k) air_look).is_air ≡ true }
 {
     for number in palette {
         if !look_of_number(looks, *number).is_air {
@@ -67,7 +68,8 @@ fn are_air(looks: &[Look], palette: &[u16]) -> bool
 
 /// Whether a section has nothing but air, by its palette alone.
 fn is_all_air(looks: &[Look], section: &Option<Section>) -> bool
-    ensures { result ≡ true → (place : ℕ) → place < 4096 → (section_look looks.now section.now place).is_air ≡ true }
+    ensures { result ≡ true → (place : ℕ) → place < 4096
+        → (section_look looks.now section.now place).is_air ≡ true }
 {
     match section {
         Some(section) => are_air(looks, section.parts().0),
@@ -113,7 +115,8 @@ impl Seen<'_> {
     /// Above which block all columns have nothing but air. Whole sections of air are passed over at once.
     pub(crate) fn ceiling(&self) -> usize
         ensures bound { result ≤ 16 * length self.now.sections.now }
-        ensures air { (column block : ℕ) → column < 256 → result ≤ block → (look_at self.now.sections.now self.now.looks.now column block).is_air ≡ true }
+        ensures air { (column block : ℕ) → column < 256 → result ≤ block
+            → (look_at self.now.sections.now self.now.looks.now column block).is_air ≡ true }
     {
         let mut count = self.sections.len();
         while count > 0 && is_all_air(self.looks, &self.sections[count - 1]) {
@@ -125,7 +128,8 @@ impl Seen<'_> {
     /// The highest of the first blocks that is not air.
     fn top(&self, column: usize, blocks: usize) -> Option<usize>
         requires { column < 256 }
-        ensures value { result ≡ top_in (look_at self.now.sections.now self.now.looks.now column) blocks }
+        ensures value { result ≡ top_in (look_at self.now.sections.now self.now.looks.now column)
+            blocks }
         ensures bound { IfSome result (λ top. top < blocks) }
     {
         let mut block = blocks;
@@ -141,7 +145,8 @@ impl Seen<'_> {
     /// How many blocks are water from the top of the first blocks down.
     fn depth(&self, column: usize, blocks: usize) -> usize
         requires { column < 256 }
-        ensures { result ≡ depth_in (look_at self.now.sections.now self.now.looks.now column) blocks }
+        ensures { result ≡ depth_in (look_at self.now.sections.now self.now.looks.now column)
+            blocks }
     {
         let mut block = blocks;
         while block > 0 {
@@ -157,7 +162,8 @@ impl Seen<'_> {
     fn block_colour(&self, column: usize, top: usize) -> Colour
         requires column { column < 256 }
         requires top { top < 65536 }
-        ensures { result ≡ (sight_at (look_at self.now.sections.now self.now.looks.now column) top).colour }
+        ensures { result ≡ (sight_at (look_at self.now.sections.now self.now.looks.now column)
+            top).colour }
     {
         let look = self.look_at(column, top);
         if look.is_water {
@@ -171,7 +177,8 @@ impl Seen<'_> {
     fn block_sight(&self, column: usize, blocks: usize) -> Option<Sight>
         requires column { column < 256 }
         requires blocks { blocks ≤ 1024 }
-        ensures { result ≡ block_sight (look_at self.now.sections.now self.now.looks.now column) blocks }
+        ensures { result ≡ block_sight (look_at self.now.sections.now self.now.looks.now column)
+            blocks }
     {
         let top = self.top(column, blocks)?;
         Some(Sight {
@@ -185,7 +192,8 @@ impl Seen<'_> {
     fn light_sight(&self, column: usize, blocks: usize) -> Option<Sight>
         requires column { column < 256 }
         requires blocks { blocks ≤ 1024 }
-        ensures { result ≡ light_sight (look_at self.now.sections.now self.now.looks.now column) (level_at (arrays_of self.now.lights.now) column) blocks }
+        ensures { result ≡ light_sight (look_at self.now.sections.now self.now.looks.now column)
+            (level_at (arrays_of self.now.lights.now) column) blocks }
     {
         let top = self.top(column, blocks)?;
         Some(Sight {
@@ -200,8 +208,10 @@ impl Seen<'_> {
         requires column { column < 256 }
         requires bound { ceiling ≤ 16 * length self.now.sections.now }
         requires few { length self.now.sections.now ≤ 64 }
-        requires air { (block : ℕ) → ceiling ≤ block → (look_at self.now.sections.now self.now.looks.now column block).is_air ≡ true }
-        ensures { result ≡ sight_by view self.now.sections.now self.now.looks.now (arrays_of self.now.lights.now) column }
+        requires air { (block : ℕ) → ceiling ≤ block
+            → (look_at self.now.sections.now self.now.looks.now column block).is_air ≡ true }
+        ensures { result ≡ sight_by view self.now.sections.now self.now.looks.now
+            (arrays_of self.now.lights.now) column }
     {
         match view {
             View::Blocks => self.block_sight(column, ceiling),
@@ -212,7 +222,9 @@ impl Seen<'_> {
     /// What the 256 columns show.
     pub(crate) fn sights(&self, alloc: Global, view: View) -> Result<Vec<Option<Sight>>, AllocError>
         requires { length self.now.sections.now ≤ 64 }
-        ensures { IfOk result (λ sights. sights.items ≡ map (sight_by view self.now.sections.now self.now.looks.now (arrays_of self.now.lights.now)) (range_with_len 0 256)) }
+        ensures { IfOk result (λ sights. sights.items
+            ≡ map (sight_by view self.now.sections.now self.now.looks.now
+            (arrays_of self.now.lights.now)) (range_with_len 0 256)) }
     {
         let ceiling = self.ceiling();
         let mut sights = Vec::with_capacity(alloc, 256)?;

@@ -55,7 +55,8 @@ impl Scene<'_> {
         requires limits { All (λ f. IsInLimits f.pos) files.now }
         requires within { AreWithin bounds }
         requires drawable { IsDrawable bounds }
-        ensures { IfOk result (IsMapOf self.now.view (colours_of self.now.colours.now) self.now.height files.now bounds) }
+        ensures { IfOk result (IsMapOf self.now.view
+            (colours_of self.now.colours.now) self.now.height files.now bounds) }
     {
         let (width, height) = (bounds.width(), bounds.height());
         let patches = self.patches(alloc, files, bounds, 32 * width, 32 * height)?;

@@ -56,7 +56,8 @@ fn members(tag: &Tag) -> &[Named]
 
 /// The tags of the section of a number.
 fn section_of(sections: &[Tag], y: i32) -> Option<&[Named]>
-    ensures { option_map named_views (option_copied result) ≡ numbered y (opened (views sections.now)) }
+    ensures { option_map named_views (option_copied result)
+        ≡ numbered y (opened (views sections.now)) }
 {
     for section in sections {
         let tags = members(section);
@@ -100,7 +101,8 @@ pub(crate) fn lights(
     root: &Root,
     height: Height,
 ) -> Result<Vec<Option<Vec<u8>>>, AllocError>
-    ensures { IfOk result (λ lights. AreLights (root_tags (document root.now)) height (arrays_of lights.items)) }
+    ensures { IfOk result (λ lights. AreLights (root_tags (document root.now)) height
+        (arrays_of lights.items)) }
 {
     let sections = sections_of(root.tags.as_slice());
     let mut lights = Vec::new(alloc);

@@ -118,7 +118,8 @@ pub(crate) fn pixel_rows(
     width: usize,
     height: usize,
 ) -> Result<Vec<Vec<Pixel>>, AllocError>
-    ensures pixels { IfOk result (λ rows. map (λ row. row.items) rows.items ≡ pixel_rows (patches_of patches.now) width height) }
+    ensures pixels { IfOk result (λ rows. map (λ row. row.items) rows.items
+        ≡ pixel_rows (patches_of patches.now) width height) }
     ensures count { IfOk result (λ rows. length rows.items ≡ height) }
     ensures even { IfOk result (λ rows. All (λ row. length row.items ≡ width) rows.items) }
 {

@@ -52,7 +52,8 @@ fn unread(fault: Fault) -> Result<Patch, AllocError>
 impl Scene<'_> {
     /// The arrays of light of a document, none where no light is drawn.
     fn lights(&self, alloc: Global, root: &Root) -> Result<Vec<Option<Vec<u8>>>, AllocError>
-        ensures { IfOk result (λ found. AreLightsFor self.now.view (root_tags (document root.now)) self.now.height (arrays_of found.items)) }
+        ensures { IfOk result (λ found. AreLightsFor self.now.view
+            (root_tags (document root.now)) self.now.height (arrays_of found.items)) }
     {
         match self.view {
             View::Blocks => Ok(Vec::new(alloc)),
@@ -69,7 +70,10 @@ impl Scene<'_> {
         lights: &[Option<Vec<u8>>],
     ) -> Result<Patch, AllocError>
         requires { length chunk.now.sections.items ≤ 64 }
-        ensures { IfOk result (λ patch. IsShown patch (map (sight_by self.now.view chunk.now.sections.items (map (look_of (colours_of self.now.colours.now)) (states table.now)) (arrays_of lights.now)) (range_with_len 0 256))) }
+        ensures { IfOk result (λ patch. IsShown patch
+            (map (sight_by self.now.view chunk.now.sections.items
+            (map (look_of (colours_of self.now.colours.now)) (states table.now))
+            (arrays_of lights.now)) (range_with_len 0 256))) }
     {
         let looks = self.colours.looks(alloc, table)?;
         let seen = Seen {
@@ -83,8 +87,11 @@ impl Scene<'_> {
     /// What the chunk of a document shows.
     fn document_patch(&self, alloc: Global, root: Root, at: ChunkPos) -> Result<Patch, Fault>
         requires { IsStored (document root) }
-        ensures ok { IfOk result (IsDocumentPatch self.now.view (colours_of self.now.colours.now) self.now.height (document root) at) }
-        ensures err { IfErr result (λ e. e ≢ OutOfMemory → first_fault self.now.height at first_states (root_tags (document root)) ≡ Some (fault_number e)) }
+        ensures ok { IfOk result (IsDocumentPatch self.now.view
+            (colours_of self.now.colours.now) self.now.height (document root) at) }
+        ensures err { IfErr result (λ e. e ≢ OutOfMemory
+            → first_fault self.now.height at first_states (root_tags (document root))
+            ≡ Some (fault_number e)) }
     {
         let lights = self.lights(alloc, &root)?;
         let mut table = StateTable::new(alloc)?;
@@ -99,8 +106,10 @@ impl Scene<'_> {
     /// What the chunk of a payload shows. A payload has at most 1,044,475 bytes.
     fn payload_patch(&self, alloc: Global, payload: &[u8], at: ChunkPos) -> Result<Patch, Fault>
         requires { length payload.now ≤ 1044475 }
-        ensures ok { IfOk result (IsPayloadPatch self.now.view (colours_of self.now.colours.now) self.now.height payload.now at) }
-        ensures err { IfErr result (λ e. e ≢ OutOfMemory → IsPayloadFault at self.now.height payload.now first_states e) }
+        ensures ok { IfOk result (IsPayloadPatch self.now.view
+            (colours_of self.now.colours.now) self.now.height payload.now at) }
+        ensures err { IfErr result (λ e. e ≢ OutOfMemory
+            → IsPayloadFault at self.now.height payload.now first_states e) }
     {
         let root = decode(alloc, payload)?;
         self.document_patch(alloc, root, at)
@@ -109,7 +118,8 @@ impl Scene<'_> {
     /// The same, where a chunk with a fault is not read.
     fn read_patch(&self, alloc: Global, payload: &[u8], at: ChunkPos) -> Result<Patch, AllocError>
         requires { length payload.now ≤ 1044475 }
-        ensures { IfOk result (IsReadPatch self.now.view (colours_of self.now.colours.now) self.now.height payload.now at) }
+        ensures { IfOk result (IsReadPatch self.now.view
+            (colours_of self.now.colours.now) self.now.height payload.now at) }
     {
         match self.payload_patch(alloc, payload, at) {
             Ok(patch) => Ok(patch),
@@ -127,7 +137,9 @@ impl Scene<'_> {
     ) -> Result<Patch, AllocError>
         requires limits { IsInLimits pos }
         requires index { index < 1024 }
-        ensures { IfOk result (IsPatch self.now.view (colours_of self.now.colours.now) self.now.height region.now.bytes.now (chunk_at pos index) index) }
+        ensures { IfOk result (IsPatch self.now.view
+            (colours_of self.now.colours.now) self.now.height region.now.bytes.now
+            (chunk_at pos index) index) }
     {
         match region.payload(index) {
             Err(fault) => unread(fault),

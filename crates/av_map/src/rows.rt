@@ -48,7 +48,8 @@ impl Scene<'_> {
     ) -> Result<Patch, AllocError>
         requires limits { All (λ f. IsInLimits f.pos) files.now }
         requires index { index < 1024 }
-        ensures { IfOk result (Shows self.now.view (colours_of self.now.colours.now) self.now.height files.now region index) }
+        ensures { IfOk result (Shows self.now.view
+            (colours_of self.now.colours.now) self.now.height files.now region index) }
     {
         let Some(file) = file_of(files, region) else {
             return Ok(Patch::Clear);
@@ -72,7 +73,8 @@ impl Scene<'_> {
         requires within { AreWithin bounds }
         requires z { z < 1024 }
         requires count { count ≤ 1024 }
-        ensures { IfOk result (λ row. IsPatchRow self.now.view (colours_of self.now.colours.now) self.now.height files.now bounds z count row.items) }
+        ensures { IfOk result (λ row. IsPatchRow self.now.view
+            (colours_of self.now.colours.now) self.now.height files.now bounds z count row.items) }
     {
         let mut row = Vec::new(alloc);
         for x in 0..count {
@@ -95,7 +97,9 @@ impl Scene<'_> {
         requires within { AreWithin bounds }
         requires width { width ≤ 1024 }
         requires height { height ≤ 1024 }
-        ensures { IfOk result (λ rows. ArePatches self.now.view (colours_of self.now.colours.now) self.now.height files.now bounds width height (map (λ row. row.items) rows.items)) }
+        ensures { IfOk result (λ rows. ArePatches self.now.view
+            (colours_of self.now.colours.now) self.now.height files.now bounds width height
+            (map (λ row. row.items) rows.items)) }
     {
         let mut rows = Vec::new(alloc);
         for z in 0..height {

@@ -38,7 +38,8 @@ fn are_distinct_by_pairs(tags: &[Named]) -> bool
 
 /// The names of named tags.
 fn names_of<'a>(alloc: Global, tags: &'a [Named]) -> Result<Vec<&'a [u8]>, AllocError>
-    ensures { IfOk result (λ names. map (λ b. b.now) names.items ≡ map (λ m. m.name) (named_views tags.now)) }
+    ensures { IfOk result (λ names. map (λ b. b.now) names.items
+        ≡ map (λ m. m.name) (named_views tags.now)) }
 {
     let mut names = Vec::with_capacity(alloc, tags.len())?;
     for named in tags {

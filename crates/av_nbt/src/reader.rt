@@ -75,7 +75,8 @@ fn items(
     count: usize,
     bytes: &[u8],
 ) -> Result<(Vec<Tag>, &[u8]), Fault>
-    ensures { Gives (λ p. (views p.0.items, p.1.now)) result (repeat_at (payload_at depth tag_type) count bytes.now) }
+    ensures { Gives (λ p. (views p.0.items, p.1.now)) result
+        (repeat_at (payload_at depth tag_type) count bytes.now) }
 {
     let nesting = DEPTH.saturating_sub(depth);
     let mut items = with_room(alloc, tag_type, count, bytes.len(), nesting)?;
@@ -109,7 +110,8 @@ fn named(
     tag_type: TagType,
     bytes: &[u8],
 ) -> Result<(Named, &[u8]), Fault>
-    ensures { Gives (λ p. (named_view p.0, p.1.now)) result (named_at (payload_at depth) tag_type bytes.now) }
+    ensures { Gives (λ p. (named_view p.0, p.1.now)) result
+        (named_at (payload_at depth) tag_type bytes.now) }
 {
     let (name, rest) = fields::text(alloc, bytes)?;
     let (tag, rest) = payload(alloc, depth, tag_type, rest)?;
@@ -119,7 +121,8 @@ fn named(
 /// Named tags up to the end of their Compound. Each takes a byte at least.
 #[cycle(reading)]
 fn named_tags(alloc: Global, depth: u32, bytes: &[u8]) -> Result<(Vec<Named>, &[u8]), Fault>
-    ensures { Gives (λ p. (named_views p.0.items, p.1.now)) result (until_end (payload_at depth) (length bytes.now) bytes.now) }
+    ensures { Gives (λ p. (named_views p.0.items, p.1.now)) result
+        (until_end (payload_at depth) (length bytes.now) bytes.now) }
 {
     let mut tags = Vec::new(alloc);
     let mut rest = bytes;
@@ -139,7 +142,8 @@ fn named_tags(alloc: Global, depth: u32, bytes: &[u8]) -> Result<(Vec<Named>, &[
 #[cycle(reading)]
 #[tactic(auto, unfolding(crate::specs::Reading::members_at))]
 fn members(alloc: Global, depth: u32, bytes: &[u8]) -> Result<(Vec<Named>, &[u8]), Fault>
-    ensures { Gives (λ p. (named_views p.0.items, p.1.now)) result (members_at (payload_at depth) bytes.now) }
+    ensures { Gives (λ p. (named_views p.0.items, p.1.now)) result
+        (members_at (payload_at depth) bytes.now) }
 {
     let (tags, rest) = named_tags(alloc, depth, bytes)?;
     if are_distinct(alloc, tags.as_slice())? {

@@ -15,7 +15,8 @@ const ROOM: usize = 64;
 #[tactic(auto, using(crate::proofs::Fewest::fewest))]
 fn least_size(tag_type: TagType) -> usize
     ensures value { result ≡ least_size tag_type }
-    ensures fewest { (t : Nbt) (bytes : List ℕ) → tag_type_of t ≡ tag_type → Spells t bytes → result ≤ length bytes }
+    ensures fewest { (t : Nbt) (bytes : List ℕ) → tag_type_of t ≡ tag_type → Spells t bytes
+        → result ≤ length bytes }
 {
     match tag_type {
         TagType::End | TagType::Byte | TagType::Compound => 1,
@@ -54,7 +55,8 @@ pub(crate) fn with_room(
     nesting: u32,
 ) -> Result<Vec<Tag>, AllocError>
     ensures none { IfOk result (λ tags. tags.items ≡ []) }
-    ensures room { IfOk result (λ tags. vec_capacity tags ≡ room_for tag_type count (left / 2 ^ nesting)) }
+    ensures room { IfOk result (λ tags. vec_capacity tags
+        ≡ room_for tag_type count (left / 2 ^ nesting)) }
     ensures succeeds { room_for tag_type count (left / 2 ^ nesting) ≡ 0 → IsOk result }
 {
     Vec::with_capacity(alloc, room_for(tag_type, count, left, nesting))

@@ -45,7 +45,8 @@ fn write_text(out: &mut Vec<u8>, text: &[u8]) -> Result<(), AllocError>
 /// The bytes of a Byte Array, after their number.
 fn write_byte_array(out: &mut Vec<u8>, bytes: &[u8]) -> Result<(), AllocError>
     requires { length bytes.now < 2 ^ 31 }
-    ensures { Writes result (to_be_bytes w32 (length bytes.now) ++ bytes.now) out.old.items out.new.items }
+    ensures { Writes result (to_be_bytes w32 (length bytes.now) ++ bytes.now) out.old.items
+        out.new.items }
 {
     write_length(out, bytes.len())?;
     write_bytes(out, bytes)
@@ -74,7 +75,8 @@ fn write_longs(out: &mut Vec<u8>, longs: &[i64]) -> Result<(), AllocError>
 /// The numbers of an Int Array, after their count.
 fn write_int_array(out: &mut Vec<u8>, ints: &[i32]) -> Result<(), AllocError>
     requires { length ints.now < 2 ^ 31 }
-    ensures { Writes result (to_be_bytes w32 (length ints.now) ++ flat_map (signed_bytes w32) ints.now) out.old.items out.new.items }
+    ensures { Writes result (to_be_bytes w32 (length ints.now)
+        ++ flat_map (signed_bytes w32) ints.now) out.old.items out.new.items }
 {
     write_length(out, ints.len())?;
     write_ints(out, ints)
@@ -83,7 +85,8 @@ fn write_int_array(out: &mut Vec<u8>, ints: &[i32]) -> Result<(), AllocError>
 /// The numbers of a Long Array, after their count.
 fn write_long_array(out: &mut Vec<u8>, longs: &[i64]) -> Result<(), AllocError>
     requires { length longs.now < 2 ^ 31 }
-    ensures { Writes result (to_be_bytes w32 (length longs.now) ++ flat_map (signed_bytes w64) longs.now) out.old.items out.new.items }
+    ensures { Writes result (to_be_bytes w32 (length longs.now)
+        ++ flat_map (signed_bytes w64) longs.now) out.old.items out.new.items }
 {
     write_length(out, longs.len())?;
     write_longs(out, longs)
@@ -93,7 +96,8 @@ fn write_long_array(out: &mut Vec<u8>, longs: &[i64]) -> Result<(), AllocError>
 #[cycle(writing)]
 fn write_items(out: &mut Vec<u8>, items: &[Tag]) -> Result<(), AllocError>
     requires { FitItems (items_of (views items.now)) }
-    ensures { Writes result (written_items (items_of (views items.now))) out.old.items out.new.items }
+    ensures { Writes result (written_items (items_of (views items.now))) out.old.items
+        out.new.items }
 {
     for item in items {
         write_tag(out, item)?;
@@ -106,7 +110,8 @@ fn write_items(out: &mut Vec<u8>, items: &[Tag]) -> Result<(), AllocError>
 #[tactic(auto, using(crate::proofs::Written::item_count_views))]
 fn write_list(out: &mut Vec<u8>, tag_type: TagType, items: &[Tag]) -> Result<(), AllocError>
     requires { Fits (list tag_type (items_of (views items.now))) }
-    ensures { Writes result (written (list tag_type (items_of (views items.now)))) out.old.items out.new.items }
+    ensures { Writes result (written (list tag_type (items_of (views items.now)))) out.old.items
+        out.new.items }
 {
     out.push(tag_type.number())?;
     write_length(out, items.len())?;
@@ -129,7 +134,8 @@ fn write_named(out: &mut Vec<u8>, named: &Named) -> Result<(), AllocError>
 #[cycle(writing)]
 fn write_members(out: &mut Vec<u8>, members: &[Named]) -> Result<(), AllocError>
     requires { FitMembers (members_of (named_views members.now)) }
-    ensures { Writes result (written_members (members_of (named_views members.now))) out.old.items out.new.items }
+    ensures { Writes result (written_members (members_of (named_views members.now))) out.old.items
+        out.new.items }
 {
     for named in members {
         write_named(out, named)?;

@@ -37,8 +37,10 @@ fn hand_over<R: Eprint + AllocGlobal, S: OutputFolder>(
 ) -> Result<(), Fault>
     requires failures { (S.account sink.old).failures ≡ 0 }
     requires handed { (S.account sink.old).handed ≡ 0 }
-    ensures ok { OnOk result (S.account sink.new ≡ with_places (with_files (S.account sink.old) (map named_file files.now))) }
-    ensures err { IfErr result (IsNotTaken folder.now (S.account sink.old) (S.account sink.new) (map named_file files.now)) }
+    ensures ok { OnOk result (S.account sink.new ≡ with_places
+        (with_files (S.account sink.old) (map named_file files.now))) }
+    ensures err { IfErr result (IsNotTaken folder.now (S.account sink.old) (S.account sink.new)
+        (map named_file files.now)) }
 {
     let teller = StepTeller { rt, progress };
     save_all(rt.alloc(), sink, files, &teller)?;
@@ -57,7 +59,8 @@ pub fn hand_over_run<R: Eprint + AllocGlobal, S: OutputFolder>(
     requires failures { (S.account sink.old).failures ≡ 0 }
     requires handed { (S.account sink.old).handed ≡ 0 }
     ensures ok { OnOk result (IsHandedOver ran.now (S.account sink.old) (S.account sink.new)) }
-    ensures err { IfErr result (IsNotHandedOver folder.now ran.now (S.account sink.old) (S.account sink.new)) }
+    ensures err { IfErr result (IsNotHandedOver folder.now ran.now (S.account sink.old)
+        (S.account sink.new)) }
 {
     match ran {
         Ran::Done { outcome, .. } => {

@@ -14,7 +14,8 @@ use std::io::{self, Write};
 
 /// Writes the counts of a run, or why they could not be written, and answers the program's status.
 fn write_counts<O: Write, E: Write>(outcome: &Outcome, out: &mut O, err: &mut E) -> u8
-    ensures { HasCounts outcome.now.chunks outcome.now.turns (O.contents out.old) (O.contents out.new) result }
+    ensures { HasCounts outcome.now.chunks outcome.now.turns (O.contents out.old)
+        (O.contents out.new) result }
 {
     let chunks = outcome.chunks;
     let turns = outcome.turns;
@@ -26,7 +27,8 @@ fn write_counts<O: Write, E: Write>(outcome: &Outcome, out: &mut O, err: &mut E)
 
 /// Writes how many states have no row in the table of a run.
 fn write_uncovered<E: Write>(err: &mut E, without_row: u32) -> io::Result<()>
-    ensures { OnOk result (Appends (E.contents err.old) (E.contents err.new) (line (uncovered_text without_row))) }
+    ensures { OnOk result (Appends (E.contents err.old) (E.contents err.new)
+        (line (uncovered_text without_row))) }
 {
     writeln!(
         err,
@@ -36,7 +38,8 @@ fn write_uncovered<E: Write>(err: &mut E, without_row: u32) -> io::Result<()>
 
 /// Writes why nothing was run where each state is to have a row.
 fn write_strict<E: Write>(err: &mut E, without_row: u32) -> io::Result<()>
-    ensures { OnOk result (Appends (E.contents err.old) (E.contents err.new) (line (strict_text without_row))) }
+    ensures { OnOk result (Appends (E.contents err.old) (E.contents err.new)
+        (line (strict_text without_row))) }
 {
     writeln!(
         err,

@@ -203,7 +203,8 @@ fn entries_of(long: u64, bits: u32) -> [u16; 16]
 fn push_entries(values: &mut Vec<u16>, long: u64, bits: u32) -> Result<(), AllocError>
     requires low { 4 ≤ bits }
     requires high { bits ≤ 16 }
-    ensures { OnOk result (values.new.items ≡ values.old.items ++ entries_of bits long (64 / bits)) }
+    ensures { OnOk result (values.new.items ≡ values.old.items
+        ++ entries_of bits long (64 / bits)) }
 {
     let entries = entries_of(long, bits);
     values.extend_from_slice(&entries[..entries_in_long(bits)])

@@ -30,12 +30,14 @@ ghost use Rattle.av_types.specs.Order.{ordered};
 /// Entries whose territories share no section commute: turned in either order they leave the same blocks, and each puts
 /// the same aside, under its own place. The sections are any division of the blocks.
 pub fn unshared_entries_commute<S>()
-    ensures { (division : Pos → S) (k : ℕ → Kind) (now : ℕ) (x y : Placed) (w : World) → ¬ divided.ShareSection division w x.entry.pos y.entry.pos → EntriesCommute k now x y w }
+    ensures { (division : Pos → S) (k : ℕ → Kind) (now : ℕ) (x y : Placed) (w : World)
+        → ¬ divided.ShareSection division w x.entry.pos y.entry.pos → EntriesCommute k now x y w }
 {}
 
 /// A section is in the territory of a block exactly if it is there and one of the eight corners of the reach lies in it.
 pub fn territory_has_a_corner()
-    ensures { (g : Grid) (p : Pos) (s : SectionPos) → InTerritory (cells_of g) p s ↔ HasCorner g p s }
+    ensures { (g : Grid) (p : Pos) (s : SectionPos)
+        → InTerritory (cells_of g) p s ↔ HasCorner g p s }
 {}
 
 /// No section lies in the territories of two parts.
@@ -65,7 +67,8 @@ pub fn parts_alone_give_the_whole<S>()
 
 /// Some list of lawful events brings all parts back.
 pub fn every_tick_can_be_played()
-    ensures { (k : ℕ → Kind) (now : ℕ) (parts : List (List Placed)) (w : World) (lists : Lists) → CanEnd k now parts (start w lists parts) }
+    ensures { (k : ℕ → Kind) (now : ℕ) (parts : List (List Placed)) (w : World) (lists : Lists)
+        → CanEnd k now parts (start w lists parts) }
 {}
 
 /// Every list of lawful events that brings all parts back leaves what the entries leave, turned one after the other.
@@ -133,7 +136,8 @@ pub fn turn_makes_pending_what_it_makes()
 
 /// What turns make one after the other is of blocks that did not wait before, and of each block once.
 pub fn entries_made_are_new()
-    ensures { (k : ℕ → Kind) (now : ℕ) (xs : List Placed) (w : World) → AreNew w (entries_of (made_after k now xs w)) }
+    ensures { (k : ℕ → Kind) (now : ℕ) (xs : List Placed) (w : World)
+        → AreNew w (entries_of (made_after k now xs w)) }
 {}
 
 /// Parts that are turned on their own sections alone, whose blocks' states are then put back, and whose entries are

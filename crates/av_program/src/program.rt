@@ -37,7 +37,8 @@ fn run_regions<
     requires failures { (S.account sink.old).failures ≡ 0 }
     requires handed { (S.account sink.old).handed ≡ 0 }
     ensures status { result ≤ REFUSED }
-    ensures ran { HasRunRegions request.entry (S.account sink.old) (S.account sink.new) (O.contents out.old) (O.contents out.new) result }
+    ensures ran { HasRunRegions request.entry (S.account sink.old) (S.account sink.new)
+        (O.contents out.old) (O.contents out.new) result }
 {
     let ran = run_over(rt, request, sink, manner, err);
     end_steps(err, manner.progress);
@@ -54,7 +55,8 @@ fn run_opened<
     requires failures { (S.account sink.old).failures ≡ 0 }
     requires handed { (S.account sink.old).handed ≡ 0 }
     ensures status { result ≤ REFUSED }
-    ensures ran { HasRunOpened request.entry (S.account sink.old) (S.account sink.new) (O.contents out.old) (O.contents out.new) result }
+    ensures ran { HasRunOpened request.entry (S.account sink.old) (S.account sink.new)
+        (O.contents out.old) (O.contents out.new) result }
 {
     let teller = RepairTeller {
         rt,
@@ -81,7 +83,8 @@ fn run_in_folder<
 >(rt: &R, request: Request<'_>, sink: &mut S, manner: Manner, out: &mut O, err: &mut E) -> u8
     requires fresh { IsFresh (S.account sink.old) }
     ensures status { result ≤ REFUSED }
-    ensures ran { HasRunInFolder request.entry (S.account sink.old) (S.account sink.new) (O.contents out.old) (O.contents out.new) result }
+    ensures ran { HasRunInFolder request.entry (S.account sink.old) (S.account sink.new)
+        (O.contents out.old) (O.contents out.new) result }
 {
     let _held = match hold_output(rt, request.output, request.in_use) {
         Ok(held) => held,
@@ -103,7 +106,8 @@ fn run_asked<
     requires fresh { IsFresh (S.account sink.old) }
     requires skipped { All (λ n. IsSkipped n.now) words.now.skip.items }
     ensures status { result ≤ REFUSED }
-    ensures ran { HasRunBy words.now (S.account sink.old) (S.account sink.new) (O.contents out.old) (O.contents out.new) result }
+    ensures ran { HasRunBy words.now (S.account sink.old) (S.account sink.new) (O.contents out.old)
+        (O.contents out.new) result }
 {
     let request = request_of(rt, words);
     if words.dry_run {
@@ -121,7 +125,8 @@ fn run_run<
 >(rt: &R, words: &RunWords<'_>, sink: &mut S, manner: Manner, out: &mut O, err: &mut E) -> u8
     requires fresh { IsFresh (S.account sink.old) }
     ensures status { result ≤ REFUSED }
-    ensures ran { HasRunBy words.now (S.account sink.old) (S.account sink.new) (O.contents out.old) (O.contents out.new) result }
+    ensures ran { HasRunBy words.now (S.account sink.old) (S.account sink.new) (O.contents out.old)
+        (O.contents out.new) result }
 {
     match judge_skips(rt, words.input, words.skip.as_slice()) {
         Ok(()) => run_asked(rt, words, sink, manner, out, err),
@@ -138,7 +143,8 @@ fn run_command<
 >(rt: &R, is_terminal: bool, command: Words<'_>, sink: &mut S, out: &mut O, err: &mut E) -> u8
     requires fresh { IsFresh (S.account sink.old) }
     ensures status { result ≤ REFUSED }
-    ensures ran { HasRunCommand command.entry (S.account sink.old) (S.account sink.new) (O.contents out.old) (O.contents out.new) result }
+    ensures ran { HasRunCommand command.entry (S.account sink.old) (S.account sink.new)
+        (O.contents out.old) (O.contents out.new) result }
 {
     let manner = Manner::new(
         is_terminal,
@@ -184,7 +190,8 @@ fn run_words<
 >(rt: &R, is_terminal: bool, given: &[&str], sink: &mut S, out: &mut O, err: &mut E) -> u8
     requires fresh { IsFresh (S.account sink.old) }
     ensures status { result ≤ REFUSED }
-    ensures ran { HasRunWords (map (λ s. s.now) given.now) (S.account sink.old) (S.account sink.new) (O.contents out.old) (O.contents out.new) result }
+    ensures ran { HasRunWords (map (λ s. s.now) given.now) (S.account sink.old) (S.account sink.new)
+        (O.contents out.old) (O.contents out.new) result }
 {
     match words(rt.alloc(), given) {
         Ok(command) => {
@@ -210,7 +217,8 @@ pub fn run<
 >(rt: &R, is_terminal: bool, sink: &mut S, out: &mut O, err: &mut E) -> u8
     requires fresh { IsFresh (S.account sink.old) }
     ensures status { result ≤ REFUSED }
-    ensures ran { HasRunProgram (S.account sink.old) (S.account sink.new) (O.contents out.old) (O.contents out.new) result }
+    ensures ran { HasRunProgram (S.account sink.old) (S.account sink.new) (O.contents out.old)
+        (O.contents out.new) result }
 {
     let given = match given_words(rt) {
         Ok(given) => given,

@@ -41,7 +41,8 @@ fn read_inputs<R: LockFiles + Input + Eprint + AllocGlobal + Clone + Drop, E: Wr
     err: &mut E,
 ) -> Result<(Height, Vec<u8>), Failure>
     ensures height { IfOk result (λ read. IsHeightBy (option_map (λ t. t.now) table.entry) read.0) }
-    ensures unread { IfErr result (λ e. IsUnreadBlock file.now (option_map (λ t. t.now) table.entry) e.fault) }
+    ensures unread { IfErr result (λ e. IsUnreadBlock file.now
+        (option_map (λ t. t.now) table.entry) e.fault) }
 {
     let height = read_height(rt, table)?;
     tidy_around(rt, file, err)?;
@@ -59,7 +60,8 @@ fn answer_block<R: LockFiles + Input + Eprint + AllocGlobal + Clone + Drop, O: W
     err: &mut E,
 ) -> u8
     ensures status { result ≤ REFUSED }
-    ensures ran { HasRunBlock file.now pos (option_map (λ t. t.now) table.entry) (O.contents out.old) (O.contents out.new) result }
+    ensures ran { HasRunBlock file.now pos (option_map (λ t. t.now) table.entry)
+        (O.contents out.old) (O.contents out.new) result }
 {
     match read_inputs(rt, file, table, err) {
         Ok((height, bytes)) => block_text(
@@ -88,7 +90,8 @@ pub fn run_block<R: LockFiles + Input + Eprint + AllocGlobal + Clone + Drop, O: 
     err: &mut E,
 ) -> u8
     ensures status { result ≤ REFUSED }
-    ensures ran { HasRunBlock file.now pos (option_map (λ t. t.now) table.entry) (O.contents out.old) (O.contents out.new) result }
+    ensures ran { HasRunBlock file.now pos (option_map (λ t. t.now) table.entry)
+        (O.contents out.old) (O.contents out.new) result }
 {
     let status = answer_block(rt, file, pos, table, manner, out, err);
     if manner.explains && status == 0 {

@@ -26,7 +26,8 @@ fn read_inputs<R: LockFiles + Input + Eprint + AllocGlobal + Clone + Drop, E: Wr
 ) -> Result<(Height, FolderFiles), Failure>
     ensures height { IfOk result (λ read. IsHeightBy (option_map (λ t. t.now) table.entry) read.0) }
     ensures folder { IfOk result (λ read. IsFolderRead read.1) }
-    ensures unread { IfErr result (λ e. IsUnreadCheck folder.now (option_map (λ t. t.now) table.entry) e.fault) }
+    ensures unread { IfErr result (λ e. IsUnreadCheck folder.now
+        (option_map (λ t. t.now) table.entry) e.fault) }
 {
     let height = read_height(rt, table)?;
     Ok((height, read_readable(rt, folder, manner, err)?))
@@ -87,7 +88,8 @@ pub fn run_check<R: LockFiles + Input + Eprint + AllocGlobal + Clone + Drop, O: 
     err: &mut E,
 ) -> u8
     ensures status { result ≤ REFUSED }
-    ensures ran { HasChecked (option_map (λ t. t.now) table.entry) (O.contents out.old) (O.contents out.new) result }
+    ensures ran { HasChecked (option_map (λ t. t.now) table.entry) (O.contents out.old)
+        (O.contents out.new) result }
 {
     match read_inputs(rt, folder, table, manner, err) {
         Ok((height, read)) => survey_files(rt.alloc(), height, read, manner, out, err),

@@ -85,7 +85,8 @@ fn draw_map<R: LockFiles + Input + Eprint + AllocGlobal + Clone + Drop, E: Write
     manner: Manner,
     err: &mut E,
 ) -> Result<Map, NoPicture>
-    ensures { IfOk result (IsMapBy (option_map (λ t. t.now) order.entry.table) (option_map (λ t. t.now) order.entry.colours) order.entry.light) }
+    ensures { IfOk result (IsMapBy (option_map (λ t. t.now) order.entry.table)
+        (option_map (λ t. t.now) order.entry.colours) order.entry.light) }
 {
     let height = read_height(rt, order.table)?;
     let colours = read_colours(rt, order.colours)?;
@@ -110,7 +111,8 @@ fn picture_bytes(alloc: Global, picture: &Picture) -> Result<Vec<u8>, AllocError
 /// Refuses with `Device` and the path where it is not taken.
 fn save<S: OutputFolder>(alloc: Global, path: &str, bytes: &[u8], sink: &mut S) -> Result<(), Fault>
     requires fresh { IsFresh (S.account sink.old) }
-    ensures ok { OnOk result (IsSaved path.now bytes.now (S.account sink.old) (S.account sink.new)) }
+    ensures ok { OnOk result (IsSaved path.now bytes.now (S.account sink.old)
+        (S.account sink.new)) }
     ensures err { IfErr result (IsNotSaved path.now (S.account sink.old) (S.account sink.new)) }
 {
     let (folder, name) = split_path(alloc, path)?;
@@ -129,7 +131,8 @@ fn save_picture<S: OutputFolder>(
     sink: &mut S,
 ) -> Result<(), Fault>
     requires fresh { IsFresh (S.account sink.old) }
-    ensures ok { OnOk result (IsSaved path.now (png_of picture.now) (S.account sink.old) (S.account sink.new)) }
+    ensures ok { OnOk result (IsSaved path.now (png_of picture.now) (S.account sink.old)
+        (S.account sink.new)) }
     ensures err { IfErr result (IsNotSaved path.now (S.account sink.old) (S.account sink.new)) }
 {
     let bytes = picture_bytes(alloc, picture)?;

@@ -27,7 +27,8 @@ fn list_states<R: LockFiles + Input + Eprint + AllocGlobal + Clone + Drop, E: Wr
     manner: Manner,
     err: &mut E,
 ) -> Result<Listing, Failure>
-    ensures { IfOk result (λ l. IsListingBy (option_map (λ t. t.now) table.entry) l.text.items l.left_out) }
+    ensures { IfOk result (λ l. IsListingBy (option_map (λ t. t.now) table.entry) l.text.items
+        l.left_out) }
 {
     let rules = read_rules(rt, table)?;
     let files = read_folder(rt, folder, manner, err)?;
@@ -60,7 +61,8 @@ pub fn run_states<R: LockFiles + Input + Eprint + AllocGlobal + Clone + Drop, O:
     out: &mut O,
     err: &mut E,
 ) -> u8
-    ensures { HasListed (option_map (λ t. t.now) table.entry) (O.contents out.old) (O.contents out.new) result }
+    ensures { HasListed (option_map (λ t. t.now) table.entry) (O.contents out.old)
+        (O.contents out.new) result }
 {
     match list_states(rt, folder, table, manner, err) {
         Ok(listing) => match write_first(out, listing.text.as_slice()) {

@@ -91,10 +91,12 @@ impl<'a> Region<'a> {
     /// for a payload in another file; `Compression` for any type but that of uncompressed chunks.
     pub fn payload(&self, index: usize) -> Result<Option<&'a [u8]>, Fault>
         requires { index ≤ 1023 }
-        ensures ok { IfOk result (λ found. MatchOption found (IsAbsent self.now.bytes.now index) (λ payload. Holds self.now.bytes.now index payload.now)) }
+        ensures ok { IfOk result (λ found. MatchOption found (IsAbsent self.now.bytes.now index)
+            (λ payload. Holds self.now.bytes.now index payload.now)) }
         ensures err { IfErr result (λ e. IsChunkFault self.now.bytes.now index e) }
         ensures absent { IsAbsent self.now.bytes.now index → result ≡ Ok None }
-        ensures held { (payload : List ℕ) → Holds self.now.bytes.now index payload → IsOkAnd result (λ found. IsSomeAnd found (λ p. p.now ≡ payload)) }
+        ensures held { (payload : List ℕ) → Holds self.now.bytes.now index payload
+            → IsOkAnd result (λ found. IsSomeAnd found (λ p. p.now ≡ payload)) }
         ensures refused { (e : Fault) → IsChunkFault self.now.bytes.now index e → result ≡ Err e }
     {
         let location = self.header_number(4 * index);

@@ -86,7 +86,8 @@ fn write_locations<P: AsSlice<u8>>(
 ) -> Result<(), AllocError>
     requires small { first_too_large (map (option_map P.items) payloads.now) ≡ None }
     requires count { length payloads.now ≤ 1024 }
-    ensures { OnOk result (file.new.items ≡ file.old.items ++ locations_from 2 (map (option_map P.items) payloads.now)) }
+    ensures { OnOk result (file.new.items ≡ file.old.items
+        ++ locations_from 2 (map (option_map P.items) payloads.now)) }
 {
     let mut sector = FIRST_SECTOR;
     for payload in payloads {
@@ -99,7 +100,8 @@ fn write_locations<P: AsSlice<u8>>(
 
 /// Appends the header's timestamps.
 fn write_stamps(file: &mut Vec<u8>, stamps: &[u32]) -> Result<(), AllocError>
-    ensures { OnOk result (file.new.items ≡ file.old.items ++ flat_map (to_be_bytes w32) stamps.now) }
+    ensures { OnOk result (file.new.items ≡ file.old.items
+        ++ flat_map (to_be_bytes w32) stamps.now) }
 {
     for stamp in stamps {
         file.extend_from_slice(&stamp.to_be_bytes())?;
@@ -110,7 +112,8 @@ fn write_stamps(file: &mut Vec<u8>, stamps: &[u32]) -> Result<(), AllocError>
 /// Appends a chunk: its length field, its type, the payload and zeros to whole sectors.
 fn write_chunk<P: AsSlice<u8>>(file: &mut Vec<u8>, chunk: &Option<P>) -> Result<(), AllocError>
     requires { is_too_large (option_map P.items chunk.now) ≡ false }
-    ensures { OnOk result (file.new.items ≡ file.old.items ++ chunk_bytes (option_map P.items chunk.now)) }
+    ensures { OnOk result (file.new.items ≡ file.old.items
+        ++ chunk_bytes (option_map P.items chunk.now)) }
 {
     let Some(payload) = chunk else {
         return Ok(());
@@ -131,7 +134,8 @@ fn write_chunks<P: AsSlice<u8>>(
     payloads: &[Option<P>],
 ) -> Result<(), AllocError>
     requires { first_too_large (map (option_map P.items) payloads.now) ≡ None }
-    ensures { OnOk result (file.new.items ≡ file.old.items ++ flat_map chunk_bytes (map (option_map P.items) payloads.now)) }
+    ensures { OnOk result (file.new.items ≡ file.old.items
+        ++ flat_map chunk_bytes (map (option_map P.items) payloads.now)) }
 {
     for payload in payloads {
         write_chunk(file, payload)?;
@@ -155,9 +159,13 @@ pub fn write<P: AsSlice<u8>>(
     requires limits { IsInLimits region }
     requires payloads { length payloads.now ≡ 1024 }
     requires stamps { length stamps.now ≡ 1024 }
-    ensures ok { IfOk result (λ file. file.items ≡ region_bytes (map (option_map P.items) payloads.now) stamps.now) }
-    ensures holds { IfOk result (λ file. HoldsAll file.items (map (option_map P.items) payloads.now) stamps.now) }
-    ensures err { MatchOption (first_too_large (map (option_map P.items) payloads.now)) (IfErr result (λ e. e ≡ OutOfMemory)) (λ index. result ≡ Err (ChunkTooLarge (chunk_at region index))) }
+    ensures ok { IfOk result (λ file. file.items ≡ region_bytes
+        (map (option_map P.items) payloads.now) stamps.now) }
+    ensures holds { IfOk result (λ file. HoldsAll file.items
+        (map (option_map P.items) payloads.now) stamps.now) }
+    ensures err { MatchOption (first_too_large (map (option_map P.items) payloads.now))
+        (IfErr result (λ e. e ≡ OutOfMemory)) (λ index. result
+        ≡ Err (ChunkTooLarge (chunk_at region index))) }
 {
     if let Some(index) = first_too_large(payloads) {
         return Err(Fault::ChunkTooLarge(region.chunk_at(index)));

@@ -60,7 +60,8 @@ pub fn changes_in<R: Files + AllocGlobal>(
     folder: &str,
     files: &[RegionFile],
 ) -> Result<Vec<Change>, Failure>
-    ensures ok { IfOk result (λ changes. (olds : List (Option (List ℕ))) × AreChangesOf files.now olds changes.items) }
+    ensures ok { IfOk result (λ changes. (olds : List (Option (List ℕ)))
+        × AreChangesOf files.now olds changes.items) }
     ensures err { IfErr result (λ e. AreUnreadOlds files.now e.fault) }
 {
     let mut changes = Vec::new(rt.alloc());

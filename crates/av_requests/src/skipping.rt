@@ -106,7 +106,8 @@ fn is_among(names: &[&str], name: &str) -> bool
 }
 
 fn write_skipped<E: Write>(err: &mut E, name: &str) -> io::Result<()>
-    ensures { OnOk result (Appends (E.contents err.old) (E.contents err.new) (skipped_text name.now)) }
+    ensures { OnOk result (Appends (E.contents err.old) (E.contents err.new)
+        (skipped_text name.now)) }
 {
     writeln!(
         err,
@@ -151,7 +152,8 @@ fn keep_others<E: Write>(
 
 /// The first file that could not be read and is not skipped.
 fn first_unread<E: Write>(unread: Vec<UnreadFile>, skip: &[&str], err: &mut E) -> Option<UnreadFile>
-    ensures none { IfNone result (others skip.now (map (λ u. string_bytes u.name) unread.items) ≡ []) }
+    ensures none { IfNone result (others skip.now (map (λ u. string_bytes u.name) unread.items)
+        ≡ []) }
     ensures one { IfSome result (λ u. Contains unread.items u) }
 {
     for file in unread {

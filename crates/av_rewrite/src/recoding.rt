@@ -20,7 +20,8 @@ fn recode_payload(alloc: Global, payload: &[u8]) -> Result<Vec<u8>, Fault>
 /// The chunk at an index, if there is one, decoded and encoded again.
 fn recode_chunk(alloc: Global, region: &Region<'_>, index: usize) -> Result<Option<Vec<u8>>, Fault>
     requires { index ≤ 1023 }
-    ensures { IfOk result (λ made. IsMadeOf (λ _. IsRecoded) region.now.bytes.now index (option_map (λ v. v.items) made)) }
+    ensures { IfOk result (λ made. IsMadeOf (λ _. IsRecoded) region.now.bytes.now index
+        (option_map (λ v. v.items) made)) }
 {
     match region.payload(index)? {
         None => Ok(None),
@@ -29,7 +30,8 @@ fn recode_chunk(alloc: Global, region: &Region<'_>, index: usize) -> Result<Opti
 }
 
 fn recode_chunks(alloc: Global, region: &Region<'_>) -> Result<Vec<Option<Vec<u8>>>, Fault>
-    ensures { IfOk result (λ payloads. AreMadeOf (λ _. IsRecoded) region.now.bytes.now 1024 (map (option_map (λ v. v.items)) payloads.items)) }
+    ensures { IfOk result (λ payloads. AreMadeOf (λ _. IsRecoded) region.now.bytes.now 1024
+        (map (option_map (λ v. v.items)) payloads.items)) }
 {
     let mut payloads = Vec::new(alloc);
     for index in 0..CHUNKS {

@@ -41,7 +41,8 @@ fn read_payload<'a>(
 ) -> Result<Slot<'a>, Fault>
     requires index { index ≤ 1023 }
     requires small { length payload.now ≤ 1044475 }
-    ensures slot { (region : List ℕ) → Holds region index payload.now → IfOk result (IsSlotRead height region (states table.new) index) }
+    ensures slot { (region : List ℕ) → Holds region index payload.now
+        → IfOk result (IsSlotRead height region (states table.new) index) }
     ensures table { OnlyGrows (states table.old) (states table.new) }
 {
     let root = decode(alloc, payload)?;
@@ -75,7 +76,8 @@ fn read_slots<'a>(
     height: Height,
     table: &mut StateTable,
 ) -> Result<Vec<Slot<'a>>, Fault>
-    ensures { IfOk result (λ slots. AreSlots height region.now.bytes.now (states table.new) 1024 slots.items) }
+    ensures { IfOk result (λ slots. AreSlots height region.now.bytes.now
+        (states table.new) 1024 slots.items) }
 {
     let mut slots = Vec::new(alloc);
     for index in 0..CHUNKS {
@@ -92,7 +94,8 @@ fn write_chunk(
     kinds: &Kinds,
     light: &ChunkLight,
 ) -> Result<Vec<u8>, Fault>
-    requires { SlotWasRead (states_of_kinds kinds.now) (section_count light.now) (Slot.Full chunk rest) }
+    requires { SlotWasRead (states_of_kinds kinds.now) (section_count light.now)
+        (Slot.Full chunk rest) }
     ensures { (h : Height) (region : List ℕ) (index : ℕ) → IsSlotRead h region (states_of_kinds kinds.now) index (Slot.Full chunk rest)
         → IfOk result (λ bytes. IsMadeOf (IsRewritten h) region index (Some bytes.items)) }
 {

@@ -64,7 +64,8 @@ impl<J: Numbered + Drop + Send> JobRing<J> {
         requires seats { (0 < seats) × (seats ≤ 8) }
         requires numbers { HaveDistinctNumbers J.number_of jobs.items }
         ensures ring { IfOk result (λ r. (r.0.jobs ≡ vec_len jobs) × (r.0.seats ≡ seats)) }
-        ensures seats { IfOk result (λ r. (vec_len r.1 ≡ seats) × All (λ s. s ≡ seat_shown r.0.ring seats jobs.items [] false) r.1.items) }
+        ensures seats { IfOk result (λ r. (vec_len r.1 ≡ seats)
+            × All (λ s. s ≡ seat_shown r.0.ring seats jobs.items [] false) r.1.items) }
         ensures of_ring { IfOk result (λ r. All (IsSeatOf r.0) r.1.items) }
         ensures err { IfErr result (λ e. (e.0 ≡ OutOfMemory) × (e.1.items ≡ jobs.items)) }
     {
@@ -102,8 +103,10 @@ impl<J: Numbered + Drop + Send> JobRing<J> {
     ) -> Result<Vec<J>, (Fault, JobRing<J>, Vec<Seat<J>>)>
         requires all { vec_len seats ≡ self.seats }
         requires seats { All (IsSeatOf self) seats.items }
-        ensures whole { IfOk result (λ left. All (λ s. IsPermutation s.jobs (flat_map (λ r. r.taken) seats.items ++ left.items)) seats.items) }
-        ensures dry { IfOk result (λ left. list_any (λ s. s.dry) seats.items ≡ true → left.items ≡ []) }
+        ensures whole { IfOk result (λ left. All (λ s.
+            IsPermutation s.jobs (flat_map (λ r. r.taken) seats.items ++ left.items)) seats.items) }
+        ensures dry { IfOk result (λ left. list_any (λ s. s.dry) seats.items ≡ true
+            → left.items ≡ []) }
         ensures err { IfErr result (λ e. (e.0 ≡ OutOfMemory) × (e.1 ≡ self) × (e.2 ≡ seats)) }
     {
         let Ok(left) = Vec::with_capacity(alloc, self.jobs) else {
@@ -128,9 +131,12 @@ impl<J: Numbered + Drop + Send> JobRing<J> {
         requires { seat.old.ring ≡ self.now.ring }
         ensures ring { seat.new.ring ≡ seat.old.ring }
         ensures jobs { (seat.new.jobs ≡ seat.old.jobs) × (seat.new.seats ≡ seat.old.seats) }
-        ensures some { IfSome result (λ x. (seat.new.taken ≡ seat.old.taken ++ x ∷ []) × IsPart seat.old.jobs seat.new.taken × (seat.old.dry ≡ false) × (seat.new.dry ≡ false)) }
+        ensures some { IfSome result (λ x. (seat.new.taken ≡ seat.old.taken ++ x ∷ [])
+            × IsPart seat.old.jobs seat.new.taken × (seat.old.dry ≡ false)
+            × (seat.new.dry ≡ false)) }
         // no job taken here before has its number
-        ensures fresh { IfSome result (λ x. All (λ y. J.number_of y ≢ J.number_of x) seat.old.taken) }
+        ensures fresh { IfSome result (λ x. All (λ y. J.number_of y ≢ J.number_of x)
+            seat.old.taken) }
         ensures none { IfNone result ((seat.new.taken ≡ seat.old.taken) × (seat.new.dry ≡ true)) }
     {
         if seat.dry {
@@ -173,9 +179,12 @@ fn put_ends<J: Numbered + Drop + Send, R: Wait>(
     pass: &mut Pass<Option<J>, View<J>>,
     seats: usize,
 )
-    requires pass { IsPassOf queue.now pass.old × (known pass.old ≡ view_of 1 0 1 (known pass.old).told [] false) }
-    requires room { (0 < seats) × (length (known pass.old).told + seats ≤ ruled_capacity queue.now) }
-    ensures { IsPassOf queue.now pass.new × (known pass.new ≡ view_of seats seats seats (known pass.old).told [] false) }
+    requires pass { IsPassOf queue.now pass.old × (known pass.old
+        ≡ view_of 1 0 1 (known pass.old).told [] false) }
+    requires room { (0 < seats) × (length (known pass.old).told + seats
+        ≤ ruled_capacity queue.now) }
+    ensures { IsPassOf queue.now pass.new × (known pass.new
+        ≡ view_of seats seats seats (known pass.old).told [] false) }
 {
     put_end(rt, queue, pass);
     for _ in 1..seats {
@@ -190,8 +199,10 @@ fn put_end<J: Numbered + Drop + Send, R: Wait>(
     pass: &mut Pass<Option<J>, View<J>>,
 )
     requires pass { IsPassOf queue.now pass.old }
-    requires parts { (0 < (known pass.old).parts) × ((known pass.old).parts ≡ (known pass.old).all) }
-    requires room { ((known pass.old).taken ≡ []) × (length (known pass.old).told + (known pass.old).ends < ruled_capacity queue.now) }
+    requires parts { (0 < (known pass.old).parts) ×
+        ((known pass.old).parts ≡ (known pass.old).all) }
+    requires room { ((known pass.old).taken ≡ []) ×
+        (length (known pass.old).told + (known pass.old).ends < ruled_capacity queue.now) }
     ensures { IsPassOf queue.now pass.new × (known pass.new ≡ put (known pass.old) None) }
 {
     match queue.push_as::<Puts, R>(rt, pass, None) {
@@ -208,10 +219,13 @@ fn hand_out<J: Numbered + Drop + Send>(
     mut handed: Vec<Seat<J>>,
 ) -> Vec<Seat<J>>
     requires seats { 0 < seats }
-    requires pass { IsPassOf queue.now pass × (known pass ≡ view_of seats seats seats (known pass).told [] false) }
+    requires pass { IsPassOf queue.now pass × (known pass
+        ≡ view_of seats seats seats (known pass).told [] false) }
     requires numbers { HaveDistinctNumbers J.number_of (known pass).told }
     requires room { (handed.items ≡ []) × (seats ≤ vec_capacity handed) }
-    ensures { (vec_len result ≡ seats) × All (λ s. s ≡ seat_shown queue.now.table.shared.table_id seats (known pass).told [] false) result.items }
+    ensures { (vec_len result ≡ seats) × All (λ s. s
+        ≡ seat_shown queue.now.table.shared.table_id seats (known pass).told [] false)
+        result.items }
 {
     for _ in 0..seats - 1 {
         let seat = Seat {
@@ -234,10 +248,14 @@ fn take_back<J: Numbered + Drop + Send>(
     requires seats { All (λ s. s.ring ≡ queue.now.table.shared.table_id) seats.items }
     ensures pass { IsPassOf queue.now pass.new }
     ensures parts { (known pass.new).parts ≡ (known pass.old).parts + vec_len seats }
-    ensures told { ((known pass.new).told ≡ (known pass.old).told) × ((known pass.new).all ≡ (known pass.old).all) }
-    ensures taken { (known pass.new).taken ≡ (known pass.old).taken ++ flat_map (λ s. s.taken) seats.items }
-    ensures heard { (known pass.new).heard ≡ (known pass.old).heard ++ map (λ s. s.jobs) seats.items }
-    ensures dry { (known pass.new).dry ≡ ((known pass.old).dry || list_any (λ s. s.dry) seats.items) }
+    ensures told { ((known pass.new).told ≡ (known pass.old).told)
+        × ((known pass.new).all ≡ (known pass.old).all) }
+    ensures taken { (known pass.new).taken ≡ (known pass.old).taken
+        ++ flat_map (λ s. s.taken) seats.items }
+    ensures heard { (known pass.new).heard ≡ (known pass.old).heard
+        ++ map (λ s. s.jobs) seats.items }
+    ensures dry { (known pass.new).dry ≡ ((known pass.old).dry
+        || list_any (λ s. s.dry) seats.items) }
 {
     for seat in seats {
         let Seat {
@@ -256,7 +274,8 @@ fn drain<J: Numbered + Drop + Send, R: Wait>(
     mut left: Vec<J>,
 ) -> Vec<J>
     requires pass { IsPassOf queue.now pass.old }
-    requires parts { (0 < (known pass.old).parts) × ((known pass.old).parts ≡ (known pass.old).all) }
+    requires parts { (0 < (known pass.old).parts) ×
+        ((known pass.old).parts ≡ (known pass.old).all) }
     requires room { (left.items ≡ []) × (length (known pass.old).told ≤ vec_capacity left) }
     ensures whole { IsPermutation (known pass.old).told ((known pass.old).taken ++ result.items) }
     ensures heard { AllByRecursion (λ t. t ≡ (known pass.old).told) (known pass.old).heard }

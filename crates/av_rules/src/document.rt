@@ -264,7 +264,8 @@ fn table_row_in(alloc: Global, version: Version, table: &Table) -> Result<TableR
 
 /// A value as a row.
 fn row_of_value(alloc: Global, version: Version, value: &Value) -> Result<TableRow, Fault>
-    ensures { Reads table_row_of (option_and_then (table_row_in version) (as_table (view value.now))) result }
+    ensures { Reads table_row_of (option_and_then (table_row_in version)
+        (as_table (view value.now))) result }
 {
     match value.as_table() {
         Some(table) => table_row_in(alloc, version, table),
@@ -274,7 +275,8 @@ fn row_of_value(alloc: Global, version: Version, value: &Value) -> Result<TableR
 
 /// The rows, in order.
 fn table_rows_in(alloc: Global, version: Version, blocks: &Array) -> Result<Vec<TableRow>, Fault>
-    ensures { Reads (λ v. table_rows_of v.items) (table_rows_in version (array_view blocks.now)) result }
+    ensures { Reads (λ v. table_rows_of v.items) (table_rows_in version (array_view blocks.now))
+        result }
 {
     let mut rows = Vec::new(alloc);
     for value in blocks {
@@ -358,7 +360,8 @@ fn read_version(alloc: Global, version: Version, table: &Table) -> Result<Rules,
 
 /// The version of a document.
 fn version_in(table: &Table) -> Option<Version>
-    ensures { result ≡ option_and_then version_of (whole_at (codes "version") (table_view table.now)) }
+    ensures { result ≡ option_and_then version_of (whole_at (codes "version")
+        (table_view table.now)) }
 {
     match whole_at(table, "version") {
         Some(number) => version_of(number),

@@ -51,7 +51,8 @@ fn in_32_bits(row: usize) -> u32
 /// The first row of each bucket.
 pub(crate) fn first_rows(alloc: Global, rows: &[TableRow]) -> Result<FirstRows, AllocError>
     ensures first { IfOk result (λ first. AreFirstRows (table_rows_of rows.now) first.heads.items) }
-    ensures many { IfOk result (λ first. IsNextPowerOfTwo (8 * length rows.now) (length first.heads.items)) }
+    ensures many { IfOk result (λ first. IsNextPowerOfTwo (8 * length rows.now)
+        (length first.heads.items)) }
 {
     let count = (8 * rows.len()).next_power_of_two();
     let mut heads = vec![in alloc; in_32_bits(rows.len()); count]?;

@@ -32,8 +32,10 @@ impl Kinds {
     /// Fixes a row and a wetness for each state of a table. Refuses with `OutOfMemory` alone.
     pub fn new(alloc: Global, table: StateTable, rules: &Rules) -> Result<Kinds, Fault>
         ensures table { IfOk result (λ k. states (table_in k) ≡ states table) }
-        ensures rows { IfOk result (λ k. rows_in k ≡ map (row_of (table_of rules.now)) (states table)) }
-        ensures wets { IfOk result (λ k. wets_in k ≡ map (wet_in (table_of rules.now)) (states table)) }
+        ensures rows { IfOk result (λ k. rows_in k
+            ≡ map (row_of (table_of rules.now)) (states table)) }
+        ensures wets { IfOk result (λ k. wets_in k
+            ≡ map (wet_in (table_of rules.now)) (states table)) }
         ensures memory { IfErr result (λ e. e ≡ OutOfMemory) }
     {
         let mut rows = Vec::with_capacity(alloc, table.len())?;

@@ -62,7 +62,8 @@ impl Row {
 
 /// Whether a state has the property with that value.
 pub(crate) fn has_property(state: &State, key: &[u8], value: &[u8]) -> bool
-    ensures { result ≡ has_property (state_of state.now).properties (record { key = key.now; value = value.now }) }
+    ensures { result ≡ has_property (state_of state.now).properties
+        (record { key = key.now; value = value.now }) }
 {
     match state.value(key) {
         None => false,
@@ -72,7 +73,8 @@ pub(crate) fn has_property(state: &State, key: &[u8], value: &[u8]) -> bool
 
 /// Whether a state has each of the properties with its value.
 fn has_properties(state: &State, properties: &[Property]) -> bool
-    ensures { result ≡ has_properties (state_of state.now).properties (properties_of properties.now) }
+    ensures { result ≡ has_properties (state_of state.now).properties
+        (properties_of properties.now) }
 {
     for property in properties {
         if !has_property(state, property.key.as_slice(), property.value.as_slice()) {

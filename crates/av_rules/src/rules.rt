@@ -63,7 +63,8 @@ impl Rules {
     pub fn read(alloc: Global, text: &[u8]) -> Result<Rules, Fault>
         ensures utf8 { IfOk result (λ _. IsUtf8 text.now) }
         ensures ok { IfOk result (λ r. table_spelled text.now ≡ Some (table_of r)) }
-        ensures refused { IfErr result (λ e. e ≡ BadTable → IsUtf8 text.now → table_spelled text.now ≡ None) }
+        ensures refused { IfErr result (λ e. e ≡ BadTable → IsUtf8 text.now
+            → table_spelled text.now ≡ None) }
         ensures memory { IfErr result (λ e. e ≢ BadTable → e ≡ OutOfMemory) }
     {
         match toml::table_from_slice(alloc, text) {
@@ -105,8 +106,11 @@ impl Rules {
     /// Where the search for a state's row begins: no row before is for the state.
     fn head(&self, state: &State) -> usize
         ensures within { result ≤ length self.now.rows.items }
-        ensures skipped { first_row (drop result (table_of self.now).rows) (state_of state.now) ≡ first_row (table_of self.now).rows (state_of state.now) }
-        ensures others { list_any (λ t. is_for t (state_of state.now)) (drop result (table_of self.now).rows) ≡ list_any (λ t. is_for t (state_of state.now)) (table_of self.now).rows }
+        ensures skipped { first_row (drop result (table_of self.now).rows) (state_of state.now)
+            ≡ first_row (table_of self.now).rows (state_of state.now) }
+        ensures others { list_any (λ t. is_for t (state_of state.now))
+            (drop result (table_of self.now).rows) ≡ list_any (λ t. is_for t (state_of state.now))
+            (table_of self.now).rows }
     {
         self.first.head(state.name.as_slice())
     }

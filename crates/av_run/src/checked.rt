@@ -50,7 +50,8 @@ fn read_counted(
     ticks: u32,
 ) -> Result<CountedInput, Fault>
     ensures ok { IfOk result (IsCountedInput (map file_in files.items) table.now edits.now ticks) }
-    ensures err { IfErr result (λ e. e ≢ OutOfMemory → IsInputFault (map file_in files.items) table.now edits.now ticks e) }
+    ensures err { IfErr result (λ e. e ≢ OutOfMemory
+        → IsInputFault (map file_in files.items) table.now edits.now ticks e) }
 {
     let rules = read_rules(alloc, table)?;
     let loaded = load_new(rt, alloc, files, &rules)?;
@@ -105,7 +106,8 @@ pub fn run_checked<R: Threads + Wait + Sync, G: Gate + Sync>(
     strict: bool,
     gate: &G,
 ) -> Result<Ran, Fault>
-    ensures { IsCheckedAnswer (map file_in files.items) table.now edits.now ticks workers strict result }
+    ensures { IsCheckedAnswer (map file_in files.items) table.now edits.now ticks workers strict
+        result }
 {
     if !are_counts_good(files.as_slice(), ticks, workers) {
         return Err(Fault::BadCount);

@@ -58,7 +58,8 @@ pub(crate) fn load_new(
     rules: &Rules,
 ) -> Result<Loaded, Fault>
     ensures ok { IfOk result (IsLoadedFrom rules.now.height (map file_in files.items)) }
-    ensures err { IfErr result (λ e. e ≢ OutOfMemory → IsFilesFault rules.now.height (map file_in files.items) e) }
+    ensures err { IfErr result (λ e. e ≢ OutOfMemory
+        → IsFilesFault rules.now.height (map file_in files.items) e) }
 {
     let mut table = StateTable::new(alloc)?;
     let (world, rest) = load(rt, alloc, files, rules, &mut table)?;
@@ -74,9 +75,12 @@ fn read_edits(
     table: &mut StateTable,
 ) -> Result<Vec<Edit>, Fault>
     requires { IsUncarved world.now }
-    ensures ok { IfOk result (λ es. AreEdits (is_loaded (land_of world.now)) ticks text.now (states table.old) (states table.new) (number_sets es.items)) }
+    ensures ok { IfOk result (λ es. AreEdits (is_loaded (land_of world.now)) ticks text.now
+        (states table.old) (states table.new) (number_sets es.items)) }
     ensures lines { IfOk result (λ es. map (λ e. e.line) es.items ≡ lines_of_edits text.now) }
-    ensures err { IfErr result (λ e. e ≢ OutOfMemory → first_in_edits (is_loaded (land_of world.now)) ticks (states table.old) text.now ≡ Some e) }
+    ensures err { IfErr result (λ e. e ≢ OutOfMemory
+        → first_in_edits (is_loaded (land_of world.now)) ticks (states table.old) text.now
+        ≡ Some e) }
 {
     av_edits::read(alloc, text, ticks, world, table)
 }
@@ -90,8 +94,12 @@ pub(crate) fn with_edits(
     ticks: u32,
 ) -> Result<Input, Fault>
     requires { IsUncarved loaded.world }
-    ensures ok { IfOk result (λ input. (files : List File) → (table : List ℕ) → IsTable table (table_of rules.now) rules.now.height → IsLoadedFrom rules.now.height files loaded → IsInput files table edits.now ticks input) }
-    ensures err { IfErr result (λ e. e ≢ OutOfMemory → (files : List File) → (table : List ℕ) → IsTable table (table_of rules.now) rules.now.height → IsLoadedFrom rules.now.height files loaded → IsInputFault files table edits.now ticks e) }
+    ensures ok { IfOk result (λ input. (files : List File) → (table : List ℕ)
+        → IsTable table (table_of rules.now) rules.now.height
+        → IsLoadedFrom rules.now.height files loaded → IsInput files table edits.now ticks input) }
+    ensures err { IfErr result (λ e. e ≢ OutOfMemory → (files : List File) → (table : List ℕ)
+        → IsTable table (table_of rules.now) rules.now.height
+        → IsLoadedFrom rules.now.height files loaded → IsInputFault files table edits.now ticks e) }
 {
     let world = loaded.world;
     let rest = loaded.rest;

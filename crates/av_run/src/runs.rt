@@ -30,7 +30,8 @@ pub(crate) fn finish<R: Threads + Wait + Sync, G: Gate + Sync>(
     requires can { CanRun ticks input }
     requires workers { is_count_of_workers workers ≡ true }
     ensures ok { IfOk result (IsFinished ticks input) }
-    ensures err { IfErr result (λ e. e ≢ OutOfMemory → (t : BlockTable) → AreKindsBy t input.kinds → IsNotWritten t (reached_from ticks input) (rest_in input.rest) ticks e) }
+    ensures err { IfErr result (λ e. e ≢ OutOfMemory → (t : BlockTable) → AreKindsBy t input.kinds
+        → IsNotWritten t (reached_from ticks input) (rest_in input.rest) ticks e) }
 {
     let mut world = input.world;
     let rest = input.rest;

@@ -36,8 +36,11 @@ pub fn written<G: Gate>(
     requires sound { is_broken world.now ≡ false }
     requires good { Good (kind_count kinds.now) (IsTimely ticks) (land_of world.now) }
     requires rest { IsRestOf (height_of world.now) (positions_of world.now) rest.now }
-    ensures ok { IfOk result (λ files. (t : BlockTable) → AreKindsBy t kinds.now → AreFilesOf t (states_in kinds.now world.now) (rest_in rest.now) ticks (map file_in files.items)) }
-    ensures err { IfErr result (λ e. e ≢ OutOfMemory → (t : BlockTable) → AreKindsBy t kinds.now → IsNotWritten t (states_in kinds.now world.now) (rest_in rest.now) ticks e) }
+    ensures ok { IfOk result (λ files. (t : BlockTable) → AreKindsBy t kinds.now
+        → AreFilesOf t (states_in kinds.now world.now) (rest_in rest.now) ticks
+        (map file_in files.items)) }
+    ensures err { IfErr result (λ e. e ≢ OutOfMemory → (t : BlockTable) → AreKindsBy t kinds.now
+        → IsNotWritten t (states_in kinds.now world.now) (rest_in rest.now) ticks e) }
 {
     gate.reached(Step::Light {
         chunks: world.positions().len() as u64,

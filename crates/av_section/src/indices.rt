@@ -59,8 +59,10 @@ fn hold_indices(longs: &[i64], count: usize) -> bool
 /// The longs of a data tag, where they hold indices into a palette of so many entries.
 fn fitting_longs<'a>(longs: Option<&'a Tag>, count: usize) -> Option<&'a [i64]>
     requires { count ≤ 65536 }
-    ensures some { IfSome result (λ found. ArePacked (option_map view (option_copied longs.entry)) count found.now) }
-    ensures none { IfNone result (indices_of count (option_map view (option_copied longs.entry)) ≡ None) }
+    ensures some { IfSome result (λ found. ArePacked
+        (option_map view (option_copied longs.entry)) count found.now) }
+    ensures none { IfNone result (indices_of count (option_map view (option_copied longs.entry))
+        ≡ None) }
 {
     let longs = data_longs(longs)?;
     if !hold_indices(longs, count) {
@@ -77,8 +79,10 @@ pub(crate) fn judged_longs<'a>(
     longs: Option<&'a Tag>,
 ) -> Result<&'a [i64], Fault>
     requires { length entries.now ≤ 4096 }
-    ensures ok { IfOk result (λ found. ArePacked (option_map view (option_copied longs.entry)) (length entries.now) found.now) }
-    ensures err { IfErr result (AreUnfit (each state_in (views entries.now)) (option_map view (option_copied longs.entry))) }
+    ensures ok { IfOk result (λ found. ArePacked (option_map view (option_copied longs.entry))
+        (length entries.now) found.now) }
+    ensures err { IfErr result (AreUnfit (each state_in (views entries.now))
+        (option_map view (option_copied longs.entry))) }
 {
     let Some(longs) = fitting_longs(longs, entries.len()) else {
         // the palette's fault comes first
@@ -149,7 +153,8 @@ fn place_in(once: &mut Vec<u16>, number: u16) -> Result<usize, AllocError>
 fn distinct_by_pairs(alloc: Global, numbers: Vec<u16>) -> Result<Once, AllocError>
     requires few { length numbers.items ≤ 65536 }
     ensures numbers { IfOk result (λ once. AreEachOnce numbers.items once.numbers.items) }
-    ensures places { IfOk result (λ once. ArePlaces once.numbers.items numbers.items once.places.items) }
+    ensures places { IfOk result (λ once. ArePlaces once.numbers.items numbers.items
+        once.places.items) }
 {
     let mut once = Vec::with_capacity(alloc, numbers.len())?;
     let mut places = numbers;
@@ -213,7 +218,8 @@ fn in_order(alloc: Global, numbers: &[u16]) -> Result<Vec<u16>, AllocError>
 fn distinct_by_order(alloc: Global, numbers: Vec<u16>) -> Result<Once, AllocError>
     requires few { length numbers.items ≤ 65536 }
     ensures numbers { IfOk result (λ once. AreEachOnce numbers.items once.numbers.items) }
-    ensures places { IfOk result (λ once. ArePlaces once.numbers.items numbers.items once.places.items) }
+    ensures places { IfOk result (λ once. ArePlaces once.numbers.items numbers.items
+        once.places.items) }
 {
     let rising = in_order(alloc, numbers.as_slice())?;
     if rising.len() == numbers.len() {
@@ -234,7 +240,8 @@ fn distinct_by_order(alloc: Global, numbers: Vec<u16>) -> Result<Once, AllocErro
 pub(crate) fn distinct(alloc: Global, numbers: Vec<u16>) -> Result<Once, AllocError>
     requires few { length numbers.items ≤ 65536 }
     ensures numbers { IfOk result (λ once. AreEachOnce numbers.items once.numbers.items) }
-    ensures places { IfOk result (λ once. ArePlaces once.numbers.items numbers.items once.places.items) }
+    ensures places { IfOk result (λ once. ArePlaces once.numbers.items numbers.items
+        once.places.items) }
 {
     if numbers.len() <= FEW {
         return distinct_by_pairs(alloc, numbers);
@@ -256,7 +263,8 @@ pub(crate) fn index_of(palette: &[u16], number: u16) -> usize
 
 /// Whether a number is the last one.
 fn ends_with(palette: &[u16], number: u16) -> bool
-    ensures { IsTrue result → (0 < length palette.now) × (slice_index palette.now (length palette.now - 1) ≡ number) }
+    ensures { IsTrue result → (0 < length palette.now)
+        × (slice_index palette.now (length palette.now - 1) ≡ number) }
 {
     match palette.last() {
         Some(last) => *last == number,
@@ -266,7 +274,8 @@ fn ends_with(palette: &[u16], number: u16) -> bool
 
 /// Marks a number, if it is one of those that are marked.
 fn mark(marks: &mut [bool; 16], number: u16)
-    ensures { (i : ℕ) → slice_index_or marks.new i false ≡ true → (slice_index_or marks.old i false ≡ true) ⊎ (i ≡ number) }
+    ensures { (i : ℕ) → slice_index_or marks.new i false ≡ true
+        → (slice_index_or marks.old i false ≡ true) ⊎ (i ≡ number) }
 {
     if number < 16 {
         marks[usize::from(number)] = true;

@@ -28,7 +28,8 @@ fn property_text(named: &Named) -> Option<PropertyText<'_>>
 
 /// Puts the texts of properties in the place of others. False where a tag is no property.
 fn read_texts<'a>(tags: &'a [Named], texts: &mut Vec<PropertyText<'a>>) -> Result<bool, AllocError>
-    ensures { IfOk result (λ all. all ≡ true → each property_in (named_views tags.now) ≡ Some (properties_told texts.new.items)) }
+    ensures { IfOk result (λ all. all ≡ true → each property_in (named_views tags.now)
+        ≡ Some (properties_told texts.new.items)) }
 {
     texts.clear();
     for named in tags {
@@ -45,7 +46,9 @@ fn read_properties<'a>(
     tag: Option<&'a Tag>,
     texts: &mut Vec<PropertyText<'a>>,
 ) -> Result<bool, AllocError>
-    ensures { IfOk result (λ all. all ≡ true → properties_in (option_map view (option_copied tag.entry)) ≡ Some (in_order (properties_told texts.new.items))) }
+    ensures { IfOk result (λ all. all ≡ true → properties_in
+        (option_map view (option_copied tag.entry)) ≡ Some
+        (in_order (properties_told texts.new.items))) }
 {
     let Some(tag) = tag else {
         texts.clear();
@@ -63,7 +66,8 @@ fn tags_number<'a>(
     texts: &mut Vec<PropertyText<'a>>,
     table: &StateTable,
 ) -> Result<Option<u16>, AllocError>
-    ensures { IfOk result (λ found. IfSome found (IsKnown (states table.now) (written_state (named_views tags.now)))) }
+    ensures { IfOk result (λ found. IfSome found (IsKnown (states table.now)
+        (written_state (named_views tags.now)))) }
 {
     let Some(name) = find(tags, NAME) else {
         return Ok(None);
@@ -86,7 +90,8 @@ fn entry_number<'a>(
     texts: &mut Vec<PropertyText<'a>>,
     table: &StateTable,
 ) -> Result<Option<u16>, AllocError>
-    ensures { IfOk result (λ found. IfSome found (IsKnown (states table.now) (state_in (view entry.now)))) }
+    ensures { IfOk result (λ found. IfSome found (IsKnown (states table.now)
+        (state_in (view entry.now)))) }
 {
     let Some(tags) = entry.as_members() else {
         return Ok(None);
@@ -100,8 +105,11 @@ pub(crate) fn known_numbers(
     entries: &[Tag],
     table: &StateTable,
 ) -> Result<Option<Vec<u16>>, AllocError>
-    ensures known { IfOk result (λ found. IfSome found (λ numbers. AreKnown (states table.now) (each state_in (views entries.now)) numbers.items)) }
-    ensures many { IfOk result (λ found. IfSome found (λ numbers. length numbers.items ≡ length entries.now)) }
+    ensures known { IfOk result (λ found. IfSome found
+        (λ numbers. AreKnown (states table.now) (each state_in (views entries.now))
+        numbers.items)) }
+    ensures many { IfOk result (λ found. IfSome found
+        (λ numbers. length numbers.items ≡ length entries.now)) }
 {
     let mut numbers = Vec::with_capacity(alloc, entries.len())?;
     let mut texts = Vec::new(alloc);

@@ -38,7 +38,8 @@ fn number_states(
     entries: &[State],
     table: &mut StateTable,
 ) -> Result<Vec<u16>, Fault>
-    ensures ok { IfOk result (λ numbers. AreNumbered (map state_of entries.now) (states table.old) (states table.new) numbers.items) }
+    ensures ok { IfOk result (λ numbers. AreNumbered (map state_of entries.now) (states table.old)
+        (states table.new) numbers.items) }
     ensures many { IfOk result (λ numbers. length numbers.items ≡ length entries.now) }
     ensures err { IfErr result (AreNotNumbered (map state_of entries.now) (states table.old)) }
     ensures table { OnlyGrows (states table.old) (states table.new) }
@@ -60,9 +61,11 @@ pub(crate) fn number_entries(
     entries: &[Tag],
     table: &mut StateTable,
 ) -> Result<Vec<u16>, Fault>
-    ensures ok { IfOk result (λ numbers. AreOfPalette (states table.old) (states table.new) (each state_in (views entries.now)) numbers.items) }
+    ensures ok { IfOk result (λ numbers. AreOfPalette (states table.old) (states table.new)
+        (each state_in (views entries.now)) numbers.items) }
     ensures many { IfOk result (λ numbers. length numbers.items ≡ length entries.now) }
-    ensures err { IfErr result (AreNotOfPalette (each state_in (views entries.now)) (states table.old)) }
+    ensures err { IfErr result (AreNotOfPalette (each state_in (views entries.now))
+        (states table.old)) }
     ensures table { OnlyGrows (states table.old) (states table.new) }
 {
     if let Some(numbers) = known_numbers(alloc, entries, table)? {

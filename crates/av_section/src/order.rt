@@ -27,9 +27,11 @@ fn written_index(
     requires below { index < length palette.now }
     requires few { length written.old.items < 65535 }
     ensures knows { IfOk result (λ _. KnowsIndices palette.now seen.new.items written.new.items) }
-    ensures numbers { IfOk result (λ _. written.new.items ≡ with_number written.old.items (slice_index palette.now index)) }
+    ensures numbers { IfOk result (λ _. written.new.items
+        ≡ with_number written.old.items (slice_index palette.now index)) }
     ensures bound { IfOk result (λ found. found < length written.new.items) }
-    ensures found { IfOk result (λ found. slice_index written.new.items found ≡ slice_index palette.now index) }
+    ensures found { IfOk result (λ found. slice_index written.new.items found
+        ≡ slice_index palette.now index) }
 {
     let index = usize::from(index);
     let known = seen[index];
@@ -51,7 +53,8 @@ pub(crate) fn written_order(
     requires distinct { AllPairs (λ x y. x ≢ y) palette.now }
     requires below { All (λ index. index < length palette.now) indices.now }
     requires few { length indices.now ≤ 4096 }
-    ensures { IfOk result (λ order. IsWritten palette.now indices.now order.numbers.items order.indices.items) }
+    ensures { IfOk result (λ order. IsWritten palette.now indices.now order.numbers.items
+        order.indices.items) }
 {
     let mut seen = vec![in alloc; UNSEEN; palette.len()]?;
     let mut numbers = Vec::with_capacity(alloc, palette.len())?;

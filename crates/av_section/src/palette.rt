@@ -38,7 +38,8 @@ fn property(alloc: Global, named: &Named) -> Result<Property, Fault>
 
 /// The properties of tags, in the order of the tags.
 fn properties(alloc: Global, tags: &[Named]) -> Result<Vec<Property>, Fault>
-    ensures ok { IfOk result (λ ps. each property_in (named_views tags.now) ≡ Some (properties_of ps.items)) }
+    ensures ok { IfOk result (λ ps. each property_in (named_views tags.now)
+        ≡ Some (properties_of ps.items)) }
     ensures err { IfErr result (IsNoPalette (each property_in (named_views tags.now))) }
 {
     let mut found = Vec::new(alloc);
@@ -50,8 +51,10 @@ fn properties(alloc: Global, tags: &[Named]) -> Result<Vec<Property>, Fault>
 
 /// The properties of a `Properties` tag, in no order. No tag is no properties.
 fn entry_properties(alloc: Global, tag: Option<&Tag>) -> Result<Vec<Property>, Fault>
-    ensures ok { IfOk result (λ ps. properties_in (option_map view (option_copied tag.entry)) ≡ Some (in_order (properties_of ps.items))) }
-    ensures err { IfErr result (IsNoPalette (properties_in (option_map view (option_copied tag.entry)))) }
+    ensures ok { IfOk result (λ ps. properties_in (option_map view (option_copied tag.entry))
+        ≡ Some (in_order (properties_of ps.items))) }
+    ensures err { IfErr result (IsNoPalette (properties_in
+        (option_map view (option_copied tag.entry)))) }
 {
     let Some(tag) = tag else {
         return Ok(Vec::new(alloc));
@@ -118,7 +121,8 @@ fn state(alloc: Global, entry: &Tag) -> Result<State, Fault>
 
 /// The states of palette entries, as they are written there. Refuses one that is none with `BadPalette`.
 pub(crate) fn entry_states(alloc: Global, entries: &[Tag]) -> Result<Vec<State>, Fault>
-    ensures ok { IfOk result (λ found. each state_in (views entries.now) ≡ Some (map state_of found.items)) }
+    ensures ok { IfOk result (λ found. each state_in (views entries.now)
+        ≡ Some (map state_of found.items)) }
     ensures err { IfErr result (IsNoPalette (each state_in (views entries.now))) }
 {
     let mut found = Vec::new(alloc);
@@ -130,10 +134,12 @@ pub(crate) fn entry_states(alloc: Global, entries: &[Tag]) -> Result<Vec<State>,
 
 /// The 1 to 4,096 entries of a palette tag. Refuses a palette of another shape with `BadPalette`.
 pub(crate) fn palette_entries(palette: Option<&Tag>) -> Result<&[Tag], Fault>
-    ensures ok { IfOk result (λ entries. palette_of (option_map view (option_copied palette.entry)) ≡ each state_in (views entries.now)) }
+    ensures ok { IfOk result (λ entries. palette_of (option_map view (option_copied palette.entry))
+        ≡ each state_in (views entries.now)) }
     ensures some { IfOk result (λ entries. 0 < length entries.now) }
     ensures few { IfOk result (λ entries. length entries.now ≤ 4096) }
-    ensures err { IfErr result (IsNoPalette (palette_of (option_map view (option_copied palette.entry)))) }
+    ensures err { IfErr result (IsNoPalette (palette_of
+        (option_map view (option_copied palette.entry)))) }
 {
     let Some(palette) = palette else {
         return Err(Fault::BadPalette);

@@ -46,7 +46,8 @@ fn has_number(palette: &[u16], number: u16) -> bool
 
 /// Puts a number at the end of the palette, which stays as it is where memory runs out.
 fn push_number(palette: &mut Vec<u16>, number: u16) -> Result<(), AllocError>
-    ensures items { palette.new.items ≡ (if is_ok result then palette.old.items ++ number ∷ [] else palette.old.items) }
+    ensures items { palette.new.items ≡ (if is_ok result then palette.old.items ++ number ∷ []
+        else palette.old.items) }
 {
     palette.push(number)?;
     Ok(())
@@ -76,8 +77,10 @@ impl Section {
         longs: Option<&Tag>,
         table: &mut StateTable,
     ) -> Result<Self, Fault>
-        ensures ok { IfOk result (IsRead (option_map view (option_copied palette.entry)) (option_map view (option_copied longs.entry)) (states table.old) (states table.new)) }
-        ensures err { IfErr result (IsStatesRefusal (option_map view (option_copied palette.entry)) (option_map view (option_copied longs.entry)) (states table.old)) }
+        ensures ok { IfOk result (IsRead (option_map view (option_copied palette.entry))
+            (option_map view (option_copied longs.entry)) (states table.old) (states table.new)) }
+        ensures err { IfErr result (IsStatesRefusal (option_map view (option_copied palette.entry))
+            (option_map view (option_copied longs.entry)) (states table.old)) }
         ensures table { OnlyGrows (states table.old) (states table.new) }
     {
         let entries = palette_entries(palette)?;
@@ -95,8 +98,11 @@ impl Section {
         longs: Option<&Tag>,
         table: &StateTable,
     ) -> Result<Option<Self>, Fault>
-        ensures ok { IfOk result (λ found. IfSome found (IsRead (option_map view (option_copied palette.entry)) (option_map view (option_copied longs.entry)) (states table.now) (states table.now))) }
-        ensures err { IfErr result (IsStatesRefusal (option_map view (option_copied palette.entry)) (option_map view (option_copied longs.entry)) (states table.now)) }
+        ensures ok { IfOk result (λ found. IfSome found
+            (IsRead (option_map view (option_copied palette.entry))
+            (option_map view (option_copied longs.entry)) (states table.now) (states table.now))) }
+        ensures err { IfErr result (IsStatesRefusal (option_map view (option_copied palette.entry))
+            (option_map view (option_copied longs.entry)) (states table.now)) }
     {
         let entries = palette_entries(palette)?;
         let longs = judged_longs(alloc, entries, longs)?;
@@ -113,7 +119,8 @@ impl Section {
         requires some { 0 < length numbers.items }
         requires few { length numbers.items ≤ 4096 }
         requires fit { IsSome (indices_in (length numbers.items) longs.now) }
-        ensures ok { IfOk result (IsPlaced numbers.items (indices_in (length numbers.items) longs.now)) }
+        ensures ok { IfOk result (IsPlaced numbers.items
+            (indices_in (length numbers.items) longs.now)) }
         ensures memory { IfErr result (λ e. e ≡ OutOfMemory) }
     {
         if longs.is_empty() {
@@ -129,8 +136,10 @@ impl Section {
     fn indexed(alloc: Global, numbers: Vec<u16>, longs: &[i64]) -> Result<Self, AllocError>
         requires some { 0 < length numbers.items }
         requires few { length numbers.items ≤ 4096 }
-        requires indices { packed_indices (length numbers.items) longs.now ≡ Some (unpacked (bits_for (length numbers.items)) longs.now) }
-        ensures ok { IfOk result (HasNumbers numbers.items (unpacked (bits_for (length numbers.items)) longs.now)) }
+        requires indices { packed_indices (length numbers.items) longs.now
+            ≡ Some (unpacked (bits_for (length numbers.items)) longs.now) }
+        ensures ok { IfOk result (HasNumbers numbers.items
+            (unpacked (bits_for (length numbers.items)) longs.now)) }
     {
         let once = distinct(alloc, numbers)?;
         if once.numbers.len() != once.places.len() {
@@ -147,11 +156,14 @@ impl Section {
 
     /// The same where a number is there twice: each index is that of its number among the distinct ones.
     fn repeated(alloc: Global, once: Once, longs: &[i64]) -> Result<Self, AllocError>
-        requires palette { AreEachOnce (numbers_of once.numbers.items once.places.items) once.numbers.items }
+        requires palette { AreEachOnce (numbers_of once.numbers.items once.places.items)
+            once.numbers.items }
         requires places { All (λ place. place < length once.numbers.items) once.places.items }
         requires few { length once.places.items ≤ 4096 }
-        requires indices { packed_indices (length once.places.items) longs.now ≡ Some (unpacked (bits_for (length once.places.items)) longs.now) }
-        ensures ok { IfOk result (HasNumbers (numbers_of once.numbers.items once.places.items) (unpacked (bits_for (length once.places.items)) longs.now)) }
+        requires indices { packed_indices (length once.places.items) longs.now
+            ≡ Some (unpacked (bits_for (length once.places.items)) longs.now) }
+        ensures ok { IfOk result (HasNumbers (numbers_of once.numbers.items once.places.items)
+            (unpacked (bits_for (length once.places.items)) longs.now)) }
     {
         let indices = unpacked(alloc, longs, bits_for(once.places.len()))?;
         let indices = mapped(indices, once.places.as_slice());
@@ -345,8 +357,10 @@ impl Section {
     /// Refuses with OutOfMemory alone.
     pub fn write(&self, alloc: Global, table: &StateTable) -> Result<(Tag, Option<Tag>), Fault>
         requires { HasNumbersBelow self.now (length (states table.now)) }
-        ensures palette { IfOk result (λ tags. view tags.0 ≡ palette_tag (section_states (states table.now) self.now)) }
-        ensures longs { IfOk result (λ tags. option_map view tags.1 ≡ data_tag (section_states (states table.now) self.now)) }
+        ensures palette { IfOk result (λ tags. view tags.0
+            ≡ palette_tag (section_states (states table.now) self.now)) }
+        ensures longs { IfOk result (λ tags. option_map view tags.1
+            ≡ data_tag (section_states (states table.now) self.now)) }
         ensures memory { IfErr result (λ e. e ≡ OutOfMemory) }
     {
         if self.palette.len() == 1 {
@@ -359,8 +373,10 @@ impl Section {
     fn write_one(&self, alloc: Global, table: &StateTable) -> Result<(Tag, Option<Tag>), AllocError>
         requires below { HasNumbersBelow self.now (length (states table.now)) }
         requires one { length self.now.palette.items ≡ 1 }
-        ensures palette { IfOk result (λ tags. view tags.0 ≡ palette_tag (section_states (states table.now) self.now)) }
-        ensures longs { IfOk result (λ tags. option_map view tags.1 ≡ data_tag (section_states (states table.now) self.now)) }
+        ensures palette { IfOk result (λ tags. view tags.0
+            ≡ palette_tag (section_states (states table.now) self.now)) }
+        ensures longs { IfOk result (λ tags. option_map view tags.1
+            ≡ data_tag (section_states (states table.now) self.now)) }
     {
         let palette = palette_tag(alloc, table, self.palette.as_slice())?;
         Ok((palette, None))
@@ -370,8 +386,10 @@ impl Section {
     fn write_any(&self, alloc: Global, table: &StateTable) -> Result<(Tag, Option<Tag>), AllocError>
         requires below { HasNumbersBelow self.now (length (states table.now)) }
         requires several { length self.now.palette.items ≢ 1 }
-        ensures palette { IfOk result (λ tags. view tags.0 ≡ palette_tag (section_states (states table.now) self.now)) }
-        ensures longs { IfOk result (λ tags. option_map view tags.1 ≡ data_tag (section_states (states table.now) self.now)) }
+        ensures palette { IfOk result (λ tags. view tags.0
+            ≡ palette_tag (section_states (states table.now) self.now)) }
+        ensures longs { IfOk result (λ tags. option_map view tags.1
+            ≡ data_tag (section_states (states table.now) self.now)) }
     {
         // Most palettes stand as they are written: then nothing is unpacked.
         if self.is_in_order() {
@@ -383,7 +401,8 @@ impl Section {
     /// Whether each entry of the palette is at some place that has only earlier ones before it.
     fn is_in_order(&self) -> bool
         requires { length self.now.palette.items ≢ 1 }
-        ensures { IsTrue result ↔ AreInOrder (length self.now.palette.items) (unpacked self.now.bits self.now.longs.items) }
+        ensures { IsTrue result ↔ AreInOrder (length self.now.palette.items)
+            (unpacked self.now.bits self.now.longs.items) }
     {
         used_in_order(self.longs.as_slice(), self.bits, self.palette.len())
     }
@@ -396,9 +415,12 @@ impl Section {
     ) -> Result<(Tag, Option<Tag>), AllocError>
         requires below { HasNumbersBelow self.now (length (states table.now)) }
         requires several { length self.now.palette.items ≢ 1 }
-        requires ordered { AreInOrder (length self.now.palette.items) (unpacked self.now.bits self.now.longs.items) }
-        ensures palette { IfOk result (λ tags. view tags.0 ≡ palette_tag (section_states (states table.now) self.now)) }
-        ensures longs { IfOk result (λ tags. option_map view tags.1 ≡ data_tag (section_states (states table.now) self.now)) }
+        requires ordered { AreInOrder (length self.now.palette.items)
+            (unpacked self.now.bits self.now.longs.items) }
+        ensures palette { IfOk result (λ tags. view tags.0
+            ≡ palette_tag (section_states (states table.now) self.now)) }
+        ensures longs { IfOk result (λ tags. option_map view tags.1
+            ≡ data_tag (section_states (states table.now) self.now)) }
     {
         let palette = palette_tag(alloc, table, self.palette.as_slice())?;
         let longs = cleaned(alloc, self.longs.as_slice(), self.bits)?;
@@ -413,8 +435,10 @@ impl Section {
     ) -> Result<(Tag, Option<Tag>), AllocError>
         requires below { HasNumbersBelow self.now (length (states table.now)) }
         requires several { length self.now.palette.items ≢ 1 }
-        ensures palette { IfOk result (λ tags. view tags.0 ≡ palette_tag (section_states (states table.now) self.now)) }
-        ensures longs { IfOk result (λ tags. option_map view tags.1 ≡ data_tag (section_states (states table.now) self.now)) }
+        ensures palette { IfOk result (λ tags. view tags.0
+            ≡ palette_tag (section_states (states table.now) self.now)) }
+        ensures longs { IfOk result (λ tags. option_map view tags.1
+            ≡ data_tag (section_states (states table.now) self.now)) }
     {
         let indices = unpacked(alloc, self.longs.as_slice(), self.bits)?;
         let order = written_order(alloc, self.palette.as_slice(), indices.as_slice())?;

@@ -26,7 +26,8 @@ fn property_tag(alloc: Global, property: &Property) -> Result<Named, AllocError>
 
 /// Properties as named texts, in order.
 fn property_tags(alloc: Global, properties: &[Property]) -> Result<Vec<Named>, AllocError>
-    ensures { IfOk result (λ tags. named_views tags.items ≡ map property_tag (properties_of properties.now)) }
+    ensures { IfOk result (λ tags. named_views tags.items
+        ≡ map property_tag (properties_of properties.now)) }
 {
     let mut tags = Vec::with_capacity(alloc, properties.len())?;
     for property in properties {
@@ -37,7 +38,8 @@ fn property_tags(alloc: Global, properties: &[Property]) -> Result<Vec<Named>, A
 
 /// The name of a state as a named text.
 fn name_member(alloc: Global, state: &State) -> Result<Named, AllocError>
-    ensures { IfOk result (λ tag. named_view tag ≡ record { name = name_key; tag = text (state_of state.now).name }) }
+    ensures { IfOk result (λ tag. named_view tag ≡ record
+        { name = name_key; tag = text (state_of state.now).name }) }
 {
     let key = Vec::from_slice(alloc, NAME)?;
     let name = Vec::from_slice(alloc, state.name.as_slice())?;
@@ -58,7 +60,9 @@ fn properties_member(alloc: Global, properties: &[Property]) -> Result<Named, Al
 
 /// The members of a state's palette entry: its name, and its properties where it has some.
 fn state_members(alloc: Global, state: &State) -> Result<Vec<Named>, AllocError>
-    ensures { IfOk result (λ tags. named_views tags.items ≡ record { name = name_key; tag = text (state_of state.now).name } ∷ properties_tags (state_of state.now).properties) }
+    ensures { IfOk result (λ tags. named_views tags.items
+        ≡ record { name = name_key; tag = text (state_of state.now).name }
+        ∷ properties_tags (state_of state.now).properties) }
 {
     let mut members = Vec::new(alloc);
     members.push(name_member(alloc, state)?)?;
@@ -80,7 +84,8 @@ fn state_tag(alloc: Global, state: &State) -> Result<Tag, AllocError>
 /// The palette entries of numbers that the table has.
 fn state_tags(alloc: Global, table: &StateTable, numbers: &[u16]) -> Result<Vec<Tag>, AllocError>
     requires { All (λ number. number < length (states table.now)) numbers.now }
-    ensures { IfOk result (λ tags. views tags.items ≡ map (λ n. state_tag (slice_index_or (states table.now) n air)) numbers.now) }
+    ensures { IfOk result (λ tags. views tags.items
+        ≡ map (λ n. state_tag (slice_index_or (states table.now) n air)) numbers.now) }
 {
     let mut tags = Vec::with_capacity(alloc, numbers.len())?;
     for number in numbers {
@@ -96,7 +101,8 @@ pub(crate) fn palette_tag(
     numbers: &[u16],
 ) -> Result<Tag, AllocError>
     requires { All (λ number. number < length (states table.now)) numbers.now }
-    ensures { IfOk result (λ tag. view tag ≡ states_tag (map (λ n. slice_index_or (states table.now) n air) numbers.now)) }
+    ensures { IfOk result (λ tag. view tag ≡ states_tag
+        (map (λ n. slice_index_or (states table.now) n air) numbers.now)) }
 {
     let tags = state_tags(alloc, table, numbers)?;
     Ok(Tag::list(TagType::Compound, tags))

@@ -25,7 +25,8 @@ pub fn flood_in<S: Sections>(
     chunk: ChunkPos,
     used: Option<Flood>,
 ) -> Result<Flood, Fault>
-    requires { AreKnown (terrain_of kinds.now (cells_of (S.grid sections.now))) (S.lamps sections.now) chunk }
+    requires { AreKnown (terrain_of kinds.now (cells_of (S.grid sections.now)))
+        (S.lamps sections.now) chunk }
     ensures chunk { IfOk result (λ f. f.chunk ≡ chunk) }
     ensures height { IfOk result (λ f. f.height ≡ S.tall sections.now) }
     ensures light { IfOk result (λ f. (p : Pos) → chunk_of p ≡ chunk
@@ -46,8 +47,10 @@ pub fn light_in<S: Sections>(
     chunk: ChunkPos,
     board: &mut Option<Flood>,
 ) -> Result<ChunkLight, Fault>
-    requires { AreKnown (terrain_of kinds.now (cells_of (S.grid sections.now))) (S.lamps sections.now) chunk }
-    ensures light { IfOk result (IsChunkLight kinds.now (cells_of (S.grid sections.now)) (S.tall sections.now) chunk) }
+    requires { AreKnown (terrain_of kinds.now (cells_of (S.grid sections.now)))
+        (S.lamps sections.now) chunk }
+    ensures light { IfOk result (IsChunkLight kinds.now (cells_of (S.grid sections.now))
+        (S.tall sections.now) chunk) }
     ensures memory { IfErr result (λ e. e ≡ OutOfMemory) }
 {
     let flood = flood_in(alloc, sections, kinds, chunk, board.take())?;

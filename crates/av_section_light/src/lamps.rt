@@ -33,7 +33,8 @@ fn block_at(section: SectionPos, place: Place) -> Pos
 /// Appends all blocks of a section.
 fn push_all(at: SectionPos, lamps: &mut Vec<Pos>) -> Result<(), AllocError>
     requires { IsNearSection at }
-    ensures kept { OnOk result ((p : Pos) → Contains lamps.old.items p → Contains lamps.new.items p) }
+    ensures kept { OnOk result ((p : Pos) → Contains lamps.old.items p
+        → Contains lamps.new.items p) }
     ensures all { OnOk result ((i : ℕ) → i < 4096 → Contains lamps.new.items (block_at at i)) }
 {
     for index in 0..4096u16 {
@@ -50,7 +51,8 @@ fn push_lamp(
     lamps: &mut Vec<Pos>,
 ) -> Result<(), AllocError>
     requires { IsNearSection at }
-    ensures kept { OnOk result ((p : Pos) → Contains lamps.old.items p → Contains lamps.new.items p) }
+    ensures kept { OnOk result ((p : Pos) → Contains lamps.old.items p
+        → Contains lamps.new.items p) }
     ensures lit { OnOk result (IsTrue shines → Contains lamps.new.items (block_at at place.index)) }
 {
     if !shines {
@@ -75,8 +77,10 @@ fn push_shining(
     requires high { bits ≤ 16 }
     requires below { (i : ℕ) → i < 4096 → packed_at bits longs.now i < length shining.now }
     requires count { length longs.now ≡ longs_for bits }
-    ensures kept { OnOk result ((p : Pos) → Contains lamps.old.items p → Contains lamps.new.items p) }
-    ensures lit { OnOk result ((i : ℕ) → i < 4096 → slice_index_or shining.now (packed_at bits longs.now i) false ≡ true → Contains lamps.new.items (block_at at i)) }
+    ensures kept { OnOk result ((p : Pos) → Contains lamps.old.items p
+        → Contains lamps.new.items p) }
+    ensures lit { OnOk result ((i : ℕ) → i < 4096 → slice_index_or shining.now
+        (packed_at bits longs.now i) false ≡ true → Contains lamps.new.items (block_at at i)) }
 {
     let Ok(indices) = unpack(alloc, longs, bits) else {
         return Err(AllocError);
@@ -97,8 +101,11 @@ fn push_lamps(
     lamps: &mut Vec<Pos>,
 ) -> Result<(), AllocError>
     requires { IsNearSection at }
-    ensures kept { OnOk result ((p : Pos) → Contains lamps.old.items p → Contains lamps.new.items p) }
-    ensures lit { OnOk result ((i : ℕ) → i < 4096 → 0 < (row_at kinds.now (number_at section.now i)).emission → Contains lamps.new.items (block_at at i)) }
+    ensures kept { OnOk result ((p : Pos) → Contains lamps.old.items p
+        → Contains lamps.new.items p) }
+    ensures lit { OnOk result ((i : ℕ) → i < 4096 → 0
+        < (row_at kinds.now (number_at section.now i)).emission
+        → Contains lamps.new.items (block_at at i)) }
 {
     if is_dark(kinds, section) {
         return Ok(());
@@ -132,7 +139,8 @@ fn push_lamps_at<S: Sections>(
     lamps: &mut Vec<Pos>,
 ) -> Result<(), AllocError>
     requires { IsNearSection at }
-    ensures kept { OnOk result ((p : Pos) → Contains lamps.old.items p → Contains lamps.new.items p) }
+    ensures kept { OnOk result ((p : Pos) → Contains lamps.old.items p
+        → Contains lamps.new.items p) }
     ensures lit { OnOk result ((p : Pos) → section_of p ≡ at → IsTrue ((terrain_of kinds.now (cells_of (S.grid sections.now))).loaded p)
         → 0 < (terrain_of kinds.now (cells_of (S.grid sections.now))).emission p → Contains lamps.new.items p) }
 {
@@ -153,7 +161,8 @@ pub fn lamps_in<S: Sections>(
     kinds: &Kinds,
     chunk: ChunkPos,
 ) -> Result<Vec<Pos>, AllocError>
-    ensures { IfOk result (λ lamps. HasLamps (terrain_of kinds.now (cells_of (S.grid sections.now))) chunk lamps.items) }
+    ensures { IfOk result (λ lamps. HasLamps (terrain_of kinds.now (cells_of (S.grid sections.now)))
+        chunk lamps.items) }
 {
     let mut lamps = Vec::new(alloc);
     if !may_be_loaded(chunk) {

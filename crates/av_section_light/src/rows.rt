@@ -32,7 +32,8 @@ pub(crate) fn opacity(kinds: &Kinds, number: u16) -> u8
 
 /// Whether none of these numbers' states gives light.
 fn are_dark(kinds: &Kinds, numbers: &[u16]) -> bool
-    ensures { IsTrue result → (k : ℕ) → k < length numbers.now → (row_at kinds.now (slice_index numbers.now k)).emission ≡ 0 }
+    ensures { IsTrue result → (k : ℕ) → k < length numbers.now
+        → (row_at kinds.now (slice_index numbers.now k)).emission ≡ 0 }
 {
     for number in numbers {
         if emission(kinds, *number) > 0 {
@@ -60,7 +61,8 @@ pub(crate) fn are_shining(
 /// Whether no state of a section's palette gives light. Then no block of it does.
 #[tactic(auto, using(crate::proofs::RowLemmas::palette_dark))]
 pub(crate) fn is_dark(kinds: &Kinds, section: &Section) -> bool
-    ensures { IsTrue result → (i : ℕ) → i < 4096 → (row_at kinds.now (number_at section.now i)).emission ≡ 0 }
+    ensures { IsTrue result → (i : ℕ) → i < 4096 →
+        (row_at kinds.now (number_at section.now i)).emission ≡ 0 }
 {
     let parts = section.parts();
     are_dark(kinds, parts.0)

@@ -49,8 +49,10 @@ fn tick_from<F: Fn(&mut World, u32, &[Edit]) -> Result<u64, Fault>>(
     requires sound { is_broken world.old ≡ false }
     requires edits { All (CanApply (kind_count kinds.now) world.old) edits.now }
     requires next { NothingBefore next.old (land_of world.old) }
-    ensures done { OnOk result (land_of world.new ≡ ticked (kinds_of kinds.now) now (number_sets edits.now) (land_of world.old)) }
-    ensures count { IfOk result (λ count. count ≡ tick_count (kinds_of kinds.now) now (number_sets edits.now) (land_of world.old)) }
+    ensures done { OnOk result (land_of world.new ≡ ticked (kinds_of kinds.now) now
+        (number_sets edits.now) (land_of world.old)) }
+    ensures count { IfOk result (λ count. count ≡ tick_count (kinds_of kinds.now) now
+        (number_sets edits.now) (land_of world.old)) }
     ensures next { OnOk result (NothingBefore next.new (land_of world.new)) }
     ensures ready { OnOk result (IsReady (kind_count kinds.now) world.new) }
     ensures place { OnOk result (IsSamePlace world.old world.new) }
@@ -92,10 +94,14 @@ fn next_tick<F: Fn(&mut World, u32, &[Edit]) -> Result<u64, Fault>>(
     requires sound { is_broken world.old ≡ false }
     requires edits { All (CanApply (kind_count kinds.now) world.old) edits.now }
     requires sorted { IsNonDecreasingBy tick_of edits.now }
-    requires schedule { IsAfterTicks done schedule.old.from schedule.old.next edits.now (land_of world.old) }
-    ensures done { OnOk result (land_of world.new ≡ ticked (kinds_of kinds.now) (done + 1) (number_sets edits.now) (land_of world.old)) }
-    ensures count { IfOk result (λ count. count ≡ tick_count (kinds_of kinds.now) (done + 1) (number_sets edits.now) (land_of world.old)) }
-    ensures schedule { OnOk result (IsAfterTicks (done + 1) schedule.new.from schedule.new.next edits.now (land_of world.new)) }
+    requires schedule { IsAfterTicks done schedule.old.from schedule.old.next edits.now
+        (land_of world.old) }
+    ensures done { OnOk result (land_of world.new ≡ ticked (kinds_of kinds.now) (done + 1)
+        (number_sets edits.now) (land_of world.old)) }
+    ensures count { IfOk result (λ count. count ≡ tick_count (kinds_of kinds.now) (done + 1)
+        (number_sets edits.now) (land_of world.old)) }
+    ensures schedule { OnOk result (IsAfterTicks (done + 1) schedule.new.from schedule.new.next
+        edits.now (land_of world.new)) }
     ensures ready { OnOk result (IsReady (kind_count kinds.now) world.new) }
     ensures place { OnOk result (IsSamePlace world.old world.new) }
     ensures broken { OnErr result (is_broken world.new ≡ true) }
@@ -128,8 +134,10 @@ fn run_sorted<F: Fn(&mut World, u32, &[Edit]) -> Result<u64, Fault>>(
     requires sound { is_broken world.old ≡ false }
     requires edits { All (CanApply (kind_count kinds.now) world.old) edits.now }
     requires sorted { IsNonDecreasingBy tick_of edits.now }
-    ensures done { OnOk result (land_of world.new ≡ run (kinds_of kinds.now) (number_sets edits.now) n (land_of world.old)) }
-    ensures count { IfOk result (λ total. total ≡ run_count (kinds_of kinds.now) (number_sets edits.now) n (land_of world.old)) }
+    ensures done { OnOk result (land_of world.new ≡ run (kinds_of kinds.now)
+        (number_sets edits.now) n (land_of world.old)) }
+    ensures count { IfOk result (λ total. total ≡ run_count (kinds_of kinds.now)
+        (number_sets edits.now) n (land_of world.old)) }
     ensures ready { OnOk result (IsReady (kind_count kinds.now) world.new) }
     ensures place { OnOk result (IsSamePlace world.old world.new) }
     ensures broken { OnErr result (is_broken world.new ≡ true) }
@@ -161,9 +169,12 @@ pub fn run_ticks_with<F: Fn(&mut World, u32, &[Edit]) -> Result<u64, Fault>>(
     requires accepts { AcceptsTicks kinds.now (F.pre tick.now) }
     requires takes { TakesTicks kinds.now (F.post tick.now) }
     requires ready { is_broken world.old ≡ false → IsReady (kind_count kinds.now) world.old }
-    requires edits { is_broken world.old ≡ false → All (CanApply (kind_count kinds.now) world.old) edits.now }
-    ensures done { OnOk result (land_of world.new ≡ run (kinds_of kinds.now) (number_sets edits.now) n (land_of world.old)) }
-    ensures count { IfOk result (λ total. total ≡ run_count (kinds_of kinds.now) (number_sets edits.now) n (land_of world.old)) }
+    requires edits { is_broken world.old ≡ false → All
+        (CanApply (kind_count kinds.now) world.old) edits.now }
+    ensures done { OnOk result (land_of world.new ≡ run (kinds_of kinds.now)
+        (number_sets edits.now) n (land_of world.old)) }
+    ensures count { IfOk result (λ total. total ≡ run_count (kinds_of kinds.now)
+        (number_sets edits.now) n (land_of world.old)) }
     ensures ready { OnOk result (IsReady (kind_count kinds.now) world.new) }
     ensures place { OnOk result (IsSamePlace world.old world.new) }
     ensures sound { OnOk result (is_broken world.old ≡ false) }
@@ -190,9 +201,12 @@ pub fn run_ticks(
     n: u32,
 ) -> Result<u128, Fault>
     requires ready { is_broken world.old ≡ false → IsReady (kind_count kinds.now) world.old }
-    requires edits { is_broken world.old ≡ false → All (CanApply (kind_count kinds.now) world.old) edits.now }
-    ensures done { OnOk result (land_of world.new ≡ run (kinds_of kinds.now) (number_sets edits.now) n (land_of world.old)) }
-    ensures count { IfOk result (λ total. total ≡ run_count (kinds_of kinds.now) (number_sets edits.now) n (land_of world.old)) }
+    requires edits { is_broken world.old ≡ false → All
+        (CanApply (kind_count kinds.now) world.old) edits.now }
+    ensures done { OnOk result (land_of world.new ≡ run (kinds_of kinds.now)
+        (number_sets edits.now) n (land_of world.old)) }
+    ensures count { IfOk result (λ total. total ≡ run_count (kinds_of kinds.now)
+        (number_sets edits.now) n (land_of world.old)) }
     ensures ready { OnOk result (IsReady (kind_count kinds.now) world.new) }
     ensures place { OnOk result (IsSamePlace world.old world.new) }
     ensures sound { OnOk result (is_broken world.old ≡ false) }

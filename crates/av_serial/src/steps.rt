@@ -25,7 +25,8 @@ pub(crate) fn set_block(
 ) -> Result<(), AllocError>
     requires ready { IsReady (kind_count kinds.now) world.old }
     requires edit { CanApply (kind_count kinds.now) world.old edit.now }
-    ensures done { OnOk result (land_of world.new ≡ set_in (kinds_of kinds.now) now edit.now.pos edit.now.number (land_of world.old)) }
+    ensures done { OnOk result (land_of world.new ≡ set_in
+        (kinds_of kinds.now) now edit.now.pos edit.now.number (land_of world.old)) }
     ensures undone { OnErr result (land_of world.new ≡ land_of world.old) }
     ensures kept { OnErr result (IsStillPrepared world.old world.new) }
     ensures ready { IsReady (kind_count kinds.now) world.new }
@@ -45,8 +46,10 @@ pub(crate) fn set_block(
 /// room for no fewer entries.
 pub fn apply(world: &mut World, kinds: &Kinds, now: u32, edit: &Edit) -> Result<(), Fault>
     requires ready { is_broken world.old ≡ false → IsReady (kind_count kinds.now) world.old }
-    requires edit { is_broken world.old ≡ false → CanApply (kind_count kinds.now) world.old edit.now }
-    ensures done { OnOk result (land_of world.new ≡ set_in (kinds_of kinds.now) now edit.now.pos edit.now.number (land_of world.old)) }
+    requires edit { is_broken world.old ≡ false → CanApply
+        (kind_count kinds.now) world.old edit.now }
+    ensures done { OnOk result (land_of world.new ≡ set_in
+        (kinds_of kinds.now) now edit.now.pos edit.now.number (land_of world.old)) }
     ensures undone { OnErr result (land_of world.new ≡ land_of world.old) }
     ensures kept { OnErr result (IsStillPrepared world.old world.new) }
     ensures ready { is_broken world.old ≡ false → IsReady (kind_count kinds.now) world.new }
@@ -70,7 +73,8 @@ pub(crate) fn turn_block(
 ) -> Result<(), AllocError>
     requires ready { IsReady (kind_count kinds.now) world.old }
     requires loaded { IsTrue ((blocks world.old).loaded pos) }
-    ensures done { OnOk result (land_of world.new ≡ turned (kinds_of kinds.now) now pos (land_of world.old)) }
+    ensures done { OnOk result (land_of world.new ≡ turned (kinds_of kinds.now) now pos
+        (land_of world.old)) }
     ensures undone { OnErr result (land_of world.new ≡ land_of world.old) }
     ensures ready { IsReady (kind_count kinds.now) world.new }
     ensures place { IsSamePlace world.old world.new }

@@ -31,8 +31,10 @@ pub fn turn_all(
 ) -> Result<(), AllocError>
     requires ready { IsReady (kind_count kinds.now) world.old }
     requires loaded { list_all (λ e. (blocks world.old).loaded e.pos) entries.now ≡ true }
-    ensures done { OnOk result (land_of world.new ≡ turned_all (kinds_of kinds.now) now entries.now (land_of world.old)) }
-    ensures begun { OnErr result (AreTurnsBegun (kinds_of kinds.now) now entries.now (land_of world.old) (land_of world.new)) }
+    ensures done { OnOk result (land_of world.new ≡ turned_all (kinds_of kinds.now) now entries.now
+        (land_of world.old)) }
+    ensures begun { OnErr result (AreTurnsBegun (kinds_of kinds.now) now entries.now
+        (land_of world.old) (land_of world.new)) }
     ensures ready { IsReady (kind_count kinds.now) world.new }
     ensures place { IsSamePlace world.old world.new }
 {
@@ -46,7 +48,9 @@ pub fn turn_all(
 fn apply_now(world: &mut World, kinds: &Kinds, now: u32, edit: &Edit) -> Result<(), AllocError>
     requires ready { IsReady (kind_count kinds.now) world.old }
     requires edit { CanApply (kind_count kinds.now) world.old edit.now }
-    ensures done { OnOk result (land_of world.new ≡ (if nat_eq edit.now.tick now then set_in (kinds_of kinds.now) now edit.now.pos edit.now.number (land_of world.old) else land_of world.old)) }
+    ensures done { OnOk result (land_of world.new ≡
+        (if nat_eq edit.now.tick now then set_in (kinds_of kinds.now) now edit.now.pos
+        edit.now.number (land_of world.old) else land_of world.old)) }
     ensures undone { OnErr result (land_of world.new ≡ land_of world.old) }
     ensures ready { IsReady (kind_count kinds.now) world.new }
     ensures place { IsSamePlace world.old world.new }
@@ -66,8 +70,10 @@ pub fn apply_all(world: &mut World, kinds: &Kinds, now: u32, edits: &[Edit]) -> 
     requires ready { IsReady (kind_count kinds.now) world.old }
     requires sound { is_broken world.old ≡ false }
     requires edits { All (CanApply (kind_count kinds.now) world.old) edits.now }
-    ensures done { OnOk result (land_of world.new ≡ edited (kinds_of kinds.now) now (number_sets edits.now) (land_of world.old)) }
-    ensures begun { OnErr result (AreEditsBegun (kinds_of kinds.now) now edits.now (land_of world.old) (land_of world.new)) }
+    ensures done { OnOk result (land_of world.new ≡ edited (kinds_of kinds.now) now
+        (number_sets edits.now) (land_of world.old)) }
+    ensures begun { OnErr result (AreEditsBegun (kinds_of kinds.now) now edits.now
+        (land_of world.old) (land_of world.new)) }
     ensures ready { IsReady (kind_count kinds.now) world.new }
     ensures place { IsSamePlace world.old world.new }
     ensures memory { IfErr result (λ e. e ≡ OutOfMemory) }
@@ -82,7 +88,8 @@ pub fn apply_all(world: &mut World, kinds: &Kinds, now: u32, edits: &[Edit]) -> 
 fn turn_due(world: &mut World, kinds: &Kinds, now: u32) -> Result<u64, AllocError>
     requires ready { IsReady (kind_count kinds.now) world.old }
     requires sound { is_broken world.old ≡ false }
-    ensures done { OnOk result (land_of world.new ≡ turned_all (kinds_of kinds.now) now (due_entries now (land_of world.old)) (without_due now (land_of world.old))) }
+    ensures done { OnOk result (land_of world.new ≡ turned_all (kinds_of kinds.now) now
+        (due_entries now (land_of world.old)) (without_due now (land_of world.old))) }
     ensures count { IfOk result (λ n. n ≡ length (due_entries now (land_of world.old))) }
     ensures ready { IsReady (kind_count kinds.now) world.new }
     ensures place { IsSamePlace world.old world.new }
@@ -99,8 +106,10 @@ fn work(world: &mut World, kinds: &Kinds, now: u32, edits: &[Edit]) -> Result<u6
     requires ready { IsReady (kind_count kinds.now) world.old }
     requires sound { is_broken world.old ≡ false }
     requires edits { All (CanApply (kind_count kinds.now) world.old) edits.now }
-    ensures done { OnOk result (land_of world.new ≡ ticked (kinds_of kinds.now) now (number_sets edits.now) (land_of world.old)) }
-    ensures count { IfOk result (λ n. n ≡ tick_count (kinds_of kinds.now) now (number_sets edits.now) (land_of world.old)) }
+    ensures done { OnOk result (land_of world.new ≡ ticked (kinds_of kinds.now) now
+        (number_sets edits.now) (land_of world.old)) }
+    ensures count { IfOk result (λ n. n ≡ tick_count (kinds_of kinds.now) now
+        (number_sets edits.now) (land_of world.old)) }
     ensures ready { IsReady (kind_count kinds.now) world.new }
     ensures place { IsSamePlace world.old world.new }
 {
@@ -117,9 +126,12 @@ fn work(world: &mut World, kinds: &Kinds, now: u32, edits: &[Edit]) -> Result<u6
 /// `Broken` of a broken world, which stays as it is. `OutOfMemory`, and then the world is broken.
 pub fn tick(world: &mut World, kinds: &Kinds, now: u32, edits: &[Edit]) -> Result<u64, Fault>
     requires ready { is_broken world.old ≡ false → IsReady (kind_count kinds.now) world.old }
-    requires edits { is_broken world.old ≡ false → All (CanApply (kind_count kinds.now) world.old) edits.now }
-    ensures done { OnOk result (land_of world.new ≡ ticked (kinds_of kinds.now) now (number_sets edits.now) (land_of world.old)) }
-    ensures count { IfOk result (λ n. n ≡ tick_count (kinds_of kinds.now) now (number_sets edits.now) (land_of world.old)) }
+    requires edits { is_broken world.old ≡ false → All
+        (CanApply (kind_count kinds.now) world.old) edits.now }
+    ensures done { OnOk result (land_of world.new ≡ ticked (kinds_of kinds.now) now
+        (number_sets edits.now) (land_of world.old)) }
+    ensures count { IfOk result (λ n. n ≡ tick_count (kinds_of kinds.now) now
+        (number_sets edits.now) (land_of world.old)) }
     ensures ready { OnOk result (IsReady (kind_count kinds.now) world.new) }
     ensures place { OnOk result (IsSamePlace world.old world.new) }
     ensures sound { OnOk result (is_broken world.old ≡ false) }

@@ -34,7 +34,8 @@ fn with_names<'a>(alloc: Global, files: &'a [RegionFile]) -> Result<Vec<Named<'a
 fn hand_over<S: Sink>(sink: &mut S, file: Named<'_>) -> Result<(), Fault>
     requires failures { (S.account sink.old).failures < 2 ^ 64 - 1 }
     requires handed { (S.account sink.old).handed < 2 ^ 64 - 1 }
-    ensures ok { OnOk result (S.account sink.new ≡ with_files (S.account sink.old) (entry_of file.entry ∷ [])) }
+    ensures ok { OnOk result (S.account sink.new ≡ with_files (S.account sink.old)
+        (entry_of file.entry ∷ [])) }
     ensures failed { OnErr result (S.account sink.new ≡ with_failure (S.account sink.old)) }
     ensures named { IfErr result (IsDevice (entry_of file.entry).name) }
 {
@@ -67,8 +68,10 @@ fn hand_over_all<S: Sink, T: Teller>(
 ) -> Result<(), Fault>
     requires failures { (S.account sink.old).failures < 2 ^ 64 - 1 }
     requires handed { (S.account sink.old).handed + length all.items ≤ 2 ^ 64 - 1 }
-    ensures ok { OnOk result (S.account sink.new ≡ with_files (S.account sink.old) (map entry_of all.entry.items)) }
-    ensures err { IfErr result (IsStopped (S.account sink.old) (S.account sink.new) (map entry_of all.entry.items)) }
+    ensures ok { OnOk result (S.account sink.new ≡ with_files (S.account sink.old)
+        (map entry_of all.entry.items)) }
+    ensures err { IfErr result (IsStopped (S.account sink.old) (S.account sink.new)
+        (map entry_of all.entry.items)) }
 {
     let count = all.len();
     let mut done: usize = 0;
@@ -93,8 +96,10 @@ pub fn save_all<S: Sink, T: Teller>(
 ) -> Result<(), Fault>
     requires failures { (S.account sink.old).failures < 2 ^ 64 - 1 }
     requires handed { (S.account sink.old).handed + length files.now ≤ 2 ^ 64 - 1 }
-    ensures ok { OnOk result (S.account sink.new ≡ with_files (S.account sink.old) (map named_file files.now)) }
-    ensures err { IfErr result (IsStopped (S.account sink.old) (S.account sink.new) (map named_file files.now)) }
+    ensures ok { OnOk result (S.account sink.new ≡ with_files (S.account sink.old)
+        (map named_file files.now)) }
+    ensures err { IfErr result (IsStopped (S.account sink.old) (S.account sink.new)
+        (map named_file files.now)) }
 {
     let all = with_names(alloc, files)?;
     hand_over_all(sink, all, teller)

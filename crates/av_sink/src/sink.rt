@@ -31,7 +31,8 @@ pub trait Sink {
     fn write_file(&mut self, name: &str, bytes: &[u8]) -> Result<(), SinkFailed>
         requires failures { (account self.old).failures < 2 ^ 64 - 1 }
         requires handed { (account self.old).handed < 2 ^ 64 - 1 }
-        ensures ok { OnOk result (account self.new ≡ with_files (account self.old) (file_named name.now bytes.now ∷ [])) }
+        ensures ok { OnOk result (account self.new
+            ≡ with_files (account self.old) (file_named name.now bytes.now ∷ [])) }
         ensures err { OnErr result (account self.new ≡ with_failure (account self.old)) };
 }
 
@@ -58,13 +59,15 @@ pub trait OutputFolder: Sink {
     /// Errors: only want of memory.
     fn open(&mut self, folder: &str) -> Result<(), AllocError>
         requires unopened { (Self.account self.old).folder ≡ None }
-        ensures ok { OnOk result (Self.account self.new ≡ in_folder folder.now (Self.account self.old)) }
+        ensures ok { OnOk result (Self.account self.new
+            ≡ in_folder folder.now (Self.account self.old)) }
         ensures err { OnErr result (Self.account self.new ≡ Self.account self.old) };
 
     /// Finishes a run of that folder that was cut off while its files took their places, which is told, and takes away what one left that
     /// was cut off before.
     fn repair<T: Teller>(&mut self, teller: &T) -> Result<Repair, SinkFailed>
-        ensures ok { IfOk result (λ r. Self.account self.new ≡ with_repair r (Self.account self.old)) }
+        ensures ok { IfOk result (λ r. Self.account self.new
+            ≡ with_repair r (Self.account self.old)) }
         ensures err { OnErr result (Self.account self.new ≡ Self.account self.old) };
 
     /// Lets the region files that were taken take their places. Until `close` a call that is cut off is finished by the next.

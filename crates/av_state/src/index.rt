@@ -83,8 +83,10 @@ impl Index {
     pub(crate) fn find<T: Sought>(&self, states: &[State], sought: &T) -> Option<u16>
         requires index { IsIndex (map state_of states.now) self.now }
         requires few { length states.now ≤ 65535 }
-        ensures there { IfSome result (λ n. slice_get (map state_of states.now) n ≡ Some (T.sought sought.now)) }
-        ensures absent { IfNone result (number_in (map state_of states.now) (T.sought sought.now) ≡ None) }
+        ensures there { IfSome result (λ n. slice_get (map state_of states.now) n
+            ≡ Some (T.sought sought.now)) }
+        ensures absent { IfNone result (number_in (map state_of states.now) (T.sought sought.now)
+            ≡ None) }
     {
         let fingerprint = sought.fingerprint();
         let first = self.slots.told(fingerprint);
@@ -109,7 +111,9 @@ impl Index {
     ) -> Result<usize, usize>
         requires index { IsIndex (map state_of states.now) self.now }
         requires fingerprint { fingerprint ≡ fingerprint_of (T.sought sought.now) }
-        ensures { MatchResult result (IsPlaceWith (map state_of states.now) (T.sought sought.now) self.now.order.items) (IsPlaceOf (map state_of states.now) (T.sought sought.now) self.now.order.items) }
+        ensures { MatchResult result (IsPlaceWith (map state_of states.now)
+            (T.sought sought.now) self.now.order.items) (IsPlaceOf (map state_of states.now)
+            (T.sought sought.now) self.now.order.items) }
     {
         self.order.as_slice().binary_search_by(|number| {
             self.stands(states, *number, fingerprint, sought)
@@ -124,7 +128,8 @@ impl Index {
         fingerprint: u64,
         sought: &T,
     ) -> Ordering
-        ensures { result ≡ compared self.now.fingerprints.items (map state_of states.now) fingerprint (T.sought sought.now) number }
+        ensures { result ≡ compared self.now.fingerprints.items
+            (map state_of states.now) fingerprint (T.sought sought.now) number }
     {
         let place = number as usize;
         match (self.fingerprints.get(place), states.get(place)) {
@@ -145,8 +150,10 @@ impl Index {
         requires is_new { number_in (map state_of states.old.items) (state_of state) ≡ None }
         requires room { length states.old.items < 65535 }
         ensures index { IsIndex (map state_of states.new.items) self.new }
-        ensures ok { OnOk result (map state_of states.new.items ≡ map state_of states.old.items ++ state_of state ∷ []) }
-        ensures unchanged { OnErr result (map state_of states.new.items ≡ map state_of states.old.items) }
+        ensures ok { OnOk result (map state_of states.new.items
+            ≡ map state_of states.old.items ++ state_of state ∷ []) }
+        ensures unchanged { OnErr result (map state_of states.new.items
+            ≡ map state_of states.old.items) }
     {
         let fingerprint = state.fingerprint();
         states.reserve(1)?;
@@ -164,7 +171,8 @@ impl Index {
         requires fingerprint { fingerprint ≡ fingerprint_of (state_of state.now) }
         requires is_new { number_in (map state_of states.now) (state_of state.now) ≡ None }
         requires room { length states.now < 65535 }
-        ensures ok { OnOk result (FindsStates (map state_of states.now ++ state_of state.now ∷ []) (self.new.fingerprints.items ++ fingerprint ∷ []) self.new.slots self.new.order.items) }
+        ensures ok { OnOk result (FindsStates (map state_of states.now ++ state_of state.now ∷ [])
+            (self.new.fingerprints.items ++ fingerprint ∷ []) self.new.slots self.new.order.items) }
         ensures unchanged { OnErr result (IsIndex (map state_of states.now) self.new) }
         ensures fingerprints { self.new.fingerprints ≡ self.old.fingerprints }
     {
@@ -183,7 +191,8 @@ impl Index {
         requires index { IsIndex (map state_of states.old.items) self.old }
         requires room { length states.old.items < 65535 }
         ensures index { IsIndex (map state_of states.new.items) self.new }
-        ensures ok { OnOk result (map state_of states.new.items ≡ with_state (map state_of states.old.items) (state_of state)) }
+        ensures ok { OnOk result (map state_of states.new.items
+            ≡ with_state (map state_of states.old.items) (state_of state)) }
     {
         match self.find(states.as_slice(), &state) {
             Some(_) => Ok(()),
@@ -194,8 +203,10 @@ impl Index {
 
 /// Whether a number is that of a state.
 fn has_number<T: Sought>(states: &[State], number: u16, sought: &T) -> bool
-    ensures yes { result ≡ true → slice_get (map state_of states.now) number ≡ Some (T.sought sought.now) }
-    ensures no { result ≡ false → slice_get (map state_of states.now) number ≢ Some (T.sought sought.now) }
+    ensures yes { result ≡ true → slice_get (map state_of states.now) number
+        ≡ Some (T.sought sought.now) }
+    ensures no { result ≡ false → slice_get (map state_of states.now) number
+        ≢ Some (T.sought sought.now) }
 {
     match states.get(number as usize) {
         Some(state) => sought.is(state),

@@ -313,7 +313,8 @@ fn keys_rise(properties: &[Property]) -> bool
 
 /// Whether a name and properties in order are a state that a file can hold.
 fn is_storable(name: &[u8], properties: &[Property]) -> bool
-    ensures { result ≡ is_storable (record { name = name.now; properties = properties_of properties.now }) }
+    ensures { result ≡ is_storable (record { name = name.now;
+        properties = properties_of properties.now }) }
 {
     is_short(name) && are_short(properties) && keys_rise(properties)
 }
@@ -350,7 +351,8 @@ fn capped_level(index: Option<usize>) -> Option<u16>
 
 /// Appends a property as text, after the bytes that stand before it.
 fn write_property(text: &mut Vec<u8>, before: &[u8], property: &Property) -> Result<(), AllocError>
-    ensures { OnOk result (text.new.items ≡ text.old.items ++ (before.now ++ property_text (property_of property.now))) }
+    ensures { OnOk result (text.new.items ≡ text.old.items
+        ++ (before.now ++ property_text (property_of property.now))) }
 {
     text.extend_from_slice(before)?;
     text.extend_from_slice(property.key.as_slice())?;
@@ -360,7 +362,8 @@ fn write_property(text: &mut Vec<u8>, before: &[u8], property: &Property) -> Res
 
 /// Appends further properties, each after a comma.
 fn write_more(text: &mut Vec<u8>, properties: &[Property]) -> Result<(), AllocError>
-    ensures { OnOk result (text.new.items ≡ text.old.items ++ more_text (properties_of properties.now)) }
+    ensures { OnOk result (text.new.items ≡ text.old.items
+        ++ more_text (properties_of properties.now)) }
 {
     for property in properties {
         write_property(text, b",", property)?;

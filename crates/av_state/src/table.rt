@@ -77,8 +77,10 @@ impl StateTable {
 
     /// The number of a state in the form that it takes when it is read, where it has such a form and that is there.
     pub fn number_of(&self, state: &State) -> Option<u16>
-        ensures value { result ≡ option_and_then (number_in (states self.now)) (meant (state_of state.now)) }
-        ensures there { IfSome result (λ n. slice_get (states self.now) n ≡ meant (state_of state.now)) }
+        ensures value { result ≡ option_and_then (number_in (states self.now))
+            (meant (state_of state.now)) }
+        ensures there { IfSome result (λ n. slice_get (states self.now) n
+            ≡ meant (state_of state.now)) }
     {
         match state.form() {
             Form::Fixed(number) => Some(number),
@@ -111,7 +113,8 @@ impl StateTable {
 
     /// The number of a state whose texts stand elsewhere, as `number_of_texts` answers it.
     fn number_of_text(&self, state: StateText<'_>) -> Option<u16>
-        ensures { result ≡ option_and_then (number_in (states self.now)) (option_and_then meant (storable (state_told state.entry))) }
+        ensures { result ≡ option_and_then (number_in (states self.now))
+            (option_and_then meant (storable (state_told state.entry))) }
     {
         if !state.is_storable() {
             return None;
@@ -143,11 +146,15 @@ impl StateTable {
     /// Refuses water whose level is not 0 to 15 with `BadWaterLevel`, a new state beside 65,535 others with
     /// `TooManyStates`, and a growth that was refused with `OutOfMemory`. After a refusal the table is as it was.
     pub fn intern(&mut self, state: &State) -> Result<u16, Fault>
-        ensures ok { IfOk result (Numbers (states self.old) (state_of state.now) (states self.new)) }
+        ensures ok { IfOk result (Numbers (states self.old) (state_of state.now)
+            (states self.new)) }
         ensures no_level { (result ≡ Err BadWaterLevel) ↔ (meant (state_of state.now) ≡ None) }
-        ensures too_many { (result ≡ Err TooManyStates) ↔ IsOneTooMany (states self.old) (state_of state.now) }
-        ensures memory { IfErr result (λ e. e ≢ BadWaterLevel → e ≢ TooManyStates → e ≡ OutOfMemory) }
-        ensures of_new { IfErr result (λ e. e ≡ OutOfMemory → IsNew (states self.old) (state_of state.now)) }
+        ensures too_many { (result ≡ Err TooManyStates)
+            ↔ IsOneTooMany (states self.old) (state_of state.now) }
+        ensures memory { IfErr result (λ e. e ≢ BadWaterLevel → e ≢ TooManyStates
+            → e ≡ OutOfMemory) }
+        ensures of_new { IfErr result (λ e. e ≡ OutOfMemory
+            → IsNew (states self.old) (state_of state.now)) }
         ensures unchanged { OnErr result (states self.new ≡ states self.old) }
     {
         match state.form() {
@@ -164,7 +171,8 @@ impl StateTable {
     fn add(&mut self, state: &State) -> Result<u16, Fault>
         requires same { meant (state_of state.now) ≡ Some (state_of state.now) }
         requires is_new { number_in (states self.old) (state_of state.now) ≡ None }
-        ensures ok { IfOk result (Numbers (states self.old) (state_of state.now) (states self.new)) }
+        ensures ok { IfOk result (Numbers (states self.old) (state_of state.now)
+            (states self.new)) }
         ensures too_many { (result ≡ Err TooManyStates) ↔ (length (states self.old) ≡ most_states) }
         ensures memory { IfErr result (λ e. e ≢ TooManyStates → e ≡ OutOfMemory) }
         ensures unchanged { OnErr result (states self.new ≡ states self.old) }

@@ -67,7 +67,8 @@ fn tells(text: PropertyText<'_>, property: &Property) -> bool
 
 /// Whether the texts are those of properties, one by one.
 fn all_tell(texts: &[PropertyText<'_>], properties: &[Property]) -> bool
-    ensures { result ≡ pointwise same_property (properties_told texts.now) (properties_of properties.now) }
+    ensures { result ≡ pointwise same_property (properties_told texts.now)
+        (properties_of properties.now) }
 {
     if texts.len() != properties.len() {
         return false;
@@ -92,7 +93,8 @@ fn order_of_property(stored: &Property, sought: PropertyText<'_>) -> Ordering
 
 /// How properties stand to those whose texts stand elsewhere.
 fn order_of_properties(stored: &[Property], sought: &[PropertyText<'_>]) -> Ordering
-    ensures { result ≡ slice_cmp property_cmp (properties_of stored.now) (properties_told sought.now) }
+    ensures { result ≡ slice_cmp property_cmp (properties_of stored.now)
+        (properties_told sought.now) }
 {
     for index in 0..stored.len() {
         if index == sought.len() {

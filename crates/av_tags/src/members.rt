@@ -38,11 +38,14 @@ pub fn find<'a>(tags: &'a [Named], name: &[u8]) -> Option<&'a Tag>
 /// Puts a tag where the first of its name stood, or last where there was none, and hands out the one that stood there.
 /// Refuses with `OutOfMemory` alone, and then the tags are as before. A tag that takes another's place takes no memory.
 pub fn exchange(tags: &mut Vec<Named>, named: Named) -> Result<Option<Tag>, Fault>
-    ensures placed { OnOk result (IsWithTag (named_view named) (named_views tags.old.items) (named_views tags.new.items)) }
-    ensures before { IfOk result (λ t. option_map view t ≡ tag_of (named_view named).name (named_views tags.old.items)) }
+    ensures placed { OnOk result (IsWithTag (named_view named) (named_views tags.old.items)
+        (named_views tags.new.items)) }
+    ensures before { IfOk result (λ t. option_map view t
+        ≡ tag_of (named_view named).name (named_views tags.old.items)) }
     ensures err { OnErr result (tags.new.items ≡ tags.old.items) }
     ensures memory { IfErr result (λ e. e ≡ OutOfMemory) }
-    ensures absent { OnErr result (tag_of (named_view named).name (named_views tags.old.items) ≡ None) }
+    ensures absent { OnErr result (tag_of (named_view named).name (named_views tags.old.items)
+        ≡ None) }
     ensures full { OnErr result (vec_capacity tags.old ≤ vec_len tags.old) }
 {
     match index_of(tags, named.name.as_slice()) {
@@ -60,10 +63,12 @@ pub fn exchange(tags: &mut Vec<Named>, named: Named) -> Result<Option<Tag>, Faul
 /// Puts a tag where the first of its name stood, or last where there was none.
 /// Refuses with `OutOfMemory` alone, and then the tags are as before. A tag that takes another's place takes no memory.
 pub fn put(tags: &mut Vec<Named>, named: Named) -> Result<(), Fault>
-    ensures placed { OnOk result (IsWithTag (named_view named) (named_views tags.old.items) (named_views tags.new.items)) }
+    ensures placed { OnOk result (IsWithTag (named_view named) (named_views tags.old.items)
+        (named_views tags.new.items)) }
     ensures err { OnErr result (tags.new.items ≡ tags.old.items) }
     ensures memory { IfErr result (λ e. e ≡ OutOfMemory) }
-    ensures absent { OnErr result (tag_of (named_view named).name (named_views tags.old.items) ≡ None) }
+    ensures absent { OnErr result (tag_of (named_view named).name (named_views tags.old.items)
+        ≡ None) }
     ensures full { OnErr result (vec_capacity tags.old ≤ vec_len tags.old) }
 {
     exchange(tags, named)?;

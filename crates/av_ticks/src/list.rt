@@ -135,8 +135,10 @@ impl TickList {
     /// Appends an entry, unless its position is pending, and answers whether it did: false leaves the list as it was.
     /// Refuses with OutOfMemory alone, and then the list is as it was.
     pub fn add(&mut self, entry: Entry) -> Result<bool, Fault>
-        ensures added { IfOk result (λ added. added ≡ not (is_pending entry.pos (entries self.old))) }
-        ensures entries { IfOk result (λ added. entries self.new ≡ (if added then entries self.old ++ entry ∷ [] else entries self.old)) }
+        ensures added { IfOk result (λ added. added
+            ≡ not (is_pending entry.pos (entries self.old))) }
+        ensures entries { IfOk result (λ added. entries self.new
+            ≡ (if added then entries self.old ++ entry ∷ [] else entries self.old)) }
         ensures memory { IfErr result (λ e. e ≡ OutOfMemory) }
         ensures unchanged { OnErr result (entries self.new ≡ entries self.old) }
 
@@ -193,7 +195,8 @@ impl TickList {
     /// The entries that are due in tick `now` or before it, by their time, then by their priority, the lower first,
     /// then by their place in the list. They stay in it. Refuses with OutOfMemory alone, and of an empty list never.
     pub fn take_due(&self, now: u32) -> Result<Vec<Entry>, Fault>
-        ensures ok { IfOk result (λ due. due.items ≡ ordered due_order (filter (is_due now) (entries self.now))) }
+        ensures ok { IfOk result (λ due. due.items
+            ≡ ordered due_order (filter (is_due now) (entries self.now))) }
         ensures memory { IfErr result (λ e. e ≡ OutOfMemory) }
         ensures empty { entries self.now ≡ [] → IsOk result }
     {

@@ -34,7 +34,8 @@ fn concatenated(alloc: Global, parts: &[Vec<Made>]) -> Result<Vec<Made>, AllocEr
 /// All entries of the lists, each as often as it is there, by the place of their maker and then by their number.
 /// Refuses with OutOfMemory alone, and where there is nothing never.
 pub fn merge_made(alloc: Global, parts: &[Vec<Made>]) -> Result<Vec<Made>, Fault>
-    ensures ok { IfOk result (λ all. all.items ≡ ordered made_order (flat_map (λ part. part.items) parts.now)) }
+    ensures ok { IfOk result (λ all. all.items ≡ ordered made_order
+        (flat_map (λ part. part.items) parts.now)) }
     ensures memory { IfErr result (λ e. e ≡ OutOfMemory) }
     ensures nothing { flat_map (λ part. part.items) parts.now ≡ [] → IsOk result }
 {

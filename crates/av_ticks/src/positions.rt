@@ -45,8 +45,10 @@ fn own_key(pos: Pos) -> SectionKey
 
 /// Marks a place of a section that is there. Answers whether it is.
 fn mark(sections: &mut Sections, key: SectionKey, place: Place) -> bool
-    ensures here { result ≡ true → (i : ℕ) → marked_in sections.new key i ≡ (i == place.index || marked_in sections.old key i) }
-    ensures others { result ≡ true → (q : SectionKey) → is_at (key_cmp key) q ≡ false → get key_cmp sections.new q ≡ get key_cmp sections.old q }
+    ensures here { result ≡ true → (i : ℕ) → marked_in sections.new key i
+        ≡ (i == place.index || marked_in sections.old key i) }
+    ensures others { result ≡ true → (q : SectionKey) → is_at (key_cmp key) q ≡ false
+        → get key_cmp sections.new q ≡ get key_cmp sections.old q }
     ensures absent { result ≡ false → get key_cmp sections.old key ≡ None }
     ensures same { result ≡ false → sections.new.entries ≡ sections.old.entries }
 {
@@ -59,8 +61,10 @@ fn mark(sections: &mut Sections, key: SectionKey, place: Place) -> bool
 
 /// Takes the mark of a place of a section away.
 fn unmark(sections: &mut Sections, key: SectionKey, place: Place)
-    ensures here { (i : ℕ) → marked_in sections.new key i ≡ (marked_in sections.old key i && not (i == place.index)) }
-    ensures others { (q : SectionKey) → is_at (key_cmp key) q ≡ false → get key_cmp sections.new q ≡ get key_cmp sections.old q }
+    ensures here { (i : ℕ) → marked_in sections.new key i
+        ≡ (marked_in sections.old key i && not (i == place.index)) }
+    ensures others { (q : SectionKey) → is_at (key_cmp key) q ≡ false
+        → get key_cmp sections.new q ≡ get key_cmp sections.old q }
 {
     if let Some(places) = sections.get_mut(&key) {
         places.remove(place);
@@ -70,8 +74,10 @@ fn unmark(sections: &mut Sections, key: SectionKey, place: Place)
 /// Puts in a section that is not there, with one place.
 fn add_section(sections: &mut Sections, key: SectionKey, place: Place) -> Result<(), AllocError>
     requires absent { get key_cmp sections.old key ≡ None }
-    ensures here { OnOk result ((i : ℕ) → marked_in sections.new key i ≡ (i == place.index || marked_in sections.old key i)) }
-    ensures others { OnOk result ((q : SectionKey) → is_at (key_cmp key) q ≡ false → get key_cmp sections.new q ≡ get key_cmp sections.old q) }
+    ensures here { OnOk result ((i : ℕ) → marked_in sections.new key i
+        ≡ (i == place.index || marked_in sections.old key i)) }
+    ensures others { OnOk result ((q : SectionKey) → is_at (key_cmp key) q ≡ false
+        → get key_cmp sections.new q ≡ get key_cmp sections.old q) }
     ensures err { OnErr result (sections.new.entries ≡ sections.old.entries) }
 {
     let mut first = PlaceSet::new();
@@ -102,7 +108,8 @@ impl Positions {
 
     /// Puts a position in. After a refusal all is as it was.
     pub(crate) fn put(&mut self, pos: Pos) -> Result<(), AllocError>
-        ensures ok { OnOk result ((q : Pos) → holds self.new q ≡ (same_pos q pos || holds self.old q)) }
+        ensures ok { OnOk result ((q : Pos) → holds self.new q
+            ≡ (same_pos q pos || holds self.old q)) }
         ensures err { OnErr result ((q : Pos) → holds self.new q ≡ holds self.old q) }
     {
         let key = own_key(pos);

@@ -43,9 +43,11 @@ fn has_entry(entries: &[Entry], pos: Pos) -> bool
 
 /// Puts an entry at the end.
 fn push(entries: &mut Vec<Entry>, entry: Entry) -> Result<(), AllocError>
-    ensures entries { entries.new.items ≡ (if is_ok result then entries.old.items ++ entry ∷ [] else entries.old.items) }
+    ensures entries { entries.new.items ≡ (if is_ok result then entries.old.items ++ entry ∷ []
+        else entries.old.items) }
     ensures succeeds { 0 < vec_capacity entries.old - vec_len entries.old → IsOk result }
-    ensures spare { vec_capacity entries.old - vec_len entries.old ≤ vec_capacity entries.new - vec_len entries.new + 1 }
+    ensures spare { vec_capacity entries.old - vec_len entries.old
+        ≤ vec_capacity entries.new - vec_len entries.new + 1 }
 {
     entries.push(entry)?;
     Ok(())
@@ -56,7 +58,8 @@ fn reserve_entries(entries: &mut Vec<Entry>, additional: usize) -> Result<(), Al
     ensures entries { entries.new.items ≡ entries.old.items }
     ensures ok { OnOk result (additional ≤ vec_capacity entries.new - vec_len entries.new) }
     ensures succeeds { additional ≤ vec_capacity entries.old - vec_len entries.old → IsOk result }
-    ensures room { vec_capacity entries.old - vec_len entries.old ≤ vec_capacity entries.new - vec_len entries.new }
+    ensures room { vec_capacity entries.old - vec_len entries.old
+        ≤ vec_capacity entries.new - vec_len entries.new }
 {
     entries.reserve(additional)?;
     Ok(())
@@ -66,7 +69,8 @@ fn reserve_entries(entries: &mut Vec<Entry>, additional: usize) -> Result<(), Al
 fn drop_entries(entries: &mut Vec<Entry>, now: u32)
     ensures entries { entries.new.items ≡ filter (λ e. not (is_due now e)) entries.old.items }
     ensures fewer { vec_len entries.new ≤ vec_len entries.old }
-    ensures room { vec_capacity entries.old - vec_len entries.old ≤ vec_capacity entries.new - vec_len entries.new }
+    ensures room { vec_capacity entries.old - vec_len entries.old
+        ≤ vec_capacity entries.new - vec_len entries.new }
 {
     let now = i64::from(now);
     entries.retain(
@@ -101,7 +105,8 @@ fn note(index: &mut Option<Positions>, entry: Entry)
 
 /// Takes the position of an entry out if it is due.
 fn forget_if_due(index: &mut Positions, entry: &Entry, now: u32)
-    ensures { (p : Pos) → holds index.new p ≡ (holds index.old p && not (is_due now entry.now && same_pos p entry.now.pos)) }
+    ensures { (p : Pos) → holds index.new p ≡ (holds index.old p
+        && not (is_due now entry.now && same_pos p entry.now.pos)) }
 {
     if entry.due <= i64::from(now) {
         index.take_out(entry.pos);
@@ -110,7 +115,8 @@ fn forget_if_due(index: &mut Positions, entry: &Entry, now: u32)
 
 /// Takes the positions of the entries that are due out.
 fn forget_all_due(index: &mut Positions, entries: &[Entry], now: u32)
-    ensures { (p : Pos) → holds index.new p ≡ (holds index.old p && not (is_pending p (filter (is_due now) entries.now))) }
+    ensures { (p : Pos) → holds index.new p ≡ (holds index.old p
+        && not (is_pending p (filter (is_due now) entries.now))) }
 {
     for entry in entries {
         forget_if_due(index, entry, now);
@@ -203,7 +209,8 @@ impl Store {
 
     /// Appends the entry of a position that is not pending.
     pub(crate) fn add(&mut self, entry: Entry) -> Result<(), AllocError>
-        ensures entries { stored self.new ≡ (if is_ok result then stored self.old ++ entry ∷ [] else stored self.old) }
+        ensures entries { stored self.new ≡ (if is_ok result then stored self.old ++ entry ∷ []
+            else stored self.old) }
         ensures succeeds { 0 < spare_in self.old → IsOk result }
         ensures spare { spare_in self.old ≤ spare_in self.new + 1 }
     {

@@ -49,7 +49,8 @@ fn set_planned_side<C: Cells>(
 )
     requires ready { IsReadyForTurn (kind_count kinds.now) (C.world cells.old) (C.room cells.old)
         (C.can_set cells.old) made.old.items pos 7 }
-    requires there { (n : ℕ) → plan ≡ Some n → IsTrue ((C.world cells.old).loaded (step pos direction)) }
+    requires there { (n : ℕ) → plan ≡ Some n → IsTrue
+        ((C.world cells.old).loaded (step pos direction)) }
     requires water { (n : ℕ) → plan ≡ Some n → n < 10 }
     ensures { IsTurnStep C.world C.lists C.site C.room C.can_set (kind_count kinds.now) pos 7
         (set_planned (kinds_of kinds.now) now (step pos direction) plan)

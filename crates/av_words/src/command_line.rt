@@ -217,7 +217,8 @@ fn program<'a>(alloc: Global) -> Result<Command<'a>, Error>
 
 /// The values of `block`, where each was given.
 fn block_words<'a>(matches: &ArgMatches<'a>) -> Option<Words<'a>>
-    ensures values { IfSome result (λ w. (name_of w ≡ codes "block") × HasValues (rows_of (found_of matches.now)) w) }
+    ensures values { IfSome result (λ w. (name_of w ≡ codes "block")
+        × HasValues (rows_of (found_of matches.now)) w) }
     ensures none { IfNone result (LacksBlock (rows_of (found_of matches.now))) }
 {
     let file = text_of(matches, "FILE")?;
@@ -236,7 +237,8 @@ fn block_words<'a>(matches: &ArgMatches<'a>) -> Option<Words<'a>>
 
 /// The values of `check`, where each was given.
 fn check_words<'a>(matches: &ArgMatches<'a>) -> Option<Words<'a>>
-    ensures values { IfSome result (λ w. (name_of w ≡ codes "check") × HasValues (rows_of (found_of matches.now)) w) }
+    ensures values { IfSome result (λ w. (name_of w ≡ codes "check")
+        × HasValues (rows_of (found_of matches.now)) w) }
     ensures none { IfNone result (LacksCheck (rows_of (found_of matches.now))) }
 {
     let input = text_of(matches, "in")?;
@@ -288,7 +290,8 @@ fn values_of_run<'a>(matches: &ArgMatches<'a>, skip: Vec<&'a str>) -> Option<Run
 
 /// The values of `run`, where each was given.
 fn run_words<'a>(alloc: Global, matches: &ArgMatches<'a>) -> Result<Option<Words<'a>>, AllocError>
-    ensures values { IfOk result (λ o. IfSome o (λ w. (name_of w ≡ codes "run") × HasValues (rows_of (found_of matches.now)) w)) }
+    ensures values { IfOk result (λ o. IfSome o (λ w. (name_of w ≡ codes "run")
+        × HasValues (rows_of (found_of matches.now)) w)) }
     ensures none { IfOk result (λ o. IfNone o (LacksRun (rows_of (found_of matches.now)))) }
 {
     let skip = texts_of(alloc, matches, "skip")?;
@@ -300,7 +303,8 @@ fn run_words<'a>(alloc: Global, matches: &ArgMatches<'a>) -> Result<Option<Words
 
 /// The values of `map`, where each was given.
 fn map_words<'a>(matches: &ArgMatches<'a>) -> Option<Words<'a>>
-    ensures values { IfSome result (λ w. (name_of w ≡ codes "map") × HasValues (rows_of (found_of matches.now)) w) }
+    ensures values { IfSome result (λ w. (name_of w ≡ codes "map")
+        × HasValues (rows_of (found_of matches.now)) w) }
     ensures none { IfNone result (LacksMap (rows_of (found_of matches.now))) }
 {
     let input = text_of(matches, "in")?;
@@ -321,7 +325,8 @@ fn map_words<'a>(matches: &ArgMatches<'a>) -> Option<Words<'a>>
 
 /// The values of `states`, where each was given.
 fn states_words<'a>(matches: &ArgMatches<'a>) -> Option<Words<'a>>
-    ensures values { IfSome result (λ w. (name_of w ≡ codes "states") × HasValues (rows_of (found_of matches.now)) w) }
+    ensures values { IfSome result (λ w. (name_of w ≡ codes "states")
+        × HasValues (rows_of (found_of matches.now)) w) }
     ensures none { IfNone result (LacksStates (rows_of (found_of matches.now))) }
 {
     let input = text_of(matches, "in")?;

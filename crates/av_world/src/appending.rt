@@ -48,7 +48,8 @@ impl World {
 
     /// How many of these entries each chunk is to get.
     fn count_made(&self, made: &[Made]) -> Result<Vec<usize>, AllocError>
-        ensures count { IfOk result (λ counts. length counts.items ≡ length (positions_of self.now)) }
+        ensures count { IfOk result (λ counts. length counts.items
+            ≡ length (positions_of self.now)) }
         ensures each { IfOk result (λ counts. (k : ℕ) → k < length (positions_of self.now)
             → slice_index_or counts.items k 0 ≡ count_at (positions_of self.now) k (entries_made made.now)) }
     {
@@ -68,7 +69,8 @@ impl World {
     fn reserve_count(&mut self, index: usize, count: usize) -> Result<(), AllocError>
         requires { index < length (positions_of self.old) }
         ensures kept { IsWorldKept self.old self.new }
-        ensures room { OnOk result ((d : ChunkPos) → count ≤ room self.new (slice_index_or (positions_of self.old) index d)) }
+        ensures room { OnOk result ((d : ChunkPos)
+            → count ≤ room self.new (slice_index_or (positions_of self.old) index d)) }
     {
         if count == 0 {
             return Ok(());
@@ -107,7 +109,8 @@ impl World {
         ensures changed { blocks self.new ≡ with_entry_if true (blocks self.old) entry }
         ensures lists { lists self.new ≡ listed_if true (lists self.old) entry }
         ensures site { site self.new ≡ site self.old }
-        ensures room { (c : ChunkPos) → room self.old c ≤ room self.new c + (if same_chunk c (chunk_of entry.pos) then 1 else 0) }
+        ensures room { (c : ChunkPos) → room self.old c
+            ≤ room self.new c + (if same_chunk c (chunk_of entry.pos) then 1 else 0) }
     {
         self.look_near(&[entry.pos]);
         self.add_new(entry);
@@ -133,13 +136,18 @@ impl World {
     /// `Broken` of a broken world, and else `OutOfMemory`. Also then the world is as before, with what was prepared, and
     /// has room for no fewer entries.
     pub fn append(&mut self, made: &[Made]) -> Result<(), Fault>
-        requires loaded { is_broken self.old ≡ false → All (λ m. IsTrue ((blocks self.old).loaded m.entry.pos)) made.now }
-        requires fresh { is_broken self.old ≡ false → All (λ m. (blocks self.old).pending m.entry.pos ≡ false) made.now }
+        requires loaded { is_broken self.old ≡ false
+            → All (λ m. IsTrue ((blocks self.old).loaded m.entry.pos)) made.now }
+        requires fresh { is_broken self.old ≡ false
+            → All (λ m. (blocks self.old).pending m.entry.pos ≡ false) made.now }
         requires distinct { is_broken self.old ≡ false
             → AllPairs (λ a b. same_pos b.entry.pos a.entry.pos ≡ false) made.now }
-        ensures lists { OnOk result (lists self.new ≡ listed_all (lists self.old) (entries_made made.now)) }
-        ensures blocks { OnOk result (blocks self.new ≡ with_entries (blocks self.old) (entries_made made.now)) }
-        ensures land { OnOk result (land_of self.new ≡ with_listed (land_of self.old) (entries_made made.now)) }
+        ensures lists { OnOk result (lists self.new
+            ≡ listed_all (lists self.old) (entries_made made.now)) }
+        ensures blocks { OnOk result (blocks self.new
+            ≡ with_entries (blocks self.old) (entries_made made.now)) }
+        ensures land { OnOk result (land_of self.new
+            ≡ with_listed (land_of self.old) (entries_made made.now)) }
         ensures site { site self.new ≡ site self.old }
         ensures unbroken { OnOk result (is_broken self.old ≡ false) }
         ensures same_blocks { OnErr result (blocks self.new ≡ blocks self.old) }

@@ -21,7 +21,8 @@ impl World {
         ensures lists { lists self.new ≡ lists self.old }
         ensures site { site self.new ≡ site self.old }
         ensures room { (c : ChunkPos) → room self.new c ≡ room self.old c }
-        ensures prepared { (s : SectionPos) (n : ℕ) → CanSetAt self.old s n → CanSetAt self.new s n }
+        ensures prepared { (s : SectionPos) (n : ℕ) → CanSetAt self.old s n
+            → CanSetAt self.new s n }
     {
         let at = pos.section();
         let chunk = self.slot_of(at);
@@ -37,8 +38,10 @@ impl World {
         ensures changed { blocks self.new ≡ with_entry_if true (blocks self.old) entry }
         ensures lists { lists self.new ≡ listed_if true (lists self.old) entry }
         ensures site { site self.new ≡ site self.old }
-        ensures room { (c : ChunkPos) → room self.old c ≤ room self.new c + (if same_chunk c (chunk_of entry.pos) then 1 else 0) }
-        ensures prepared { (s : SectionPos) (n : ℕ) → CanSetAt self.old s n → CanSetAt self.new s n }
+        ensures room { (c : ChunkPos) → room self.old c
+            ≤ room self.new c + (if same_chunk c (chunk_of entry.pos) then 1 else 0) }
+        ensures prepared { (s : SectionPos) (n : ℕ) → CanSetAt self.old s n
+            → CanSetAt self.new s n }
     {
         let at = entry.pos.section();
         let chunk = self.slot_of(at);

@@ -71,7 +71,8 @@ impl World {
 
     /// Puts a section into its place, where it is there.
     fn put_in(&mut self, at: SectionPos, slot: &mut Option<Section>)
-        requires place { IsTrue (is_here (filling_in slot.old)) → HasPlace (height_of self.old) (positions_of self.old) at }
+        requires place { IsTrue (is_here (filling_in slot.old))
+            → HasPlace (height_of self.old) (positions_of self.old) at }
         requires tied { IsTiedIn slot.old at (lists self.old) }
         ensures changed { grid self.new ≡ put_filling (grid self.old) at (filling_in slot.old) }
         ensures same { IsSamePlaces self.old self.new }
@@ -83,7 +84,8 @@ impl World {
 
     /// Puts sections into their places, where they are there.
     fn put_back(&mut self, at: &[SectionPos], slots: &mut [Option<Section>])
-        requires places { (s : SectionPos) → IsTrue (is_here (part_grid at.now slots.old s)) → HasPlace (height_of self.old) (positions_of self.old) s }
+        requires places { (s : SectionPos) → IsTrue (is_here (part_grid at.now slots.old s))
+            → HasPlace (height_of self.old) (positions_of self.old) s }
         requires tied { IsTied (cells_of (part_grid at.now slots.old)) (lists self.old) }
         requires distinct { AllPairs (λ s t. same_section t s ≡ false) at.now }
         requires count { length slots.old ≡ length at.now }
@@ -101,11 +103,14 @@ impl World {
     /// # Errors
     /// `Broken` of a broken world, and else `OutOfMemory`. Also then the world is as before, with what was prepared.
     pub fn carve(&mut self, at: &[SectionPos]) -> Result<Parcel, Fault>
-        requires loaded { is_broken self.old ≡ false → All (λ s. IsTrue (is_here (grid self.old s))) at.now }
-        requires distinct { is_broken self.old ≡ false → AllPairs (λ s t. same_section t s ≡ false) at.now }
+        requires loaded { is_broken self.old ≡ false
+            → All (λ s. IsTrue (is_here (grid self.old s))) at.now }
+        requires distinct { is_broken self.old ≡ false
+            → AllPairs (λ s t. same_section t s ≡ false) at.now }
         ensures out { IfOk result (λ c. kept_grid c ≡ only (among at.now) (grid self.old)) }
         ensures nothing_aside { IfOk result (λ c. aside c ≡ []) }
-        ensures part { IfOk result (λ c. IsPartOf (height_of self.new) (positions_of self.new) (lists self.new) (parcel_blocks c) (parcel_lists c)) }
+        ensures part { IfOk result (λ c. IsPartOf (height_of self.new) (positions_of self.new)
+            (lists self.new) (parcel_blocks c) (parcel_lists c)) }
         ensures left { OnOk result (grid self.new ≡ without (among at.now) (grid self.old)) }
         ensures same { IsSamePlaces self.old self.new }
         ensures unbroken { OnOk result (is_broken self.old ≡ false) }
@@ -132,9 +137,11 @@ impl World {
     /// Puts the sections of a parcel of this world back, as they then are, and forgets what was put aside. Takes no
     /// memory.
     pub fn mend(&mut self, parcel: Parcel)
-        requires { IsPartOf (height_of self.old) (positions_of self.old) (lists self.old) (parcel_blocks parcel) (parcel_lists parcel) }
+        requires { IsPartOf (height_of self.old) (positions_of self.old) (lists self.old)
+            (parcel_blocks parcel) (parcel_lists parcel) }
         ensures grid { grid self.new ≡ over (kept_grid parcel) (grid self.old) }
-        ensures blocks { blocks self.new ≡ mended (lists self.old) (parcel_blocks parcel) (blocks self.old) }
+        ensures blocks { blocks self.new ≡ mended (lists self.old) (parcel_blocks parcel)
+            (blocks self.old) }
         ensures same { IsSamePlaces self.old self.new }
     {
         let Parcel {

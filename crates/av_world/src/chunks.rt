@@ -135,9 +135,11 @@ pub(crate) fn prepare_in(
         ≡ slice_set chunk.old.sections.items offset (slice_index_or chunk.new.sections.items offset None) }
     ensures slot { SlotKeeps (slice_index_or chunk.old.sections.items offset None)
         (slice_index_or chunk.new.sections.items offset None) }
-    ensures ok { OnOk result (HaveNumbers (slice_index_or chunk.new.sections.items offset None) numbers.now) }
+    ensures ok { OnOk result (HaveNumbers (slice_index_or chunk.new.sections.items offset None)
+        numbers.now) }
     ensures ticks { chunk.new.ticks ≡ chunk.old.ticks }
-    ensures succeeds { HaveNumbers (slice_index_or chunk.old.sections.items offset None) numbers.now → IsOk result }
+    ensures succeeds { HaveNumbers (slice_index_or chunk.old.sections.items offset None) numbers.now
+        → IsOk result }
 {
     prepare_slot(&mut chunk.sections[offset], numbers)
 }
@@ -183,7 +185,8 @@ fn remove_slot(slot: &mut Option<Section>, place: Place)
 fn clear_if_due(sections: &mut Vec<Option<Section>>, entry: Entry, height: Height, now: u32)
     requires count { length sections.old.items ≡ height.sections }
     requires inside { is_block_of height entry.pos.y ≡ true }
-    ensures { ClearsSlots sections.old.items sections.new.items (λ o i. leaves_at height now o i entry) }
+    ensures { ClearsSlots sections.old.items sections.new.items
+        (λ o i. leaves_at height now o i entry) }
 {
     if entry.due > i64::from(now) {
         return;
@@ -196,7 +199,8 @@ fn clear_if_due(sections: &mut Vec<Option<Section>>, entry: Entry, height: Heigh
 fn clear_due(sections: &mut Vec<Option<Section>>, entries: &[Entry], height: Height, now: u32)
     requires count { length sections.old.items ≡ height.sections }
     requires inside { All (λ e. is_block_of height e.pos.y ≡ true) entries.now }
-    ensures { ClearsSlots sections.old.items sections.new.items (λ o i. list_any (leaves_at height now o i) entries.now) }
+    ensures { ClearsSlots sections.old.items sections.new.items
+        (λ o i. list_any (leaves_at height now o i) entries.now) }
 {
     for entry in entries {
         clear_if_due(sections, *entry, height, now);
@@ -207,8 +211,10 @@ fn clear_due(sections: &mut Vec<Option<Section>>, entries: &[Entry], height: Hei
 pub(crate) fn leave_in(chunk: &mut Chunk, height: Height, now: u32)
     requires count { length chunk.old.sections.items ≡ height.sections }
     requires inside { All (λ e. is_block_of height e.pos.y ≡ true) (entries chunk.old.ticks) }
-    ensures sections { ClearsSlots chunk.old.sections.items chunk.new.sections.items (λ o i. list_any (leaves_at height now o i) (entries chunk.old.ticks)) }
-    ensures entries { entries chunk.new.ticks ≡ filter (λ e. not (is_due now e)) (entries chunk.old.ticks) }
+    ensures sections { ClearsSlots chunk.old.sections.items chunk.new.sections.items
+        (λ o i. list_any (leaves_at height now o i) (entries chunk.old.ticks)) }
+    ensures entries { entries chunk.new.ticks ≡ filter (λ e. not (is_due now e))
+        (entries chunk.old.ticks) }
     ensures room { room chunk.old.ticks ≤ room chunk.new.ticks }
 {
     if !chunk.ticks.has_due(now) {

@@ -33,7 +33,8 @@ fn push_due(due: &mut Vec<Entry>, entries: &[Entry], now: u32) -> Result<(), All
 
 /// Appends the entries of a list that are due. One with none is not gone through.
 fn push_due_of(due: &mut Vec<Entry>, ticks: &TickList, now: u32) -> Result<(), AllocError>
-    ensures { OnOk result (due.new.items ≡ due.old.items ++ filter (is_due now) (entries ticks.now)) }
+    ensures { OnOk result (due.new.items ≡ due.old.items
+        ++ filter (is_due now) (entries ticks.now)) }
 {
     if !ticks.has_due(now) {
         return Ok(());
@@ -94,7 +95,8 @@ fn soonest_of(ticks: &TickList, most: u64) -> u64
 impl World {
     /// The first tick in which an entry of some list is due, 0 for one that is overdue, and `u64::MAX` where there is none.
     pub fn soonest(&self) -> u64
-        ensures none { at_least result (flat_map (λ chunk. entries chunk.ticks) (chunks_of self.now)) ≡ true }
+        ensures none { at_least result (flat_map (λ chunk. entries chunk.ticks)
+            (chunks_of self.now)) ≡ true }
         ensures reached { (nat_eq result 18446744073709551615
             || is_reached result (flat_map (λ chunk. entries chunk.ticks) (chunks_of self.now))) ≡ true }
     {
@@ -107,7 +109,8 @@ impl World {
 
     /// The entries that are due in tick `now` or before it, in the order of the chunks and of their lists.
     fn find_due(&self, now: u32) -> Result<Vec<Entry>, AllocError>
-        ensures { IfOk result (λ due. due.items ≡ flat_map (λ chunk. filter (is_due now) (entries chunk.ticks)) (chunks_of self.now)) }
+        ensures { IfOk result (λ due. due.items ≡ flat_map
+            (λ chunk. filter (is_due now) (entries chunk.ticks)) (chunks_of self.now)) }
     {
         let alloc = *self.positions.allocator();
         let mut due = Vec::new(alloc);
@@ -119,7 +122,8 @@ impl World {
 
     /// The same entries by their time, then by their priority, the lower first, then by chunk and place in the list.
     fn due_in_order(&self, now: u32) -> Result<Vec<Entry>, AllocError>
-        ensures { IfOk result (λ due. due.items ≡ ordered due_order (flat_map (λ chunk. filter (is_due now) (entries chunk.ticks)) (chunks_of self.now))) }
+        ensures { IfOk result (λ due. due.items ≡ ordered due_order
+            (flat_map (λ chunk. filter (is_due now) (entries chunk.ticks)) (chunks_of self.now))) }
     {
         let mut due = self.find_due(now)?;
         due.sort_by_key(|entry| (entry.due, entry.priority))?;
@@ -128,9 +132,11 @@ impl World {
 
     /// Takes the entries that are due out of all lists. Their blocks are pending no longer.
     fn leave_all(&mut self, now: u32)
-        ensures lists { lists self.new ≡ (λ c. filter (λ e. not (is_due now e)) (lists self.old c)) }
+        ensures lists { lists self.new ≡ (λ c. filter (λ e. not (is_due now e))
+            (lists self.old c)) }
         ensures site { site self.new ≡ site self.old }
-        ensures numbers { (s : SectionPos) → SameNumbers (sections self.old s) (sections self.new s) }
+        ensures numbers { (s : SectionPos) → SameNumbers (sections self.old s)
+            (sections self.new s) }
     {
         for index in 0..self.chunks.len() {
             leave_in(&mut self.chunks[index], self.height, now);

@@ -78,7 +78,8 @@ impl World {
         ensures found { IfSome result (λ index. slice_get (positions_of self.now) index ≡ Some at) }
         ensures there { IfSome result (λ index. has_chunk (positions_of self.now) at ≡ true) }
         ensures absent { IfNone result (has_chunk (positions_of self.now) at ≡ false) }
-        ensures free { IfNone result (slot (positions_of self.now) at ≡ length (positions_of self.now)) }
+        ensures free { IfNone result (slot (positions_of self.now) at
+            ≡ length (positions_of self.now)) }
     {
         let index = self.chunk_slot(at);
         if index < self.positions.len() {
@@ -92,7 +93,8 @@ impl World {
     pub fn chunk(&self, index: usize) -> &Chunk
         requires { index < length (positions_of self.now) }
         ensures value { slice_get (chunks_of self.now) index ≡ Some result.now }
-        ensures contents { (c : ChunkPos) → slice_get (positions_of self.now) index ≡ Some c → IsChunkOf self.now c result.now }
+        ensures contents { (c : ChunkPos) → slice_get (positions_of self.now) index ≡ Some c
+            → IsChunkOf self.now c result.now }
         ensures full { IsUncarved self.now → IsFull result.now }
     {
         &self.chunks[index]

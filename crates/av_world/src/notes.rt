@@ -52,7 +52,8 @@ pub(crate) fn near_index(at: SectionPos) -> usize
 impl Notes {
     /// Those of a new parcel.
     pub(crate) fn new() -> Notes
-        ensures absent { (at : List SectionPos) → All IsSectionInLimits at → AreAbsent at result.absent }
+        ensures absent { (at : List SectionPos) → All IsSectionInLimits at
+            → AreAbsent at result.absent }
         ensures marks { (i : ℕ) → has_place result.marks i ≡ false }
     {
         Notes {

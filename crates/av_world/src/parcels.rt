@@ -115,7 +115,8 @@ impl Parcel {
         ensures changed { blocks self.new ≡ with_number (blocks self.old) pos number }
         ensures lists { lists self.new ≡ lists self.old }
         ensures room { room self.new ≡ room self.old }
-        ensures prepared { (s : SectionPos) (n : ℕ) → CanSetAt self.old s n → CanSetAt self.new s n }
+        ensures prepared { (s : SectionPos) (n : ℕ) → CanSetAt self.old s n
+            → CanSetAt self.new s n }
     {
         let index = self.slot_of(pos.section());
         set_slot(&mut self.sections[index], pos.place(), number);
@@ -136,7 +137,8 @@ impl Parcel {
         ensures changed { blocks self.new ≡ with_entry_if true (blocks self.old) entry }
         ensures lists { lists self.new ≡ listed_if true (lists self.old) entry }
         ensures room { room self.old ≤ room self.new + 1 }
-        ensures prepared { (s : SectionPos) (n : ℕ) → CanSetAt self.old s n → CanSetAt self.new s n }
+        ensures prepared { (s : SectionPos) (n : ℕ) → CanSetAt self.old s n
+            → CanSetAt self.new s n }
     {
         self.notes.marks.insert(entry.pos.place());
         append(&mut self.aside, entry);
@@ -157,8 +159,10 @@ impl Parcel {
     /// Makes room for numbers in a section, where it is there.
     fn prepare_section(&mut self, at: SectionPos, numbers: &[u16]) -> Result<(), AllocError>
         ensures kept { IsParcelKept self.old self.new }
-        ensures prepared { OnOk result (IsTrue (is_here (kept_grid self.new at)) → All (CanSetAt self.new at) numbers.now) }
-        ensures succeeds { (IsTrue (is_here (kept_grid self.old at)) → All (CanSetAt self.old at) numbers.now) → IsOk result }
+        ensures prepared { OnOk result (IsTrue (is_here (kept_grid self.new at))
+            → All (CanSetAt self.new at) numbers.now) }
+        ensures succeeds { (IsTrue (is_here (kept_grid self.old at))
+            → All (CanSetAt self.old at) numbers.now) → IsOk result }
     {
         let index = self.slot_of(at);
         if index >= self.sections.len() {
@@ -174,10 +178,13 @@ impl Parcel {
         ready: SectionPos,
         numbers: &[u16],
     ) -> Result<(), AllocError>
-        requires ready { IsTrue (is_here (kept_grid self.old ready)) → All (CanSetAt self.old ready) numbers.now }
+        requires ready { IsTrue (is_here (kept_grid self.old ready))
+            → All (CanSetAt self.old ready) numbers.now }
         ensures kept { IsParcelKept self.old self.new }
-        ensures prepared { OnOk result (IsTrue (is_here (kept_grid self.new at)) → All (CanSetAt self.new at) numbers.now) }
-        ensures succeeds { (IsTrue (is_here (kept_grid self.old at)) → All (CanSetAt self.old at) numbers.now) → IsOk result }
+        ensures prepared { OnOk result (IsTrue (is_here (kept_grid self.new at))
+            → All (CanSetAt self.new at) numbers.now) }
+        ensures succeeds { (IsTrue (is_here (kept_grid self.old at))
+            → All (CanSetAt self.old at) numbers.now) → IsOk result }
     {
         if at == ready {
             return Ok(());
@@ -205,8 +212,11 @@ impl Parcel {
         requires { IsNearOrigin pos }
         ensures kept { IsParcelKept self.old self.new }
         ensures room { OnOk result (42 ≤ room self.new) }
-        ensures prepared { OnOk result (All (CanSetAll self.new (0 ∷ 1 ∷ 2 ∷ 3 ∷ 4 ∷ 5 ∷ 6 ∷ 7 ∷ 8 ∷ 9 ∷ [])) (turned pos)) }
-        ensures succeeds { 42 ≤ room self.old → All (CanSetAll self.old (0 ∷ 1 ∷ 2 ∷ 3 ∷ 4 ∷ 5 ∷ 6 ∷ 7 ∷ 8 ∷ 9 ∷ [])) (turned pos) → IsOk result }
+        ensures prepared { OnOk result (All (CanSetAll self.new
+            (0 ∷ 1 ∷ 2 ∷ 3 ∷ 4 ∷ 5 ∷ 6 ∷ 7 ∷ 8 ∷ 9 ∷ [])) (turned pos)) }
+        ensures succeeds { 42 ≤ room self.old → All
+            (CanSetAll self.old (0 ∷ 1 ∷ 2 ∷ 3 ∷ 4 ∷ 5 ∷ 6 ∷ 7 ∷ 8 ∷ 9 ∷ [])) (turned pos)
+            → IsOk result }
     {
         self.look_near(&corners(pos));
         self.reserve_aside(42)?;

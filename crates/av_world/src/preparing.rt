@@ -17,7 +17,8 @@ impl World {
     /// Makes room for so many more entries of a chunk, where it is there.
     pub(crate) fn reserve_chunk(&mut self, at: ChunkPos, count: usize) -> Result<(), AllocError>
         ensures kept { IsWorldKept self.old self.new }
-        ensures room { OnOk result (slot (positions_of self.old) at < length (positions_of self.old) → count ≤ room self.new at) }
+        ensures room { OnOk result (slot (positions_of self.old) at < length (positions_of self.old)
+            → count ≤ room self.new at) }
         ensures succeeds { count ≤ room self.old at → IsOk result }
     {
         let chunk = self.chunk_slot(at);
@@ -91,8 +92,10 @@ impl World {
     /// Makes room for numbers in a section, where it is loaded.
     fn prepare_section(&mut self, at: SectionPos, numbers: &[u16]) -> Result<(), AllocError>
         ensures kept { IsWorldKept self.old self.new }
-        ensures prepared { OnOk result (IsTrue (is_here (grid self.new at)) → All (CanSetAt self.new at) numbers.now) }
-        ensures succeeds { (IsTrue (is_here (grid self.old at)) → All (CanSetAt self.old at) numbers.now) → IsOk result }
+        ensures prepared { OnOk result (IsTrue (is_here (grid self.new at))
+            → All (CanSetAt self.new at) numbers.now) }
+        ensures succeeds { (IsTrue (is_here (grid self.old at))
+            → All (CanSetAt self.old at) numbers.now) → IsOk result }
     {
         let chunk = self.slot_of(at);
         if chunk >= self.chunks.len() {
@@ -112,10 +115,13 @@ impl World {
         ready: SectionPos,
         numbers: &[u16],
     ) -> Result<(), AllocError>
-        requires ready { IsTrue (is_here (grid self.old ready)) → All (CanSetAt self.old ready) numbers.now }
+        requires ready { IsTrue (is_here (grid self.old ready))
+            → All (CanSetAt self.old ready) numbers.now }
         ensures kept { IsWorldKept self.old self.new }
-        ensures prepared { OnOk result (IsTrue (is_here (grid self.new at)) → All (CanSetAt self.new at) numbers.now) }
-        ensures succeeds { (IsTrue (is_here (grid self.old at)) → All (CanSetAt self.old at) numbers.now) → IsOk result }
+        ensures prepared { OnOk result (IsTrue (is_here (grid self.new at))
+            → All (CanSetAt self.new at) numbers.now) }
+        ensures succeeds { (IsTrue (is_here (grid self.old at))
+            → All (CanSetAt self.old at) numbers.now) → IsOk result }
     {
         if at == ready {
             return Ok(());
@@ -143,7 +149,8 @@ impl World {
         requires { IsNearOrigin pos }
         ensures kept { IsWorldKept self.old self.new }
         ensures room { OnOk result (All (HasRoomAt self.new 42) (corners pos)) }
-        ensures prepared { OnOk result (All (CanSetAll self.new (0 ∷ 1 ∷ 2 ∷ 3 ∷ 4 ∷ 5 ∷ 6 ∷ 7 ∷ 8 ∷ 9 ∷ [])) (turned pos)) }
+        ensures prepared { OnOk result (All (CanSetAll self.new
+            (0 ∷ 1 ∷ 2 ∷ 3 ∷ 4 ∷ 5 ∷ 6 ∷ 7 ∷ 8 ∷ 9 ∷ [])) (turned pos)) }
         ensures succeeds { All (HasRoomAt self.old 42) (corners pos)
             → All (CanSetAll self.old (0 ∷ 1 ∷ 2 ∷ 3 ∷ 4 ∷ 5 ∷ 6 ∷ 7 ∷ 8 ∷ 9 ∷ [])) (turned pos) → IsOk result }
     {
@@ -157,7 +164,8 @@ impl World {
         ensures kept { IsWorldKept self.old self.new }
         ensures room { OnOk result (All (HasRoomAt self.new 7) (around pos)) }
         ensures prepared { OnOk result (CanSetAll self.new (number ∷ []) pos) }
-        ensures succeeds { All (HasRoomAt self.old 7) (around pos) → CanSetAll self.old (number ∷ []) pos → IsOk result }
+        ensures succeeds { All (HasRoomAt self.old 7) (around pos)
+            → CanSetAll self.old (number ∷ []) pos → IsOk result }
     {
         let around = around(pos);
         self.look_near(&around);

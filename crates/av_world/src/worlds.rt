@@ -59,9 +59,12 @@ impl World {
         requires limits { IsInLimits (region_of at) }
         requires absent { slot (positions_of self.old) at ≡ length (positions_of self.old) }
         requires fits { IsNewChunk at (height_of self.old) chunk }
-        ensures grid { OnOk result (grid self.new ≡ with_chunk (grid self.old) at (chunk_grid (height_of self.old) chunk)) }
-        ensures lists { OnOk result (lists self.new ≡ with_list (lists self.old) at (entries chunk.ticks)) }
-        ensures positions { OnOk result (Inserts (positions_of self.old) at (positions_of self.new)) }
+        ensures grid { OnOk result (grid self.new ≡ with_chunk (grid self.old) at
+            (chunk_grid (height_of self.old) chunk)) }
+        ensures lists { OnOk result (lists self.new
+            ≡ with_list (lists self.old) at (entries chunk.ticks)) }
+        ensures positions { OnOk result (Inserts (positions_of self.old) at
+            (positions_of self.new)) }
         ensures height { height_of self.new ≡ height_of self.old }
         ensures broken { is_broken self.new ≡ is_broken self.old }
         ensures whole { OnOk result (IsUncarved self.old → IsFull chunk → IsUncarved self.new) }

@@ -111,9 +111,12 @@ fn push_made(made: &mut Vec<Made>, world: &World, entry: Entry) -> Result<(), Fa
     requires loaded { All (λ m. IsTrue ((blocks world.now).loaded m.entry.pos)) made.old.items }
     requires fresh { All (λ m. (blocks world.now).pending m.entry.pos ≡ false) made.old.items }
     requires distinct { AllPairs (λ a b. same_pos b.entry.pos a.entry.pos ≡ false) made.old.items }
-    ensures loaded { OnOk result (All (λ m. IsTrue ((blocks world.now).loaded m.entry.pos)) made.new.items) }
-    ensures fresh { OnOk result (All (λ m. (blocks world.now).pending m.entry.pos ≡ false) made.new.items) }
-    ensures distinct { OnOk result (AllPairs (λ a b. same_pos b.entry.pos a.entry.pos ≡ false) made.new.items) }
+    ensures loaded { OnOk result (All (λ m. IsTrue ((blocks world.now).loaded m.entry.pos))
+        made.new.items) }
+    ensures fresh { OnOk result (All (λ m. (blocks world.now).pending m.entry.pos ≡ false)
+        made.new.items) }
+    ensures distinct { OnOk result (AllPairs (λ a b. same_pos b.entry.pos a.entry.pos ≡ false)
+        made.new.items) }
 {
     if !world.loaded(entry.pos) {
         return Err(Fault::EditOutside(0));
@@ -134,9 +137,12 @@ fn push_made(made: &mut Vec<Made>, world: &World, entry: Entry) -> Result<(), Fa
 
 /// Entries of distinct loaded blocks of which none waits, as turns made them.
 pub fn made_of(alloc: Global, world: &World, entries: &[Entry]) -> Result<Vec<Made>, Fault>
-    ensures loaded { IfOk result (λ made. All (λ m. IsTrue ((blocks world.now).loaded m.entry.pos)) made.items) }
-    ensures fresh { IfOk result (λ made. All (λ m. (blocks world.now).pending m.entry.pos ≡ false) made.items) }
-    ensures distinct { IfOk result (λ made. AllPairs (λ a b. same_pos b.entry.pos a.entry.pos ≡ false) made.items) }
+    ensures loaded { IfOk result (λ made. All (λ m. IsTrue ((blocks world.now).loaded m.entry.pos))
+        made.items) }
+    ensures fresh { IfOk result (λ made. All (λ m. (blocks world.now).pending m.entry.pos ≡ false)
+        made.items) }
+    ensures distinct { IfOk result (λ made. AllPairs
+        (λ a b. same_pos b.entry.pos a.entry.pos ≡ false) made.items) }
 {
     let mut made = Vec::new(alloc);
     for entry in entries {
@@ -161,7 +167,8 @@ fn has_section(sections: &[SectionPos], at: SectionPos) -> bool
 fn push_section(sections: &mut Vec<SectionPos>, world: &World, block: Pos) -> Result<(), Fault>
     requires loaded { All (λ s. IsTrue (is_here (grid world.now s))) sections.old.items }
     requires distinct { AllPairs (λ s t. same_section t s ≡ false) sections.old.items }
-    ensures loaded { OnOk result (All (λ s. IsTrue (is_here (grid world.now s))) sections.new.items) }
+    ensures loaded { OnOk result (All (λ s. IsTrue (is_here (grid world.now s)))
+        sections.new.items) }
     ensures distinct { OnOk result (AllPairs (λ s t. same_section t s ≡ false) sections.new.items) }
 {
     if !world.loaded(block) {
@@ -177,8 +184,10 @@ fn push_section(sections: &mut Vec<SectionPos>, world: &World, block: Pos) -> Re
 
 /// The sections of loaded blocks, each in another one.
 pub fn sections_of(alloc: Global, world: &World, at: &[Pos]) -> Result<Vec<SectionPos>, Fault>
-    ensures loaded { IfOk result (λ sections. All (λ s. IsTrue (is_here (grid world.now s))) sections.items) }
-    ensures distinct { IfOk result (λ sections. AllPairs (λ s t. same_section t s ≡ false) sections.items) }
+    ensures loaded { IfOk result (λ sections. All (λ s. IsTrue (is_here (grid world.now s)))
+        sections.items) }
+    ensures distinct { IfOk result (λ sections. AllPairs
+        (λ s t. same_section t s ≡ false) sections.items) }
 {
     let mut sections = Vec::new(alloc);
     for block in at {
@@ -190,7 +199,8 @@ pub fn sections_of(alloc: Global, world: &World, at: &[Pos]) -> Result<Vec<Secti
 /// The sections of loaded blocks, each in another one, out of a world.
 pub fn carve_at(alloc: Global, world: &mut World, at: &[Pos]) -> Result<Parcel, Fault>
     requires { IsPlain world.old }
-    ensures part { IfOk result (λ c. IsPartOf (height_of world.new) (positions_of world.new) (lists world.new) (parcel_blocks c) (parcel_lists c)) }
+    ensures part { IfOk result (λ c. IsPartOf (height_of world.new) (positions_of world.new)
+        (lists world.new) (parcel_blocks c) (parcel_lists c)) }
     ensures numbers { IfOk result (λ c. HasKinds 11 (parcel_blocks c)) }
 {
     let sections = sections_of(alloc, world, at)?;

@@ -34,7 +34,8 @@ fn known(
     table: &StateTable,
 ) -> Option<Reading>
     requires { length payload.now ≤ 1044475 }
-    ensures { IfSome result (IsPayloadReading at height payload.now (states table.now) (states table.now)) }
+    ensures { IfSome result (IsPayloadReading at height payload.now (states table.now)
+        (states table.now)) }
 {
     let Ok(root) = decode(alloc, payload) else {
         return None;
@@ -48,7 +49,8 @@ fn known(
 /// The payload at a place of a batch, where there is one.
 fn payload_at<'a>(batch: &Batch<'a>, offset: usize) -> Option<&'a [u8]>
     requires { offset < batch.now.extent.places }
-    ensures holds { IfSome result (λ payload. Holds batch.now.region.bytes.now (batch.now.first + offset) payload.now) }
+    ensures holds { IfSome result (λ payload. Holds batch.now.region.bytes.now
+        (batch.now.first + offset) payload.now) }
     ensures small { IfSome result (λ payload. length payload.now ≤ 1044475) }
 {
     match batch.region.payload(batch.first + offset) {
@@ -110,7 +112,8 @@ pub(crate) fn read_ahead(
     batch: &Batch<'_>,
     table: &StateTable,
 ) -> Result<Vec<Option<Reading>>, AllocError>
-    ensures { IfOk result (λ places. AreInPlace (IsMadeBy batch.now (states table.now)) places.items) }
+    ensures { IfOk result (λ places. AreInPlace (IsMadeBy batch.now (states table.now))
+        places.items) }
 {
     let count = count_threads(rt, batch);
     if count < 2 || table.len() <= FIRST_STATES {
@@ -123,7 +126,8 @@ pub(crate) fn read_ahead(
         .with_min_len(1)
         .map(
             |_thread: usize| -> Result<Vec<Placed<Reading>>, AllocError>
-                ensures { IsTaken reader.entry.batch.now.extent.places (IsMadeBy reader.entry.batch.now (states reader.entry.table.now)) result }
+                ensures { IsTaken reader.entry.batch.now.extent.places
+                    (IsMadeBy reader.entry.batch.now (states reader.entry.table.now)) result }
             { taken(alloc, &reader, &next) },
         )
         .collect::<Vec<Result<Vec<Placed<Reading>>, AllocError>>>(rt, alloc)?;

@@ -91,7 +91,8 @@ fn do_rise(files: &[RegionFile]) -> bool
 
 /// Files of regions within the limits, each region once, in their order.
 fn judged(files: Vec<RegionFile>) -> Result<Vec<RegionFile>, Fault>
-    ensures ok { IfOk result (λ fs. AreFilesInOrder (map file_in files.items) (map file_in fs.items)) }
+    ensures ok { IfOk result (λ fs. AreFilesInOrder (map file_in files.items)
+        (map file_in fs.items)) }
     ensures limits { IfOk result (λ fs. All (λ f. IsInLimits f.pos) fs.items) }
     ensures err { IfErr result (λ e. e ≢ OutOfMemory → IsRegionsFault (map file_in files.items) e) }
 {
@@ -113,7 +114,10 @@ fn world_and_rest(
     table: &StateTable,
 ) -> Result<(World, Rest), AllocError>
     requires { WereFilesRead height (states table.now) regions.items }
-    ensures ok { IfOk result (λ read. (old : List BlockState) → (files sorted : List File) → AreFilesInOrder files sorted → AreRegionsRead height old (states table.now) sorted regions.items → IsLoadAfter height old files (states table.now) (land_of read.0) (rest_in read.1)) }
+    ensures ok { IfOk result (λ read. (old : List BlockState) → (files sorted : List File)
+        → AreFilesInOrder files sorted → AreRegionsRead height old
+        (states table.now) sorted regions.items → IsLoadAfter height old files (states table.now)
+        (land_of read.0) (rest_in read.1)) }
     ensures whole { IfOk result (λ read. IsUncarved read.0) }
     ensures rest { IfOk result (λ read. IsRestOf height (positions_of read.0) read.1) }
     ensures sound { IfOk result (λ read. is_broken read.0 ≡ false) }
@@ -133,11 +137,13 @@ fn load_at(
     height: Height,
     table: &mut StateTable,
 ) -> Result<(World, Rest), Fault>
-    ensures ok { IfOk result (λ read. IsLoadAfter height (states table.old) (map file_in files.items) (states table.new) (land_of read.0) (rest_in read.1)) }
+    ensures ok { IfOk result (λ read. IsLoadAfter height (states table.old)
+        (map file_in files.items) (states table.new) (land_of read.0) (rest_in read.1)) }
     ensures whole { IfOk result (λ read. IsUncarved read.0) }
     ensures rest { IfOk result (λ read. IsRestOf height (positions_of read.0) read.1) }
     ensures sound { IfOk result (λ read. is_broken read.0 ≡ false) }
-    ensures err { IfErr result (λ e. e ≢ OutOfMemory → IsFilesFaultAfter height (states table.old) (map file_in files.items) e) }
+    ensures err { IfErr result (λ e. e ≢ OutOfMemory
+        → IsFilesFaultAfter height (states table.old) (map file_in files.items) e) }
     ensures table { OnlyGrows (states table.old) (states table.new) }
 {
     let files = judged(files)?;
@@ -165,11 +171,13 @@ pub fn load(
     rules: &Rules,
     table: &mut StateTable,
 ) -> Result<(World, Rest), Fault>
-    ensures ok { IfOk result (λ read. IsLoadAfter rules.now.height (states table.old) (map file_in files.items) (states table.new) (land_of read.0) (rest_in read.1)) }
+    ensures ok { IfOk result (λ read. IsLoadAfter rules.now.height (states table.old)
+        (map file_in files.items) (states table.new) (land_of read.0) (rest_in read.1)) }
     ensures whole { IfOk result (λ read. IsUncarved read.0) }
     ensures rest { IfOk result (λ read. IsRestOf rules.now.height (positions_of read.0) read.1) }
     ensures sound { IfOk result (λ read. is_broken read.0 ≡ false) }
-    ensures err { IfErr result (λ e. e ≢ OutOfMemory → IsFilesFaultAfter rules.now.height (states table.old) (map file_in files.items) e) }
+    ensures err { IfErr result (λ e. e ≢ OutOfMemory
+        → IsFilesFaultAfter rules.now.height (states table.old) (map file_in files.items) e) }
     ensures table { OnlyGrows (states table.old) (states table.new) }
 {
     load_at(rt, alloc, files, rules.height(), table)

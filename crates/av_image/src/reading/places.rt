@@ -36,9 +36,12 @@ fn reading(
     table: &mut StateTable,
 ) -> Result<Reading, Fault>
     requires small { length payload.now ≤ 1044475 }
-    requires ahead { IfSome ahead (IsPayloadReading at height payload.now (states table.old) (states table.old)) }
-    ensures ok { IfOk result (IsPayloadReading at height payload.now (states table.old) (states table.new)) }
-    ensures err { IfErr result (λ e. e ≢ OutOfMemory → IsPayloadFault at height payload.now (states table.old) e) }
+    requires ahead { IfSome ahead (IsPayloadReading at height payload.now (states table.old)
+        (states table.old)) }
+    ensures ok { IfOk result (IsPayloadReading at height payload.now (states table.old)
+        (states table.new)) }
+    ensures err { IfErr result (λ e. e ≢ OutOfMemory
+        → IsPayloadFault at height payload.now (states table.old) e) }
     ensures table { OnlyGrows (states table.old) (states table.new) }
 {
     match ahead {
@@ -57,9 +60,12 @@ fn held(
     table: &mut StateTable,
 ) -> Result<Place, Fault>
     requires small { length payload.now ≤ 1044475 }
-    requires ahead { IfSome ahead (IsPayloadReading at height payload.now (states table.old) (states table.old)) }
-    ensures ok { IfOk result (IsPayloadRead height (states table.old) (states table.new) payload.now at) }
-    ensures err { IfErr result (λ e. e ≢ OutOfMemory → IsPayloadFault at height payload.now (states table.old) e) }
+    requires ahead { IfSome ahead (IsPayloadReading at height payload.now (states table.old)
+        (states table.old)) }
+    ensures ok { IfOk result (IsPayloadRead height (states table.old)
+        (states table.new) payload.now at) }
+    ensures err { IfErr result (λ e. e ≢ OutOfMemory
+        → IsPayloadFault at height payload.now (states table.old) e) }
     ensures table { OnlyGrows (states table.old) (states table.new) }
 {
     match reading(alloc, payload, ahead, at, height, table)? {
@@ -80,9 +86,13 @@ pub(crate) fn read_place(
 ) -> Result<Place, Fault>
     requires limits { IsInLimits pos }
     requires index { index < 1024 }
-    requires ahead { IfSome ahead (IsMadeAt height (states table.old) region.now.bytes.now (chunk_at pos index) index) }
-    ensures ok { IfOk result (IsPlaceRead height (states table.old) (states table.new) region.now.bytes.now (chunk_at pos index) index) }
-    ensures err { IfErr result (λ e. e ≢ OutOfMemory → IsPlaceFault height (states table.old) region.now.bytes.now (chunk_at pos index) index e) }
+    requires ahead { IfSome ahead (IsMadeAt height (states table.old) region.now.bytes.now
+        (chunk_at pos index) index) }
+    ensures ok { IfOk result (IsPlaceRead height (states table.old)
+        (states table.new) region.now.bytes.now (chunk_at pos index) index) }
+    ensures err { IfErr result (λ e. e ≢ OutOfMemory
+        → IsPlaceFault height (states table.old) region.now.bytes.now
+        (chunk_at pos index) index e) }
     ensures table { OnlyGrows (states table.old) (states table.new) }
 {
     match region.payload(index)? {

@@ -52,8 +52,13 @@ fn read_batch(
     places: &mut Vec<Place>,
 ) -> Result<(), Fault>
     requires ahead { AreInPlace (IsMadeBy batch.now (states table.old)) ahead.items }
-    ensures ok { OnOk result (GoesOn batch.now.height (file_of batch.now.pos batch.now.region.bytes.now) (states table.old) batch.now.first places.old.items (states table.new) (batch.now.first + batch.now.extent.places) places.new.items) }
-    ensures err { IfErr result (λ e. e ≢ OutOfMemory → Stops batch.now.height (file_of batch.now.pos batch.now.region.bytes.now) (states table.old) batch.now.first places.old.items e) }
+    ensures ok { OnOk result (GoesOn batch.now.height
+        (file_of batch.now.pos batch.now.region.bytes.now)
+        (states table.old) batch.now.first places.old.items (states table.new)
+        (batch.now.first + batch.now.extent.places) places.new.items) }
+    ensures err { IfErr result (λ e. e ≢ OutOfMemory
+        → Stops batch.now.height (file_of batch.now.pos batch.now.region.bytes.now)
+        (states table.old) batch.now.first places.old.items e) }
     ensures table { OnlyGrows (states table.old) (states table.new) }
 {
     for offset in 0..batch.extent.places {
@@ -82,8 +87,10 @@ fn read_places(
     table: &mut StateTable,
 ) -> Result<Vec<Place>, Fault>
     requires { IsInLimits pos }
-    ensures ok { IfOk result (λ places. ArePlacesRead height (states table.old) (states table.new) (file_of pos region.now.bytes.now) places.items) }
-    ensures err { IfErr result (λ e. e ≢ OutOfMemory → IsFirstOfPlaces height (states table.old) (file_of pos region.now.bytes.now) indices e) }
+    ensures ok { IfOk result (λ places. ArePlacesRead height (states table.old) (states table.new)
+        (file_of pos region.now.bytes.now) places.items) }
+    ensures err { IfErr result (λ e. e ≢ OutOfMemory
+        → IsFirstOfPlaces height (states table.old) (file_of pos region.now.bytes.now) indices e) }
     ensures table { OnlyGrows (states table.old) (states table.new) }
 {
     let mut places = Vec::new(alloc);
@@ -112,8 +119,10 @@ fn read_region(
     table: &mut StateTable,
 ) -> Result<ReadRegion, Fault>
     requires { IsInLimits file.pos }
-    ensures ok { IfOk result (IsRegionRead height (states table.old) (states table.new) (file_of file.pos file.bytes.items)) }
-    ensures err { IfErr result (λ e. e ≢ OutOfMemory → IsFirstOfFile height (states table.old) (file_of file.pos file.bytes.items) e) }
+    ensures ok { IfOk result (IsRegionRead height (states table.old) (states table.new)
+        (file_of file.pos file.bytes.items)) }
+    ensures err { IfErr result (λ e. e ≢ OutOfMemory
+        → IsFirstOfFile height (states table.old) (file_of file.pos file.bytes.items) e) }
     ensures table { OnlyGrows (states table.old) (states table.new) }
 {
     let region = Region::read(file.bytes.as_slice())?;
@@ -135,8 +144,11 @@ pub(crate) fn read_regions(
     table: &mut StateTable,
 ) -> Result<Vec<ReadRegion>, Fault>
     requires { All (λ f. IsInLimits f.pos) files.items }
-    ensures ok { IfOk result (λ regions. AreRegionsRead height (states table.old) (states table.new) (map (λ f. file_of f.pos f.bytes.items) files.items) regions.items) }
-    ensures err { IfErr result (λ e. e ≢ OutOfMemory → IsFirstOfFiles height (states table.old) (map (λ f. file_of f.pos f.bytes.items) files.items) e) }
+    ensures ok { IfOk result (λ regions. AreRegionsRead height (states table.old) (states table.new)
+        (map (λ f. file_of f.pos f.bytes.items) files.items) regions.items) }
+    ensures err { IfErr result (λ e. e ≢ OutOfMemory
+        → IsFirstOfFiles height (states table.old) (map
+        (λ f. file_of f.pos f.bytes.items) files.items) e) }
     ensures table { OnlyGrows (states table.old) (states table.new) }
 {
     let mut regions = Vec::new(alloc);

@@ -46,7 +46,8 @@ fn split_places(
     requires limits { IsInLimits pos }
     requires count { length places.items ≤ 1024 }
     ensures slots { IfOk result (λ slots. slots.items ≡ map slot_of places.items) }
-    ensures found { OnOk result (found.new.items ≡ found.old.items ++ placed_from pos 0 places.items) }
+    ensures found { OnOk result (found.new.items ≡ found.old.items
+        ++ placed_from pos 0 places.items) }
 {
     let mut slots = Vec::new(alloc);
     for place in places {
@@ -85,7 +86,8 @@ pub(crate) fn split_regions(
     requires limits { All (λ r. IsInLimits r.pos) regions.items }
     requires count { All (λ r. length r.places.items ≤ 1024) regions.items }
     ensures rest { IfOk result (λ rests. AreSplit regions.items rests.items) }
-    ensures found { OnOk result (found.new.items ≡ found.old.items ++ flat_map placed_in regions.items) }
+    ensures found { OnOk result (found.new.items ≡ found.old.items
+        ++ flat_map placed_in regions.items) }
 {
     let mut rests = Vec::new(alloc);
     for region in regions {

@@ -53,7 +53,8 @@ fn written_chunk(
     elapsed: u32,
 ) -> Result<Vec<u8>, AllocError>
     requires { CanWrite chunk.now rest.now kinds.now light.now elapsed }
-    ensures { IfOk result (λ bytes. bytes.items ≡ written_document (written chunk.now rest.now kinds.now light.now elapsed)) }
+    ensures { IfOk result (λ bytes. bytes.items ≡ written_document
+        (written chunk.now rest.now kinds.now light.now elapsed)) }
 {
     let Ok(root) = chunk.write(alloc, rest, kinds, light, elapsed) else {
         return Err(AllocError);
@@ -78,7 +79,8 @@ pub(crate) fn loaded_payload(
     requires there { has_chunk (positions_of world.now) at ≡ true }
     requires place { rest.now.place ≡ at }
     requires height { rest.now.height ≡ height_of world.now }
-    ensures { IfOk result (λ bytes. bytes.items ≡ loaded_bytes world.now kinds.now lights.now elapsed at rest.now) }
+    ensures { IfOk result (λ bytes. bytes.items ≡ loaded_bytes world.now kinds.now lights.now
+        elapsed at rest.now) }
 {
     let Some(index) = world.index_of(at) else {
         unreachable!()
@@ -105,7 +107,8 @@ pub(crate) fn place_payload<'a>(
 ) -> Result<Option<Payload<'a>>, AllocError>
     requires can { CanSave world.now kinds.now lights.now elapsed }
     requires slot { IsSlotOf (height_of world.now) (positions_of world.now) at slot.now }
-    ensures { IfOk result (λ p. option_map payload_items p ≡ slot_payload world.now kinds.now lights.now elapsed at (Some slot.now)) }
+    ensures { IfOk result (λ p. option_map payload_items p
+        ≡ slot_payload world.now kinds.now lights.now elapsed at (Some slot.now)) }
 {
     match slot {
         Slot::Absent => Ok(None),
@@ -126,9 +129,13 @@ pub(crate) fn region_of(
     requires limits { IsInLimits region.now.pos }
     requires stamps { length region.now.stamps.items ≡ 1024 }
     requires payloads { length payloads.now ≡ 1024 }
-    ensures ok { IfOk result (λ file. file_in file ≡ file_with region.now (map (option_map payload_items) payloads.now)) }
-    ensures fits { OnOk result (too_large_among region.now (map (option_map payload_items) payloads.now) ≡ None) }
-    ensures err { IfErr result (λ e. e ≢ OutOfMemory → option_map ChunkTooLarge (too_large_among region.now (map (option_map payload_items) payloads.now)) ≡ Some e) }
+    ensures ok { IfOk result (λ file. file_in file
+        ≡ file_with region.now (map (option_map payload_items) payloads.now)) }
+    ensures fits { OnOk result (too_large_among region.now
+        (map (option_map payload_items) payloads.now) ≡ None) }
+    ensures err { IfErr result (λ e. e ≢ OutOfMemory
+        → option_map ChunkTooLarge (too_large_among region.now
+        (map (option_map payload_items) payloads.now)) ≡ Some e) }
 {
     let bytes = av_region::write(alloc, region.pos, payloads, region.stamps.as_slice())?;
     Ok(RegionFile {

@@ -30,9 +30,13 @@ fn saved_region(
 ) -> Result<RegionFile, Fault>
     requires can { CanSave world.now kinds.now lights.now elapsed }
     requires region { IsRegionOf (height_of world.now) (positions_of world.now) region.now }
-    ensures ok { IfOk result (λ file. file_in file ≡ region_file world.now kinds.now lights.now elapsed region.now) }
-    ensures fits { OnOk result (region_unsaved world.now kinds.now lights.now elapsed region.now ≡ None) }
-    ensures err { IfErr result (λ e. e ≢ OutOfMemory → option_map ChunkTooLarge (region_unsaved world.now kinds.now lights.now elapsed region.now) ≡ Some e) }
+    ensures ok { IfOk result (λ file. file_in file
+        ≡ region_file world.now kinds.now lights.now elapsed region.now) }
+    ensures fits { OnOk result (region_unsaved world.now kinds.now lights.now elapsed region.now
+        ≡ None) }
+    ensures err { IfErr result (λ e. e ≢ OutOfMemory
+        → option_map ChunkTooLarge (region_unsaved world.now kinds.now lights.now elapsed
+        region.now) ≡ Some e) }
 {
     let job = RegionJob {
         world,
@@ -57,9 +61,12 @@ fn saved_regions(
 ) -> Result<Vec<RegionFile>, Fault>
     requires can { CanSave world.now kinds.now lights.now elapsed }
     requires rest { IsRestOf (height_of world.now) (positions_of world.now) rest.now }
-    ensures ok { IfOk result (λ files. map file_in files.items ≡ saved world.now rest.now kinds.now lights.now elapsed) }
+    ensures ok { IfOk result (λ files. map file_in files.items
+        ≡ saved world.now rest.now kinds.now lights.now elapsed) }
     ensures fits { OnOk result (unsaved world.now rest.now kinds.now lights.now elapsed ≡ None) }
-    ensures err { IfErr result (λ e. e ≢ OutOfMemory → option_map ChunkTooLarge (unsaved world.now rest.now kinds.now lights.now elapsed) ≡ Some e) }
+    ensures err { IfErr result (λ e. e ≢ OutOfMemory
+        → option_map ChunkTooLarge (unsaved world.now rest.now kinds.now lights.now elapsed)
+        ≡ Some e) }
 {
     let mut files = Vec::new(alloc);
     for region in &rest.regions {
@@ -90,11 +97,14 @@ pub fn save(
     elapsed: u32,
 ) -> Result<Vec<RegionFile>, Fault>
     requires can { is_broken world.now ≡ false → CanSave world.now kinds.now lights.now elapsed }
-    requires rest { is_broken world.now ≡ false → IsRestOf (height_of world.now) (positions_of world.now) rest.now }
-    ensures ok { IfOk result (λ files. map file_in files.items ≡ saved world.now rest.now kinds.now lights.now elapsed) }
+    requires rest { is_broken world.now ≡ false → IsRestOf (height_of world.now)
+        (positions_of world.now) rest.now }
+    ensures ok { IfOk result (λ files. map file_in files.items
+        ≡ saved world.now rest.now kinds.now lights.now elapsed) }
     ensures fits { OnOk result (unsaved world.now rest.now kinds.now lights.now elapsed ≡ None) }
     ensures broken { is_broken world.now ≡ true → result ≡ Err Broken }
-    ensures err { IfErr result (λ e. e ≢ OutOfMemory → IsSaveFault world.now rest.now kinds.now lights.now elapsed e) }
+    ensures err { IfErr result (λ e. e ≢ OutOfMemory
+        → IsSaveFault world.now rest.now kinds.now lights.now elapsed e) }
 {
     if world.broken() {
         return Err(Fault::Broken);

@@ -9,7 +9,7 @@ use Rattle.av_tags.specs.View.{view, views, named_views, document}
 use Rattle.av_state.specs.Table.{states}
 use Rattle.av_document.specs.Chunk.{sections, ticks}
 use Rattle.av_document.proofs.Tags.{tag_of-place_other}
-use Rattle.av_chunk.specs.declared.water.Ticks.{Ticks}
+use Rattle.av_chunk.specs.declared.reading.water.Ticks.{Ticks}
 use Rattle.av_chunk.specs.Rest.{opened}
 use Rattle.av_chunk.specs.Working.{admitted}
 use Rattle.av_chunk.specs.TicksRead.{AreTicks}
