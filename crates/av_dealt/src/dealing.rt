@@ -10,7 +10,7 @@ use std::sync::atomic::Ordering::SeqCst;
 
 /// A thing, and its place.
 #[derive(Drop)]
-pub struct Placed<T> {
+pub struct Dealt<T> {
     place: usize,
     thing: T,
 }
@@ -20,7 +20,7 @@ pub fn taken<M: Maker>(
     alloc: Global,
     maker: &M,
     next: &AtomicU64,
-) -> Result<Vec<Placed<M::Thing>>, AllocError>
+) -> Result<Vec<Dealt<M::Thing>>, AllocError>
 where
     M::Thing: Drop,
     M::Bench: Drop,
@@ -35,7 +35,7 @@ where
             break;
         }
         if let Some(thing) = maker.make(alloc, place, &mut bench)? {
-            things.push(Placed { place, thing })?;
+            things.push(Dealt { place, thing })?;
         }
     }
     Ok(things)
@@ -55,7 +55,7 @@ fn empty_places<T: Drop>(alloc: Global, count: usize) -> Result<Vec<Option<T>>, 
 /// Puts things into their places.
 fn place_all<M: Maker>(
     maker: &M,
-    mut things: Vec<Placed<M::Thing>>,
+    mut things: Vec<Dealt<M::Thing>>,
     places: &mut Vec<Option<M::Thing>>,
 )
 where
@@ -66,7 +66,7 @@ where
     ensures long { length places.new.items ≡ M.places maker.now }
     ensures placed { AreInPlace (M.is_of maker.now) places.new.items }
 {
-    while let Some(Placed { place, thing }) = things.pop() {
+    while let Some(Dealt { place, thing }) = things.pop() {
         places[place] = Some(thing);
     }
 }
@@ -75,7 +75,7 @@ where
 pub fn gathered<M: Maker>(
     alloc: Global,
     maker: &M,
-    mut taken: Vec<Result<Vec<Placed<M::Thing>>, AllocError>>,
+    mut taken: Vec<Result<Vec<Dealt<M::Thing>>, AllocError>>,
 ) -> Result<Vec<Option<M::Thing>>, AllocError>
 where
     M::Thing: Drop,

@@ -5,7 +5,7 @@
 mod dealing;
 mod maker;
 
-pub use dealing::{Placed, gathered, taken};
+pub use dealing::{Dealt, gathered, taken};
 pub use maker::Maker;
 
 #[cfg(test)]

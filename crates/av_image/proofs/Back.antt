@@ -13,7 +13,7 @@ use Rattle.av_region_files.specs.Regions.{same_region}
 use Rattle.av_files.proofs.Coordinates.{same_region_is, same_region-refl}
 use Rattle.av_image.specs.declared.reading.places.Place.{Place}
 use Rattle.av_image.specs.declared.reading.places.Place.TheVariants.{Absent, Kept, Full}
-use Rattle.av_image.specs.declared.reading.splits.Placed.{Placed}
+use Rattle.av_image.specs.declared.reading.splits.LoadedChunk.{LoadedChunk}
 use Rattle.av_image.specs.Splits.{placed_of, placed_from, chunk_found}
 use Rattle.av_image.proofs.Worlds.{found_append, first_some}
 
@@ -53,7 +53,7 @@ of_own c Absent = refl
 of_own c (Kept p) = refl
 of_own c (Full chunk rest) = ap (λ b. cond b (Some chunk) None) (same_chunk-refl c)
 
-pub found_none_of : (xs ys : List Placed) (c : ChunkPos) → chunk_found xs c ≡ None → chunk_found (xs ++ ys) c ≡ chunk_found ys c
+pub found_none_of : (xs ys : List LoadedChunk) (c : ChunkPos) → chunk_found xs c ≡ None → chunk_found (xs ++ ys) c ≡ chunk_found ys c
 found_none_of xs ys c e = found_append xs ys c ∙ ap (λ o. first_some o (chunk_found ys c)) e
 
 -- those of another region

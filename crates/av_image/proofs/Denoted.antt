@@ -35,7 +35,7 @@ use Rattle.av_image.specs.declared.reading.places.Place.TheVariants.{Absent, Kep
 use Rattle.av_image.specs.declared.reading.regions.ReadRegion.{ReadRegion}
 use Rattle.av_image.specs.declared.rest.Slot.{Slot}
 use Rattle.av_image.specs.declared.rest.RegionRest.{RegionRest}
-use Rattle.av_image.specs.declared.reading.splits.Placed.{Placed}
+use Rattle.av_image.specs.declared.reading.splits.LoadedChunk.{LoadedChunk}
 use Rattle.av_image.specs.Placed.{WasPlaceRead, WasRegionRead, WereRegionsRead, are_stamps}
 use Rattle.av_world.specs.Lands.{land_of}
 use Rattle.av_image.specs.Views.{rest_view, region_found, stamp_in, slot_in, slot_at, kept_in, chunk_rest_in}
@@ -62,14 +62,14 @@ pub record NotAgain (p : RegionPos) (ps : List RegionPos) : Type 0 where
 abbrev IsOf : List RegionPos → RegionPos → Type 0
 IsOf ps p = list_any (same_region p) ps ≡ true
 
-pub record Tells (whole : List RegionRest) (found : List Placed) (rs : List ReadRegion) (xs : List RegionRest) : Type 0 where
+pub record Tells (whole : List RegionRest) (found : List LoadedChunk) (rs : List ReadRegion) (xs : List RegionRest) : Type 0 where
   pub region : (p : RegionPos) → IsOf (map (λ x. x.pos) xs) p → region_found whole p ≡ region_found xs p
   pub chunk : (c : ChunkPos) → IsOf (map (λ x. x.pos) xs) (region_of c) → chunk_found found c ≡ chunk_found (flat_map placed_in rs) c
 
 few_of : (h : Height) (t : List BlockState) (f : File) (r : ReadRegion) → WasRegionRead h t f r → 0 + length r.places.items ≤ 1024
 few_of h t f r w = omega (arith, w.places_are.many)
 
-tells_rest : (h : Height) (t : List BlockState) (whole : List RegionRest) (found : List Placed) (f : File) (r : ReadRegion) (x : RegionRest) (rs : List ReadRegion) (xs : List RegionRest)
+tells_rest : (h : Height) (t : List BlockState) (whole : List RegionRest) (found : List LoadedChunk) (f : File) (r : ReadRegion) (x : RegionRest) (rs : List ReadRegion) (xs : List RegionRest)
     → WasRegionRead h t f r → IsSplit r x → NotAgain x.pos (map (λ x. x.pos) xs) → Tells whole found (r ∷ rs) (x ∷ xs) → Tells whole found rs xs
 tells_rest h t whole found f r x rs xs w s n tells = record {
   region = λ p is. tells.region p (or_right (same_region p x.pos) (list_any (same_region p) (map (λ x. x.pos) xs)) is) ∙ ap (λ b. cond b (Some x) (region_found xs p)) (n.none p is);
@@ -105,7 +105,7 @@ get_within (x ∷ xs) zero lt = (x, refl)
 get_within (x ∷ xs) (suc i) lt = get_within xs i (omega (arith, lt))
 
 -- each place has its chunk in the world, or none
-has_place : (h : Height) (t : List BlockState) (whole : List RegionRest) (found : List Placed) (w : World) (f : File) (r : ReadRegion) (x : RegionRest) (rs : List ReadRegion) (xs : List RegionRest)
+has_place : (h : Height) (t : List BlockState) (whole : List RegionRest) (found : List LoadedChunk) (w : World) (f : File) (r : ReadRegion) (x : RegionRest) (rs : List ReadRegion) (xs : List RegionRest)
     → IsWorldOf h found w → WasRegionRead h t f r → IsSplit r x → Tells whole found (r ∷ rs) (x ∷ xs) → ((c : ChunkPos) → IsOf (map (λ x. x.pos) (x ∷ xs)) (region_of c) → same_region (region_of c) r.pos ≡ true → chunk_found (flat_map placed_in rs) c ≡ None)
     → (i : ℕ) → i < 1024 → (p : Place) → slice_get r.places.items i ≡ Some p → HasAt h w (chunk_at f.pos i) (chunk_in (Some p))
 has_place h t whole found w f r x rs xs has was split tells alone i lt p at =
@@ -121,7 +121,7 @@ has_place h t whole found w f r x rs xs has was split tells alone i lt p at =
     tells.chunk c is_among ∙ (found_append (placed_in r) (flat_map placed_in rs) c ∙ (ap (λ o. first_some (chunk_found (placed_in r) c) o) rest ∙ (or_none (chunk_found (placed_in r) c) ∙ from))) in
     subst (HasAt h w c) chunk (has.each c)
 
-file_denoted : (h : Height) (t : List BlockState) (whole : List RegionRest) (found : List Placed) (w : World) (f : File) (r : ReadRegion) (x : RegionRest) (rs : List ReadRegion) (xs : List RegionRest)
+file_denoted : (h : Height) (t : List BlockState) (whole : List RegionRest) (found : List LoadedChunk) (w : World) (f : File) (r : ReadRegion) (x : RegionRest) (rs : List ReadRegion) (xs : List RegionRest)
     → IsWorldOf h found w → WasRegionRead h t f r → IsSplit r x → Tells whole found (r ∷ rs) (x ∷ xs) → ((c : ChunkPos) → IsOf (map (λ x. x.pos) (x ∷ xs)) (region_of c) → same_region (region_of c) r.pos ≡ true → chunk_found (flat_map placed_in rs) c ≡ None)
     → DenotesFile h (stated t (land_of w)) (rest_view whole) f
 file_denoted h t whole found w f r x rs xs has was split tells alone = record {
@@ -156,7 +156,7 @@ slot_own h t file c i w Absent was has = has.0
 slot_own h t file c i w (Kept p) was has = has.0
 slot_own h t file c i w (Full chunk rest) was has = (has.0, was.read.read.loaded.place_is, was.read.read.loaded.height_is)
 
-region_own : (h : Height) (t : List BlockState) (whole : List RegionRest) (found : List Placed) (w : World) (f : File) (r : ReadRegion) (x : RegionRest) (rs : List ReadRegion) (xs : List RegionRest)
+region_own : (h : Height) (t : List BlockState) (whole : List RegionRest) (found : List LoadedChunk) (w : World) (f : File) (r : ReadRegion) (x : RegionRest) (rs : List ReadRegion) (xs : List RegionRest)
     → IsWorldOf h found w → WasRegionRead h t f r → IsSplit r x → Tells whole found (r ∷ rs) (x ∷ xs) → ((c : ChunkPos) → IsOf (map (λ x. x.pos) (x ∷ xs)) (region_of c) → same_region (region_of c) r.pos ≡ true → chunk_found (flat_map placed_in rs) c ≡ None)
     → IsRegionOf h w.positions.items x
 region_own h t whole found w f r x rs xs has was split tells alone = record {
@@ -197,7 +197,7 @@ alone h t f r x fs rs xs split was rest n c is own = found_elsewhere h t fs rs x
   by true k = absurd (false≢true (sym (n.none (region_of c) k) ∙ (ap (λ p. same_region p (region_of c)) at ∙ same_region-refl (region_of c))))
   by false k = refl
 
-all_files : (h : Height) (t : List BlockState) (whole : List RegionRest) (found : List Placed) (w : World) (fs : List File) (rs : List ReadRegion) (xs : List RegionRest)
+all_files : (h : Height) (t : List BlockState) (whole : List RegionRest) (found : List LoadedChunk) (w : World) (fs : List File) (rs : List ReadRegion) (xs : List RegionRest)
     → IsWorldOf h found w → WereRegionsRead h t fs rs → AreSplit rs xs → regions_rise (map (λ x. x.pos) xs) ≡ true → Tells whole found rs xs
     → AllByRecursion (DenotesFile h (stated t (land_of w)) (rest_view whole)) fs
 all_files h t whole found w [] [] [] has was split rise tells = tt
@@ -212,7 +212,7 @@ all_files h t whole found w [] (r ∷ rs) xs has was split rise tells = absurd w
 all_files h t whole found w (f ∷ fs) [] xs has was split rise tells = absurd was
 all_files h t whole found w (f ∷ fs) (r ∷ rs) [] has was split rise tells = absurd split
 
-all_regions : (h : Height) (t : List BlockState) (whole : List RegionRest) (found : List Placed) (w : World) (fs : List File) (rs : List ReadRegion) (xs : List RegionRest)
+all_regions : (h : Height) (t : List BlockState) (whole : List RegionRest) (found : List LoadedChunk) (w : World) (fs : List File) (rs : List ReadRegion) (xs : List RegionRest)
     → IsWorldOf h found w → WereRegionsRead h t fs rs → AreSplit rs xs → regions_rise (map (λ x. x.pos) xs) ≡ true → Tells whole found rs xs
     → AllByRecursion (IsRegionOf h w.positions.items) xs
 all_regions h t whole found w [] [] [] has was split rise tells = tt
@@ -248,7 +248,7 @@ was_found h w c None has there e = false≢true (sym has.0 ∙ there)
 was_found h w c (Some x) has there e = none-some x (sym e)
 
 -- air where nothing is loaded
-pub zero_elsewhere : (h : Height) (w : World) (found : List Placed) → IsWorldOf h found w → (p : Pos) → is_loaded (land_of w) p ≡ false → (land_of w).at p ≡ 0
+pub zero_elsewhere : (h : Height) (w : World) (found : List LoadedChunk) → IsWorldOf h found w → (p : Pos) → is_loaded (land_of w) p ≡ false → (land_of w).at p ≡ 0
 zero_elsewhere h w found has p out = by (chunk_found found (chunk_of p)) (has.each (chunk_of p)) where
   high : (b c : Bool) → b ≡ true → (b && c) ≡ false → c ≡ false
   high true c e k = k

@@ -52,7 +52,7 @@ use Rattle.av_image.specs.declared.reading.places.Place.{Place}
 use Rattle.av_image.specs.declared.reading.places.Place.TheVariants.{Absent, Kept, Full}
 use Rattle.av_image.specs.declared.reading.regions.ReadRegion.{ReadRegion}
 use Rattle.av_image.specs.declared.rest.RegionRest.{RegionRest}
-use Rattle.av_image.specs.declared.reading.splits.Placed.{Placed}
+use Rattle.av_image.specs.declared.reading.splits.LoadedChunk.{LoadedChunk}
 use Rattle.av_image.specs.Placed.{WasPlaceRead, WasRegionRead, WereRegionsRead}
 use Rattle.av_image.specs.Loading.{placed_order}
 use Rattle.av_land.specs.Land.{is_loaded}
@@ -83,7 +83,7 @@ counts_of h t (f ∷ fs) [] w = absurd w
 
 -- ---- the chunks that were found
 
-pub record IsGoodPlaced (h : Height) (t : List BlockState) (x : Placed) : Type 0 where
+pub record IsGoodPlaced (h : Height) (t : List BlockState) (x : LoadedChunk) : Type 0 where
   pub limits : IsInLimits (region_of x.at)
   pub fits : IsNewChunk x.at h x.chunk
   pub numbers : (p : Pos) → chunk_of p ≡ x.at → number_in_filling (chunk_grid h x.chunk (section_of p)) (place_of p) < length t
@@ -161,7 +161,7 @@ placed_fit h t fs rs some w = All-from_recursion _ _ (each_then (IsGoodPlaced h 
 
 -- ---- each once
 
-once_append : (xs ys : List Placed) → ArePlacedOnce xs → ArePlacedOnce ys → AllByRecursion (λ x. chunk_found ys x.at ≡ None) xs → ArePlacedOnce (xs ++ ys)
+once_append : (xs ys : List LoadedChunk) → ArePlacedOnce xs → ArePlacedOnce ys → AllByRecursion (λ x. chunk_found ys x.at ≡ None) xs → ArePlacedOnce (xs ++ ys)
 once_append [] ys o p h = p
 once_append (x ∷ xs) ys o p h = (found_none_of xs ys x.at o.0 ∙ h.0, once_append xs ys o.1 p h.1)
 
@@ -171,7 +171,7 @@ once_from r n (Absent ∷ ps) few = once_from r (n + 1) ps (omega (arith, few))
 once_from r n (Kept p ∷ ps) few = once_from r (n + 1) ps (omega (arith, few))
 once_from r n (Full chunk rest ∷ ps) few = (found_before r (n + 1) ps n (omega (arith, few)) (omega (arith, few)) (omega arith), once_from r (n + 1) ps (omega (arith, few)))
 
-all_from : (P : Placed → Type 0) (r : RegionPos) (n : ℕ) (ps : List Place) → n + length ps ≤ 1024 → ((i : ℕ) (x : Chunk) → i < 1024 → P (record { at = chunk_at r i; chunk = x })) → AllByRecursion P (placed_from r n ps)
+all_from : (P : LoadedChunk → Type 0) (r : RegionPos) (n : ℕ) (ps : List Place) → n + length ps ≤ 1024 → ((i : ℕ) (x : Chunk) → i < 1024 → P (record { at = chunk_at r i; chunk = x })) → AllByRecursion P (placed_from r n ps)
 all_from P r n [] few h = tt
 all_from P r n (Absent ∷ ps) few h = all_from P r (n + 1) ps (omega (arith, few)) h
 all_from P r n (Kept p ∷ ps) few h = all_from P r (n + 1) ps (omega (arith, few)) h
@@ -208,7 +208,7 @@ placed_once_read h t (f ∷ fs) (r ∷ rs) w rise =
 placed_once_read h t [] (r ∷ rs) w rise = absurd w
 placed_once_read h t (f ∷ fs) [] w rise = absurd w
 
-once_inserted : (x : Placed) (xs : List Placed) → chunk_found xs x.at ≡ None → ArePlacedOnce xs → ArePlacedOnce (inserted placed_order x xs)
+once_inserted : (x : LoadedChunk) (xs : List LoadedChunk) → chunk_found xs x.at ≡ None → ArePlacedOnce xs → ArePlacedOnce (inserted placed_order x xs)
 once_inserted x [] n o = (refl, tt)
 once_inserted x (y ∷ ys) n o = by (is_lt (placed_order y x)) (parts (same_chunk y.at x.at) n) (λ k. once_inserted x ys k o.1) where
   parts : (b : Bool) → cond b (Some y.chunk) (chunk_found ys x.at) ≡ None → (b ≡ false) × (chunk_found ys x.at ≡ None)
@@ -219,7 +219,7 @@ once_inserted x (y ∷ ys) n o = by (is_lt (placed_order y x)) (parts (same_chun
   by true p more = (found_inserted x ys y.at ∙ (ap (λ b. cond b (Some x.chunk) (chunk_found ys y.at)) (not_same y.at x.at p.0) ∙ o.0), more p.1)
   by false p more = (n, o)
 
-once_ordered : (xs : List Placed) → ArePlacedOnce xs → ArePlacedOnce (ordered placed_order xs)
+once_ordered : (xs : List LoadedChunk) → ArePlacedOnce xs → ArePlacedOnce (ordered placed_order xs)
 once_ordered [] o = tt
 once_ordered (x ∷ xs) o = once_inserted x (ordered placed_order xs) (found_ordered xs x.at ∙ o.0) (once_ordered xs o.1)
 
@@ -228,7 +228,7 @@ placed_once h t fs rs w rise = once_ordered (flat_map placed_in rs) (placed_once
 
 -- ---- numbers and stamps
 
-pub found_all : (P : Placed → Type 0) (xs : List Placed) (c : ChunkPos) (x : Chunk) → AllByRecursion P xs → chunk_found xs c ≡ Some x → P (record { at = c; chunk = x })
+pub found_all : (P : LoadedChunk → Type 0) (xs : List LoadedChunk) (c : ChunkPos) (x : Chunk) → AllByRecursion P xs → chunk_found xs c ≡ Some x → P (record { at = c; chunk = x })
 found_all P [] c x h e = absurd (none-some x e)
 found_all P (y ∷ ys) c x h e = by (same_chunk y.at c) refl (λ k. found_all P ys c x h.1 k) e where
   by : (b : Bool) → same_chunk y.at c ≡ b → (chunk_found ys c ≡ Some x → P (record { at = c; chunk = x })) → cond b (Some y.chunk) (chunk_found ys c) ≡ Some x → P (record { at = c; chunk = x })

@@ -19,13 +19,13 @@ use Rattle.av_world.proofs.Search.{lt_tells, eq_tells}
 use Rattle.av_files.specs.Files.{regions_rise, in_order}
 use Rattle.av_region_files.specs.Regions.{region_order}
 use Rattle.av_region_files.specs.declared.files.RegionFile.{RegionFile}
-use Rattle.av_image.specs.declared.reading.splits.Placed.{Placed}
+use Rattle.av_image.specs.declared.reading.splits.LoadedChunk.{LoadedChunk}
 use Rattle.av_image.specs.Splits.{chunk_found, HasAt, IsWorldOf}
 use Rattle.av_image.specs.Loading.{placed_order, region_before, comes_after, rises_from}
 use Rattle.av_image.specs.Views.{file_in}
 
 pub placed_laws : IsStrictWeakOrder (λ x y. is_lt (placed_order x y))
-placed_laws = ranks_by (then_total (on_total (λ (e : Placed). e.at.z) int_cmp_total) (on_total (λ (e : Placed). e.at.x) int_cmp_total)) (λ (e : Placed). e)
+placed_laws = ranks_by (then_total (on_total (λ (e : LoadedChunk). e.at.z) int_cmp_total) (on_total (λ (e : LoadedChunk). e.at.x) int_cmp_total)) (λ (e : LoadedChunk). e)
 
 abbrev pub file_order : RegionFile → RegionFile → Ordering
 file_order a b = region_order a.pos b.pos
@@ -93,7 +93,7 @@ equal_is Equal Equal a b c d p q h e f = false≢true h
 equal_is Equal Greater a b c d p q h e f = false≢true h
 equal_is Greater r a b c d p q h e f = false≢true h
 
-pub found_inserted : (x : Placed) (xs : List Placed) (c : ChunkPos) → chunk_found (inserted placed_order x xs) c ≡ cond (same_chunk x.at c) (Some x.chunk) (chunk_found xs c)
+pub found_inserted : (x : LoadedChunk) (xs : List LoadedChunk) (c : ChunkPos) → chunk_found (inserted placed_order x xs) c ≡ cond (same_chunk x.at c) (Some x.chunk) (chunk_found xs c)
 found_inserted x [] c = refl
 found_inserted x (y ∷ ys) c = by (is_lt (placed_order y x)) refl (found_inserted x ys c) where
   swap : (a b : Bool) (o : Option Chunk) → same_chunk x.at c ≡ a → same_chunk y.at c ≡ b → is_lt (placed_order y x) ≡ true → cond b (Some y.chunk) (cond a (Some x.chunk) o) ≡ cond a (Some x.chunk) (cond b (Some y.chunk) o)
@@ -109,9 +109,9 @@ found_inserted x (y ∷ ys) c = by (is_lt (placed_order y x)) refl (found_insert
   by true lt more = ap (λ o. cond (same_chunk y.at c) (Some y.chunk) o) more ∙ swap (same_chunk x.at c) (same_chunk y.at c) (chunk_found ys c) refl refl lt
   by false lt more = refl
 
-pub found_ordered : (xs : List Placed) (c : ChunkPos) → chunk_found (ordered placed_order xs) c ≡ chunk_found xs c
+pub found_ordered : (xs : List LoadedChunk) (c : ChunkPos) → chunk_found (ordered placed_order xs) c ≡ chunk_found xs c
 found_ordered [] c = refl
 found_ordered (x ∷ xs) c = found_inserted x (ordered placed_order xs) c ∙ ap (λ o. cond (same_chunk x.at c) (Some x.chunk) o) (found_ordered xs c)
 
-pub world_ordered : (h : _) (xs : List Placed) (w : _) → IsWorldOf h (ordered placed_order xs) w → IsWorldOf h xs w
+pub world_ordered : (h : _) (xs : List LoadedChunk) (w : _) → IsWorldOf h (ordered placed_order xs) w → IsWorldOf h xs w
 world_ordered h xs w is = record { height_is = is.height_is; each = λ c. subst (HasAt h w c) (found_ordered xs c) (is.each c) }

@@ -17,7 +17,7 @@ use Rattle.av_world.specs.Inserted.{chunk_grid, with_chunk, with_list, Inserts}
 use Rattle.av_world.specs.Views.{grid, lists}
 use Rattle.av_world.specs.declared.worlds.World.{World}
 use Rattle.av_land.specs.Land.{has_chunk}
-use Rattle.av_image.specs.declared.reading.splits.Placed.{Placed}
+use Rattle.av_image.specs.declared.reading.splits.LoadedChunk.{LoadedChunk}
 use Rattle.av_image.specs.Splits.{chunk_found, ArePlacedOnce, HasAt, IsWorldOf}
 
 pub not_same : (a b : ChunkPos) → same_chunk a b ≡ false → same_chunk b a ≡ false
@@ -53,14 +53,14 @@ abbrev pub first_some : {X : Type 0} → Option X → Option X → Option X
 first_some None o = o
 first_some (Some x) o = Some x
 
-pub found_append : (xs ys : List Placed) (c : ChunkPos) → chunk_found (xs ++ ys) c ≡ first_some (chunk_found xs c) (chunk_found ys c)
+pub found_append : (xs ys : List LoadedChunk) (c : ChunkPos) → chunk_found (xs ++ ys) c ≡ first_some (chunk_found xs c) (chunk_found ys c)
 found_append [] ys c = refl
 found_append (x ∷ xs) ys c = by (same_chunk x.at c) (found_append xs ys c) where
   by : (b : Bool) → chunk_found (xs ++ ys) c ≡ first_some (chunk_found xs c) (chunk_found ys c) → cond b (Some x.chunk) (chunk_found (xs ++ ys) c) ≡ first_some (cond b (Some x.chunk) (chunk_found xs c)) (chunk_found ys c)
   by true more = refl
   by false more = more
 
-found_none : (x : Placed) (xs : List Placed) (c : ChunkPos) → chunk_found (x ∷ xs) c ≡ None → (same_chunk x.at c ≡ false) × (chunk_found xs c ≡ None)
+found_none : (x : LoadedChunk) (xs : List LoadedChunk) (c : ChunkPos) → chunk_found (x ∷ xs) c ≡ None → (same_chunk x.at c ≡ false) × (chunk_found xs c ≡ None)
 found_none x xs c h = by (same_chunk x.at c) h where
   by : (b : Bool) → cond b (Some x.chunk) (chunk_found xs c) ≡ None → (b ≡ false) × (chunk_found xs c ≡ None)
   by true k = absurd (none-some x.chunk (sym k))
@@ -70,7 +70,7 @@ none_parts : {X : Type 0} (o p : Option X) → first_some o p ≡ None → (o �
 none_parts None p h = (refl, h)
 none_parts (Some x) p h = absurd (none-some x (sym h))
 
-pub once_at : (xs : List Placed) (x : Placed) (ys : List Placed) → ArePlacedOnce (xs ++ x ∷ ys) → chunk_found xs x.at ≡ None
+pub once_at : (xs : List LoadedChunk) (x : LoadedChunk) (ys : List LoadedChunk) → ArePlacedOnce (xs ++ x ∷ ys) → chunk_found xs x.at ≡ None
 once_at [] x ys h = refl
 once_at (y ∷ xs) x ys h =
     let parts = none_parts (chunk_found xs y.at) (chunk_found (x ∷ ys) y.at) (sym (found_append xs (x ∷ ys) y.at) ∙ h.0) in
@@ -84,7 +84,7 @@ has_moved : (h : Height) (v w : World) (c : ChunkPos) (o : Option Chunk) → has
 has_moved h v w c None a b d p = (a ∙ p.0, (λ s e. b s e ∙ p.1 s e), d ∙ p.2)
 has_moved h v w c (Some x) a b d p = (a ∙ p.0, (λ s e. b s e ∙ p.1 s e), d ∙ p.2)
 
-pub world_more : (h : Height) (v w : World) (xs : List Placed) (x : Placed) → IsWorldOf h xs v → chunk_found xs x.at ≡ None → w.height ≡ v.height
+pub world_more : (h : Height) (v w : World) (xs : List LoadedChunk) (x : LoadedChunk) → IsWorldOf h xs v → chunk_found xs x.at ≡ None → w.height ≡ v.height
     → Inserts v.positions.items x.at w.positions.items → grid w ≡ with_chunk (grid v) x.at (chunk_grid v.height x.chunk) → lists w ≡ with_list (lists v) x.at (entries x.chunk.ticks)
     → IsWorldOf h (xs ++ x ∷ []) w
 world_more h v w xs x old new same put grid_is lists_are = record { height_is = same ∙ old.height_is; each = λ c. at c (same_chunk x.at c) refl } where

@@ -7,9 +7,9 @@ use Rattle.av_types.specs.declared.fault.Fault.{Fault}
 use Rattle.av_types.specs.declared.fault.Fault.TheVariants.{RegionRange, RepeatedRegion}
 use Rattle.av_files.specs.Files.{File, in_order, regions_rise, share_a_region, chunk_order}
 use Rattle.av_files.specs.FirstFault.{AllInLimits}
-use Rattle.av_image.specs.declared.reading.splits.Placed.{Placed}
+use Rattle.av_image.specs.declared.reading.splits.LoadedChunk.{LoadedChunk}
 
-abbrev pub placed_order : Placed → Placed → Ordering
+abbrev pub placed_order : LoadedChunk → LoadedChunk → Ordering
 placed_order a b = chunk_order a.at b.at
 
 pub record AreFilesInOrder (files sorted : List File) : Type 0 where

@@ -18,7 +18,7 @@ use Rattle.av_image.specs.declared.reading.regions.ReadRegion.{ReadRegion}
 use Rattle.av_image.specs.declared.rest.Slot.{Slot}
 use Rattle.av_image.specs.declared.rest.Slot.TheVariants as slots
 use Rattle.av_image.specs.declared.rest.RegionRest.{RegionRest}
-use Rattle.av_image.specs.declared.reading.splits.Placed.{Placed}
+use Rattle.av_image.specs.declared.reading.splits.LoadedChunk.{LoadedChunk}
 
 -- ---- places split into slots and chunks
 
@@ -27,19 +27,19 @@ slot_of Absent = slots.Absent
 slot_of (Kept p) = slots.Kept p
 slot_of (Full chunk rest) = slots.Loaded rest
 
-abbrev pub placed : ChunkPos → Chunk → Placed
+abbrev pub placed : ChunkPos → Chunk → LoadedChunk
 placed c x = record { at = c; chunk = x }
 
-abbrev pub placed_of : ChunkPos → Place → List Placed
+abbrev pub placed_of : ChunkPos → Place → List LoadedChunk
 placed_of c Absent = []
 placed_of c (Kept p) = []
 placed_of c (Full chunk rest) = placed c chunk ∷ []
 
-abbrev pub placed_from : RegionPos → ℕ → List Place → List Placed
+abbrev pub placed_from : RegionPos → ℕ → List Place → List LoadedChunk
 placed_from r n [] = []
 placed_from r n (p ∷ ps) = placed_of (chunk_at r n) p ++ placed_from r (n + 1) ps
 
-abbrev pub placed_in : ReadRegion → List Placed
+abbrev pub placed_in : ReadRegion → List LoadedChunk
 placed_in r = placed_from r.pos 0 r.places.items
 
 pub record IsSplit (r : ReadRegion) (x : RegionRest) : Type 0 where
@@ -54,11 +54,11 @@ AreSplit _ _ = ⊥
 
 -- ---- a world of chunks
 
-abbrev pub chunk_found : List Placed → ChunkPos → Option Chunk
+abbrev pub chunk_found : List LoadedChunk → ChunkPos → Option Chunk
 chunk_found [] c = None
 chunk_found (x ∷ xs) c = if same_chunk x.at c then Some x.chunk else chunk_found xs c
 
-abbrev pub ArePlacedOnce : List Placed → Type 0
+abbrev pub ArePlacedOnce : List LoadedChunk → Type 0
 ArePlacedOnce [] = Unit {0}
 ArePlacedOnce (x ∷ xs) = (chunk_found xs x.at ≡ None) × ArePlacedOnce xs
 
@@ -67,6 +67,6 @@ abbrev pub HasAt : Height → World → ChunkPos → Option Chunk → Type 0
 HasAt h w c None = (has_chunk w.positions.items c ≡ false) × ((s : SectionPos) → chunk_of_section s ≡ c → grid w s ≡ None) × (lists w c ≡ [])
 HasAt h w c (Some x) = (has_chunk w.positions.items c ≡ true) × ((s : SectionPos) → chunk_of_section s ≡ c → grid w s ≡ chunk_grid h x s) × (lists w c ≡ entries x.ticks)
 
-pub record IsWorldOf (h : Height) (xs : List Placed) (w : World) : Type 0 where
+pub record IsWorldOf (h : Height) (xs : List LoadedChunk) (w : World) : Type 0 where
   pub height_is : w.height ≡ h
   pub each : (c : ChunkPos) → HasAt h w c (chunk_found xs c)

@@ -12,7 +12,7 @@ ghost use Rattle.av_light.specs.Lights.{AreLit};
 use crate::dealt::in_order;
 use crate::lamps::Lamps;
 use av_chunk::ChunkLight;
-use av_dealt::{Placed, gathered, taken};
+use av_dealt::{Dealt, gathered, taken};
 use av_rules::Kinds;
 use av_types::Fault;
 use av_world::World;
@@ -39,12 +39,12 @@ fn lights_by(
         .into_par_iter()
         .with_min_len(1)
         .map(
-            |_thread: usize| -> Result<Vec<Placed<ChunkLight>>, AllocError>
+            |_thread: usize| -> Result<Vec<Dealt<ChunkLight>>, AllocError>
                 ensures { IsTaken (length (positions_of lamps.entry.now.world.now))
                     (IsChunkLightAt lamps.entry.now.kinds.now lamps.entry.now.world.now) result }
             { taken(alloc, lamps, &next) },
         )
-        .collect::<Vec<Result<Vec<Placed<ChunkLight>>, AllocError>>>(rt, alloc)?;
+        .collect::<Vec<Result<Vec<Dealt<ChunkLight>>, AllocError>>>(rt, alloc)?;
     let slots = gathered(alloc, lamps, all)?;
     in_order(alloc, lamps, slots)
 }

@@ -8,7 +8,7 @@ ghost use Rattle.av_image.specs.Ahead.{IsMadeBy};
 
 use crate::reading::batch::Batch;
 use av_chunk::{Chunk, Reading};
-use av_dealt::{Maker, Placed, gathered, taken};
+use av_dealt::{Dealt, Maker, gathered, taken};
 use av_nbt::decode;
 use av_state::StateTable;
 use av_types::{ChunkPos, Height};
@@ -125,12 +125,12 @@ pub(crate) fn read_ahead(
         .into_par_iter()
         .with_min_len(1)
         .map(
-            |_thread: usize| -> Result<Vec<Placed<Reading>>, AllocError>
+            |_thread: usize| -> Result<Vec<Dealt<Reading>>, AllocError>
                 ensures { IsTaken reader.entry.batch.now.extent.places
                     (IsMadeBy reader.entry.batch.now (states reader.entry.table.now)) result }
             { taken(alloc, &reader, &next) },
         )
-        .collect::<Vec<Result<Vec<Placed<Reading>>, AllocError>>>(rt, alloc)?;
+        .collect::<Vec<Result<Vec<Dealt<Reading>>, AllocError>>>(rt, alloc)?;
     gathered(alloc, &reader, all)
 }
 

@@ -18,7 +18,7 @@ ghost use Rattle.av_image.specs.Saving.{IsRestOf};
 ghost use Rattle.av_image.specs.Loading.{placed_order, region_before, comes_after, AreFilesInOrder, IsRegionsFault};
 
 use crate::reading::regions::{ReadRegion, read_regions};
-use crate::reading::splits::{Placed, split_regions, world_of};
+use crate::reading::splits::{LoadedChunk, split_regions, world_of};
 use crate::rest::Rest;
 use av_region_files::RegionFile;
 use av_rules::Rules;
@@ -50,7 +50,7 @@ fn files_in_order(files: Vec<RegionFile>) -> Result<Vec<RegionFile>, AllocError>
 }
 
 /// The chunks by (z, x).
-fn placed_in_order(found: Vec<Placed>) -> Result<Vec<Placed>, AllocError>
+fn placed_in_order(found: Vec<LoadedChunk>) -> Result<Vec<LoadedChunk>, AllocError>
     ensures { IfOk result (λ xs. xs.items ≡ ordered placed_order found.items) }
 {
     let mut found = found;

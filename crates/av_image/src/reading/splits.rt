@@ -16,13 +16,13 @@ use std::alloc::{AllocError, Global};
 
 /// A loaded chunk and its place.
 #[derive(Drop)]
-pub struct Placed {
+pub struct LoadedChunk {
     pub at: ChunkPos,
     pub chunk: Chunk,
 }
 
 /// What stays of a place. A chunk goes to those that were found.
-fn split_place(place: Place, at: ChunkPos, found: &mut Vec<Placed>) -> Result<Slot, AllocError>
+fn split_place(place: Place, at: ChunkPos, found: &mut Vec<LoadedChunk>) -> Result<Slot, AllocError>
     ensures slot { IfOk result (λ slot. slot ≡ slot_of place) }
     ensures found { OnOk result (found.new.items ≡ found.old.items ++ placed_of at place) }
 {
@@ -30,7 +30,7 @@ fn split_place(place: Place, at: ChunkPos, found: &mut Vec<Placed>) -> Result<Sl
         Place::Absent => Ok(Slot::Absent),
         Place::Kept(payload) => Ok(Slot::Kept(payload)),
         Place::Full { chunk, rest } => {
-            found.push(Placed { at, chunk })?;
+            found.push(LoadedChunk { at, chunk })?;
             Ok(Slot::Loaded(rest))
         }
     }
@@ -41,7 +41,7 @@ fn split_places(
     alloc: Global,
     places: Vec<Place>,
     pos: RegionPos,
-    found: &mut Vec<Placed>,
+    found: &mut Vec<LoadedChunk>,
 ) -> Result<Vec<Slot>, AllocError>
     requires limits { IsInLimits pos }
     requires count { length places.items ≤ 1024 }
@@ -61,7 +61,7 @@ fn split_places(
 fn split_region(
     alloc: Global,
     region: ReadRegion,
-    found: &mut Vec<Placed>,
+    found: &mut Vec<LoadedChunk>,
 ) -> Result<RegionRest, AllocError>
     requires limits { IsInLimits region.pos }
     requires count { length region.places.items ≤ 1024 }
@@ -81,7 +81,7 @@ fn split_region(
 pub(crate) fn split_regions(
     alloc: Global,
     regions: Vec<ReadRegion>,
-    found: &mut Vec<Placed>,
+    found: &mut Vec<LoadedChunk>,
 ) -> Result<Vec<RegionRest>, AllocError>
     requires limits { All (λ r. IsInLimits r.pos) regions.items }
     requires count { All (λ r. length r.places.items ≤ 1024) regions.items }
@@ -100,7 +100,7 @@ pub(crate) fn split_regions(
 pub(crate) fn world_of(
     alloc: Global,
     height: Height,
-    found: Vec<Placed>,
+    found: Vec<LoadedChunk>,
 ) -> Result<World, AllocError>
     requires limits { All (λ x. IsInLimits (region_of x.at)) found.items }
     requires fits { All (λ x. IsNewChunk x.at height x.chunk) found.items }

@@ -7,7 +7,7 @@ ghost use Rattle.av_image.specs.Making.{job_payload, job_payloads, IsPayloadAt, 
 use crate::rest::{RegionRest, Slot};
 use crate::writing::job::RegionJob;
 use crate::writing::payloads::{Payload, loaded_payload, place_payload};
-use av_dealt::{Maker, Placed, gathered, taken};
+use av_dealt::{Dealt, Maker, gathered, taken};
 use rayon::current_num_threads;
 use rayon::prelude::*;
 use std::alloc::{AllocError, Global};
@@ -123,11 +123,11 @@ pub(crate) fn payloads_by<'a>(
         .into_par_iter()
         .with_min_len(1)
         .map(
-            |_thread: usize| -> Result<Vec<Placed<Vec<u8>>>, AllocError>
+            |_thread: usize| -> Result<Vec<Dealt<Vec<u8>>>, AllocError>
                 ensures { IsTaken 1024 (IsMade job.entry.now) result }
             { taken(alloc, job, &next) },
         )
-        .collect::<Vec<Result<Vec<Placed<Vec<u8>>>, AllocError>>>(rt, alloc)?;
+        .collect::<Vec<Result<Vec<Dealt<Vec<u8>>>, AllocError>>>(rt, alloc)?;
     let places = gathered(alloc, job, all)?;
     in_order(alloc, job, places)
 }

@@ -1,13 +1,13 @@
 use Rattle.std.proofs.Common.{◌≡◌, ℤ, rules}
 use Rattle.std.proofs.lemmas.Fn.{always_returns_same}
 use Rattle.av_types.proofs.OrderLemmas.{sorted_is_ordered}
-use Rattle.av_image.specs.declared.reading.splits.Placed.{Placed}
+use Rattle.av_image.specs.declared.reading.splits.LoadedChunk.{LoadedChunk}
 use Rattle.av_image.specs.Loading.{placed_order}
 use Rattle.av_image.proofs.Sorting.{placed_laws}
 use Rattle.av_image.proofs.reading.loading.placed_in_order.Goals as goal
 
 pub returns : goal.returns
 returns c =
-    let key : Placed → ℤ × ℤ = λ x. (x.at.z, x.at.x) in
+    let key : LoadedChunk → ℤ × ℤ = λ x. (x.at.z, x.at.x) in
     let keys = always_returns_same _ (λ a r. r ≡ key a.0.now) _ (λ a r f' call. (search rules, search rules)) in
     sorted_is_ordered placed_order placed_laws _ _ (c.in_ok-sort_by_key.ensures.sorted key keys) (c.in_ok-sort_by_key.ensures.stable key keys)

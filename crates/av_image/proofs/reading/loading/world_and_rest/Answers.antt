@@ -8,7 +8,7 @@ use Rattle.av_world.specs.Inserted.{IsNewChunk}
 use Rattle.av_types.specs.Order.{ordered}
 use Rattle.av_files.specs.Files.{File, in_order, regions_rise}
 use Rattle.av_files.specs.FirstFault.{AreFilesGood}
-use Rattle.av_image.specs.declared.reading.splits.Placed.{Placed}
+use Rattle.av_image.specs.declared.reading.splits.LoadedChunk.{LoadedChunk}
 use Rattle.av_image.specs.Placed.{WereRegionsRead}
 use Rattle.av_image.specs.Loading.{placed_order}
 use Rattle.av_image.specs.Splits.{placed_in, ArePlacedOnce, IsWorldOf}
@@ -34,19 +34,19 @@ split_regions-requires-clause-count c = counts_of c.args.height (states c.args.t
 pub world_of-requires-clause-limits : goal.world_of-requires-clause-limits
 world_of-requires-clause-limits c =
     let rs = c.args.regions.items in
-    let is : c.in_ok-found.found.items ≡ ordered placed_order (flat_map placed_in rs) = c.in_ok-found.ensures ∙ ap (ordered placed_order) (c.in_ok-regions.ensures.found ∙ ap (λ (l : List Placed). l ++ flat_map placed_in rs) c.new-found.ensures.items) in
-    subst (λ (xs : List Placed). All (λ x. IsInLimits (region_of x.at)) xs) (sym is) (placed_limits c.args.height (states c.args.table.now) c.requires.files rs (some (states c.args.table.now) c.args.table.now.numbered.begins) c.requires.each)
+    let is : c.in_ok-found.found.items ≡ ordered placed_order (flat_map placed_in rs) = c.in_ok-found.ensures ∙ ap (ordered placed_order) (c.in_ok-regions.ensures.found ∙ ap (λ (l : List LoadedChunk). l ++ flat_map placed_in rs) c.new-found.ensures.items) in
+    subst (λ (xs : List LoadedChunk). All (λ x. IsInLimits (region_of x.at)) xs) (sym is) (placed_limits c.args.height (states c.args.table.now) c.requires.files rs (some (states c.args.table.now) c.args.table.now.numbered.begins) c.requires.each)
 
 pub world_of-requires-clause-fits : goal.world_of-requires-clause-fits
 world_of-requires-clause-fits c =
     let rs = c.args.regions.items in
-    let is : c.in_ok-found.found.items ≡ ordered placed_order (flat_map placed_in rs) = c.in_ok-found.ensures ∙ ap (ordered placed_order) (c.in_ok-regions.ensures.found ∙ ap (λ (l : List Placed). l ++ flat_map placed_in rs) c.new-found.ensures.items) in
-    subst (λ (xs : List Placed). All (λ x. IsNewChunk x.at c.args.height x.chunk) xs) (sym is) (placed_fit c.args.height (states c.args.table.now) c.requires.files rs (some (states c.args.table.now) c.args.table.now.numbered.begins) c.requires.each)
+    let is : c.in_ok-found.found.items ≡ ordered placed_order (flat_map placed_in rs) = c.in_ok-found.ensures ∙ ap (ordered placed_order) (c.in_ok-regions.ensures.found ∙ ap (λ (l : List LoadedChunk). l ++ flat_map placed_in rs) c.new-found.ensures.items) in
+    subst (λ (xs : List LoadedChunk). All (λ x. IsNewChunk x.at c.args.height x.chunk) xs) (sym is) (placed_fit c.args.height (states c.args.table.now) c.requires.files rs (some (states c.args.table.now) c.args.table.now.numbered.begins) c.requires.each)
 
 pub world_of-requires-clause-once : goal.world_of-requires-clause-once
 world_of-requires-clause-once c =
     let rs = c.args.regions.items in
-    let is : c.in_ok-found.found.items ≡ ordered placed_order (flat_map placed_in rs) = c.in_ok-found.ensures ∙ ap (ordered placed_order) (c.in_ok-regions.ensures.found ∙ ap (λ (l : List Placed). l ++ flat_map placed_in rs) c.new-found.ensures.items) in
+    let is : c.in_ok-found.found.items ≡ ordered placed_order (flat_map placed_in rs) = c.in_ok-found.ensures ∙ ap (ordered placed_order) (c.in_ok-regions.ensures.found ∙ ap (λ (l : List LoadedChunk). l ++ flat_map placed_in rs) c.new-found.ensures.items) in
     subst ArePlacedOnce (sym is) (placed_once c.args.height (states c.args.table.now) c.requires.files rs c.requires.each c.requires.rise)
 
 pub returns-clause-ok : goal.returns-clause-ok
@@ -56,8 +56,8 @@ returns-clause-ok c =
     let w = c.in_ok-world.world in
     let h = c.args.height in
     let t = states c.args.table.now in
-    let is : c.in_ok-found.found.items ≡ ordered placed_order (flat_map placed_in rs) = c.in_ok-found.ensures ∙ ap (ordered placed_order) (c.in_ok-regions.ensures.found ∙ ap (λ (l : List Placed). l ++ flat_map placed_in rs) c.new-found.ensures.items) in
-    let world : IsWorldOf h (flat_map placed_in rs) w = world_ordered h (flat_map placed_in rs) w (subst (λ (xs : List Placed). IsWorldOf h xs w) is c.in_ok-world.ensures.world) in
+    let is : c.in_ok-found.found.items ≡ ordered placed_order (flat_map placed_in rs) = c.in_ok-found.ensures ∙ ap (ordered placed_order) (c.in_ok-regions.ensures.found ∙ ap (λ (l : List LoadedChunk). l ++ flat_map placed_in rs) c.new-found.ensures.items) in
+    let world : IsWorldOf h (flat_map placed_in rs) w = world_ordered h (flat_map placed_in rs) w (subst (λ (xs : List LoadedChunk). IsWorldOf h xs w) is c.in_ok-world.ensures.world) in
     let begins = c.args.table.now.numbered.begins in
     λ old fs sorted judged read.
     let was : WereRegionsRead h t (in_order fs) rs = subst (λ (gs : List File). WereRegionsRead h t gs rs) judged.order read.each in
@@ -77,8 +77,8 @@ returns-clause-whole c =
     let w = c.in_ok-world.world in
     let h = c.args.height in
     let t = states c.args.table.now in
-    let is : c.in_ok-found.found.items ≡ ordered placed_order (flat_map placed_in rs) = c.in_ok-found.ensures ∙ ap (ordered placed_order) (c.in_ok-regions.ensures.found ∙ ap (λ (l : List Placed). l ++ flat_map placed_in rs) c.new-found.ensures.items) in
-    let world : IsWorldOf h (flat_map placed_in rs) w = world_ordered h (flat_map placed_in rs) w (subst (λ (xs : List Placed). IsWorldOf h xs w) is c.in_ok-world.ensures.world) in
+    let is : c.in_ok-found.found.items ≡ ordered placed_order (flat_map placed_in rs) = c.in_ok-found.ensures ∙ ap (ordered placed_order) (c.in_ok-regions.ensures.found ∙ ap (λ (l : List LoadedChunk). l ++ flat_map placed_in rs) c.new-found.ensures.items) in
+    let world : IsWorldOf h (flat_map placed_in rs) w = world_ordered h (flat_map placed_in rs) w (subst (λ (xs : List LoadedChunk). IsWorldOf h xs w) is c.in_ok-world.ensures.world) in
     whole_read h t c.requires.files rs w c.requires.each world (some t c.args.table.now.numbered.begins)
 
 pub returns-clause-rest : goal.returns-clause-rest
@@ -88,7 +88,7 @@ returns-clause-rest c =
     let w = c.in_ok-world.world in
     let h = c.args.height in
     let t = states c.args.table.now in
-    let is : c.in_ok-found.found.items ≡ ordered placed_order (flat_map placed_in rs) = c.in_ok-found.ensures ∙ ap (ordered placed_order) (c.in_ok-regions.ensures.found ∙ ap (λ (l : List Placed). l ++ flat_map placed_in rs) c.new-found.ensures.items) in
-    let world : IsWorldOf h (flat_map placed_in rs) w = world_ordered h (flat_map placed_in rs) w (subst (λ (xs : List Placed). IsWorldOf h xs w) is c.in_ok-world.ensures.world) in
+    let is : c.in_ok-found.found.items ≡ ordered placed_order (flat_map placed_in rs) = c.in_ok-found.ensures ∙ ap (ordered placed_order) (c.in_ok-regions.ensures.found ∙ ap (λ (l : List LoadedChunk). l ++ flat_map placed_in rs) c.new-found.ensures.items) in
+    let world : IsWorldOf h (flat_map placed_in rs) w = world_ordered h (flat_map placed_in rs) w (subst (λ (xs : List LoadedChunk). IsWorldOf h xs w) is c.in_ok-world.ensures.world) in
     let both = rest_read h t c.requires.files rs xs w c.requires.rise c.requires.each c.in_ok-regions.ensures.rest world in
     record { rise = both.0; each = All-from_recursion (IsRegionOf h w.positions.items) xs both.1 }

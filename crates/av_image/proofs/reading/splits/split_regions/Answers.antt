@@ -6,7 +6,7 @@ use Rattle.std.proofs.lemmas.Grind.{flat_map-append}
 use Rattle.av_types.specs.Places.{IsInLimits}
 use Rattle.av_image.specs.declared.reading.regions.ReadRegion.{ReadRegion}
 use Rattle.av_image.specs.declared.rest.RegionRest.{RegionRest}
-use Rattle.av_image.specs.declared.reading.splits.Placed.{Placed}
+use Rattle.av_image.specs.declared.reading.splits.LoadedChunk.{LoadedChunk}
 use Rattle.av_image.specs.Splits.{AreSplit, IsSplit, placed_in}
 use Rattle.av_image.proofs.reading.splits.split_regions.Goals as goal
 
@@ -16,7 +16,7 @@ split_more (q ∷ rs) (y ∷ xs) r x h s = (h.0, split_more rs xs r x h.1 s)
 split_more [] (y ∷ xs) r x h s = absurd h
 split_more (q ∷ rs) [] r x h s = absurd h
 
-found_more : (a b now : List Placed) (rs : List ReadRegion) (r : ReadRegion) → b ≡ now ++ flat_map placed_in rs → a ≡ b ++ placed_in r → a ≡ now ++ flat_map placed_in (rs ++ r ∷ [])
+found_more : (a b now : List LoadedChunk) (rs : List ReadRegion) (r : ReadRegion) → b ≡ now ++ flat_map placed_in rs → a ≡ b ++ placed_in r → a ≡ now ++ flat_map placed_in (rs ++ r ∷ [])
 found_more a b now rs r e f =
     f ∙ (ap (λ l. l ++ placed_in r) e ∙ (append_assoc now (flat_map placed_in rs) (placed_in r)
     ∙ ap (λ l. now ++ l) (ap (λ l. flat_map placed_in rs ++ l) (sym (append-nil (placed_in r))) ∙ sym (flat_map-append placed_in rs (r ∷ [])))))
