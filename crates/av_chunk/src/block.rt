@@ -8,8 +8,8 @@ ghost use Rattle.av_chunk.specs.Reading.{HasAllSections};
 ghost use Rattle.av_chunk.specs.Block.{is_of_region, IsFound, IsBlockRefused, IsDenoted, IsPayloadRefused, IsNumbered, found_in};
 
 use crate::chunk::{Chunk, Reading};
-use crate::payload::read_payload;
 use crate::index::section_index;
+use crate::payload::read_payload;
 use av_region::Region;
 use av_state::{State, StateTable};
 use av_types::{Fault, Height, Pos, RegionPos};

@@ -13,10 +13,10 @@ ghost use Rattle.av_chunk.specs.Working.{has_other, has_bad_number, list_items, 
 
 use crate::reading::faults::lesser;
 use crate::reading::loaded::assembled;
-use crate::rest::ChunkRest;
 use crate::reading::sections::{Sections, emptied, read_sections};
 use crate::reading::shape::admitted;
 use crate::reading::water::{Ticks, read_ticks};
+use crate::rest::ChunkRest;
 use av_section::Section;
 use av_state::StateTable;
 use av_tags::{Root, Tag};

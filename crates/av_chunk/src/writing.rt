@@ -10,10 +10,10 @@ mod section;
 mod sections;
 mod ticks;
 
-use crate::writing::build::{compounds, placed};
 use crate::chunk::Chunk;
 use crate::light::ChunkLight;
 use crate::rest::ChunkRest;
+use crate::writing::build::{compounds, placed};
 use crate::writing::sections::all_sections;
 use crate::writing::ticks::all_ticks;
 use av_rules::Kinds;

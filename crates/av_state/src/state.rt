@@ -313,8 +313,10 @@ fn keys_rise(properties: &[Property]) -> bool
 
 /// Whether a name and properties in order are a state that a file can hold.
 fn is_storable(name: &[u8], properties: &[Property]) -> bool
-    ensures { result ≡ is_storable (record { name = name.now;
-        properties = properties_of properties.now }) }
+    ensures { result ≡ is_storable (record {
+      name = name.now;
+      properties = properties_of properties.now;
+    }) }
 {
     is_short(name) && are_short(properties) && keys_rise(properties)
 }

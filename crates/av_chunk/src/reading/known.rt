@@ -12,11 +12,11 @@ ghost use Rattle.av_chunk.specs.Working.{checked_number, compound_in, tags_in, h
 
 use crate::chunk::{Chunk, Reading, items};
 use crate::reading::loaded::assembled;
-use crate::rest::{OutsideSection, SectionTags};
 use crate::reading::sections::{Part, Sections, emptied, fill_all, is_inside};
 use crate::reading::shape::admitted;
 use crate::reading::tags::byte_at;
 use crate::reading::water::read_ticks;
+use crate::rest::{OutsideSection, SectionTags};
 use av_section::Section;
 use av_state::StateTable;
 use av_tags::{Named, Root, Tag, find, remove};

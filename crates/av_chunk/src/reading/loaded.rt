@@ -7,9 +7,9 @@ ghost use Rattle.av_chunk.specs.Assembly.{IsTakenApart};
 
 use crate::chunk::{Chunk, Reading};
 use crate::reading::pending::mark_pending;
-use crate::rest::ChunkRest;
 use crate::reading::sections::Sections;
 use crate::reading::water::Ticks;
+use crate::rest::ChunkRest;
 use av_tags::Named;
 use av_types::{ChunkPos, Height};
 

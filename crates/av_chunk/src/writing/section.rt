@@ -9,8 +9,8 @@ ghost use Rattle.av_document.specs.Layout.{data_tags, states_layout};
 ghost use Rattle.av_chunk.specs.Rest.{tags_of, missing, section_or_missing, found_outside};
 ghost use Rattle.av_chunk.specs.WritingSteps.{section_with};
 
-use crate::writing::build::{appended, copied, joined, placed};
 use crate::rest::{OutsideSection, SectionTags};
+use crate::writing::build::{appended, copied, joined, placed};
 use av_section::Section;
 use av_state::StateTable;
 use av_tags::{Named, Tag};

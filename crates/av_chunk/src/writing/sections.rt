@@ -7,9 +7,9 @@ ghost use Rattle.av_document.specs.Layout.{compound_with, kept_section};
 ghost use Rattle.av_chunk.specs.WritingSteps.{CanWriteSections, number_at, inside_layout, written_section, first_sections};
 
 use crate::chunk::Chunk;
+use crate::index::section_index;
 use crate::light::ChunkLight;
 use crate::rest::{ChunkRest, SectionTags};
-use crate::index::section_index;
 use crate::writing::section::{kept_section, outside_section, section_tags};
 use av_rules::Kinds;
 use av_section::Section;

@@ -16,10 +16,10 @@ ghost use Rattle.av_chunk.specs.Writing.{sources_of};
 ghost use Rattle.av_chunk.specs.WritingSteps.{CanWriteEntry, written_entry};
 ghost use Rattle.std.specs.List.{All};
 
-use crate::writing::build::{appended, copied_compound};
 use crate::chunk::Chunk;
-use crate::rest::ChunkRest;
 use crate::index::section_index;
+use crate::rest::ChunkRest;
+use crate::writing::build::{appended, copied_compound};
 use crate::writing::sections::section_at;
 use av_rules::Kinds;
 use av_tags::{Named, Tag};
