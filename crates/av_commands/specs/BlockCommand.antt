@@ -1,5 +1,5 @@
 -- What `block` answers for a file: its line, or why there is none.
-use Rattle.std.specs.Prelude.{◌≡◌, ◌⊎◌, ℕ, List, Option}
+use Rattle.std.specs.Prelude.{◌≡◌, ◌⊎◌, ℕ, List, Option, Some, None, codes}
 use Rattle.std.specs.Io.KnownBytes.{Appends}
 use Rattle.av_types.specs.Places.{IsInLimits}
 use Rattle.av_types.specs.declared.place.Pos.{Pos}
@@ -7,12 +7,18 @@ use Rattle.av_types.specs.declared.place.RegionPos.{RegionPos}
 use Rattle.av_types.specs.declared.place.Height.{Height}
 use Rattle.av_types.specs.declared.fault.Fault.TheVariants.{OutOfMemory, RegionRange}
 use Rattle.av_state.specs.BlockState.{BlockState}
+use Rattle.av_state.specs.Words.{state_text}
 use Rattle.av_chunk.specs.Block.{IsFound, IsBlockRefused}
 use Rattle.av_commands.specs.declared.block.refusal.Refusal.{Refusal}
 use Rattle.av_commands.specs.declared.block.refusal.Refusal.TheVariants as refusal
 use Rattle.av_region_files.specs.Names.{region_name_of}
-use Rattle.av_commands.specs.Names.{FitsRegion, IsFileNameOf}
-use Rattle.av_commands.specs.Output.{HasBegun, answer_line}
+use Rattle.av_reports.specs.Names.{FitsRegion, IsFileNameOf}
+use Rattle.av_reports.specs.Output.{HasBegun, line}
+
+-- the line for a block, or for one that is not loaded
+abbrev pub answer_line : Option BlockState → List ℕ
+answer_line None = line (codes "unloaded")
+answer_line (Some s) = line (state_text s)
 
 -- the path ends in the name of this region, whose coordinates are numbers of 32 bits
 pub record IsPathOf (path : List ℕ) (region : RegionPos) : Type 0 where

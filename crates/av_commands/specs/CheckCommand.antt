@@ -9,9 +9,9 @@ use Rattle.av_types.specs.declared.place.RegionPos.{RegionPos}
 use Rattle.av_region_files.specs.Names.{region_name_of}
 use Rattle.av_survey.specs.declared.finding.Finding.{Finding}
 use Rattle.av_commands.specs.declared.checking.Counts.{Counts}
-use Rattle.av_commands.specs.declared.failure.UnreadFile.{UnreadFile}
-use Rattle.av_commands.specs.Output.{is_compression, lines_of, packed_advice}
-use Rattle.av_commands.specs.Reasons.{TellsFailure}
+use Rattle.av_reports.specs.declared.failure.UnreadFile.{UnreadFile}
+use Rattle.av_reports.specs.Output.{is_compression, lines_of, packed_advice}
+use Rattle.av_reports.specs.Reasons.{TellsFailure}
 
 -- `CX CZ `, the chunk's coordinates in the world, or nothing where a whole file is meant
 abbrev pub chunk_text : Option ChunkPos → List ℕ

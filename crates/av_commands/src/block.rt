@@ -1,14 +1,17 @@
 //! The command `block`: the state of a block of a region file.
-ghost use Rattle.std.specs.Prelude.{◌≡◌, IfErr, IfOk};
+ghost use Rattle.std.specs.Prelude.{◌≡◌, IfErr, IfOk, option_map};
 ghost use Rattle.std.specs.Io.KnownBytes.{Appends};
 ghost use Rattle.av_types.specs.Places.{IsInLimits};
-ghost use Rattle.av_commands.specs.BlockCommand.{HasAnswered, IsBlockLine, IsBlockRefusal, IsPathOf, IsPathRefused, status_of};
+ghost use Rattle.av_types.specs.declared.fault.Fault.TheVariants.{OutOfMemory};
+ghost use Rattle.av_state.specs.States.{state_of};
+ghost use Rattle.av_commands.specs.BlockCommand.{HasAnswered, answer_line, IsBlockLine, IsBlockRefusal, IsPathOf, IsPathRefused, status_of};
 
-use crate::failure::{Failure, Reason};
-use crate::names::{file_name, region_of_name};
-use crate::output::{REFUSED, block_line, report_output, write_first};
-use crate::reasons::report_failure;
 use av_chunk::block_at;
+use av_reports::failure::{Failure, Reason};
+use av_reports::names::{file_name, region_of_name};
+use av_reports::output::{REFUSED, report_output, write_first};
+use av_reports::reasons::report_failure;
+use av_state::State;
 use av_types::{Fault, Height, Pos, RegionPos};
 use std::alloc::Global;
 use std::io::Write;
@@ -30,7 +33,20 @@ fn region_of_path(alloc: Global, path: &str) -> Result<RegionPos, Refusal>
     }
 }
 
-/// The line for a block.
+/// The line for a block: the state as `NAME` or `NAME[k=v,..]`, or `unloaded`.
+pub fn block_line(alloc: Global, block: &Option<State>) -> Result<Vec<u8>, Fault>
+    ensures line { IfOk result (λ line. line.items ≡ answer_line (option_map state_of block.now)) }
+    ensures memory { IfErr result (λ e. e ≡ OutOfMemory) }
+{
+    let mut line = match block {
+        Some(state) => state.text(alloc)?,
+        None => Vec::from_slice(alloc, b"unloaded")?,
+    };
+    line.push(b'\n')?;
+    Ok(line)
+}
+
+/// The line for the block of a path's file.
 fn answer(
     alloc: Global,
     path: &str,

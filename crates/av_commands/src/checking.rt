@@ -2,12 +2,12 @@
 ghost use Rattle.std.specs.Prelude.{◌≡◌, MatchResult, OnOk};
 ghost use Rattle.std.specs.Io.KnownBytes.{Appends};
 ghost use Rattle.av_types.specs.Faults.{fault_text};
-ghost use Rattle.av_commands.specs.Output.{line};
+ghost use Rattle.av_reports.specs.Output.{line};
 ghost use Rattle.av_commands.specs.CheckCommand.{HasFindings, TellsUnread, advice_on, counts_text, finding_lines, written_at};
 
-use crate::failure::{Failure, UnreadFile};
-use crate::output::{FAULT, is_compression, report_fault, report_output, write_packed_advice};
-use crate::reasons::write_failure;
+use av_reports::failure::{Failure, UnreadFile};
+use av_reports::output::{FAULT, is_compression, report_fault, report_output, write_packed_advice};
+use av_reports::reasons::write_failure;
 use av_survey::Finding;
 use av_types::{ChunkPos, Fault, RegionPos};
 use std::alloc::Global;

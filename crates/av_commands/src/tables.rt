@@ -5,9 +5,9 @@ ghost use Rattle.av_commands.specs.Shipped.{shipped_table};
 ghost use Rattle.av_commands.specs.Texts.{IsUnreadText};
 ghost use Rattle.av_commands.specs.Tables.{IsHeightBy, IsTableBy, IsUnreadTable, IsWorldHeight};
 
-use crate::device::{read_text, read_text_or};
-use crate::failure::Failure;
 use crate::shipped::SHIPPED_TABLE;
+use crate::texts::{read_text, read_text_or};
+use av_reports::failure::Failure;
 use av_rules::Rules;
 use av_types::Height;
 use std::io::Input;

@@ -2,11 +2,11 @@
 use crate::expecting::expect_equal;
 use av_commands::block::block_text;
 use av_commands::checking::{Counts, findings, write_counts, write_unread};
-use av_commands::edit_trouble::{EditCause, EditTrouble, edit_cause};
-use av_commands::failure::{Failure, Reason, UnreadFile};
-use av_commands::names::{file_name, region_of_name, split_path};
-use av_commands::output::report_fault;
-use av_commands::reasons::report_failure;
+use av_reports::edit_trouble::{EditCause, EditTrouble, edit_cause};
+use av_reports::failure::{Failure, Reason, UnreadFile};
+use av_reports::names::{file_name, region_of_name, split_path};
+use av_reports::output::report_fault;
+use av_reports::reasons::report_failure;
 use av_survey::Finding;
 use av_types::{ChunkPos, Fault, Height, Pos, RegionPos};
 use std::alloc::Global;

@@ -3,7 +3,7 @@ use Rattle.std.specs.Prelude.{◌≡◌, ℕ, List, [], ◌∷◌, ◌++◌, Boo
 use Rattle.std.specs.List.{starts_with}
 use Rattle.av_types.specs.declared.place.RegionPos.{RegionPos}
 use Rattle.av_region_files.specs.Names.{region_name_of}
-use Rattle.av_commands.specs.Names.{FitsRegion}
+use Rattle.av_reports.specs.Names.{FitsRegion}
 
 abbrev pub own_start : List ℕ
 own_start = codes ".anvilwater-"

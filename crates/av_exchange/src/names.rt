@@ -1,9 +1,9 @@
 //! The names of an exchange's own files.
 ghost use Rattle.std.specs.Prelude.{◌≡◌, ◌≢◌, ℕ, IfOk, List, MatchOption, string_bytes, true};
-ghost use Rattle.av_commands.specs.Names.{FitsRegion};
+ghost use Rattle.av_reports.specs.Names.{FitsRegion};
 ghost use Rattle.av_exchange.specs.Names.{IsBeside, IsRegionName, is_own, part_of};
 
-use av_commands::names::region_of_name;
+use av_reports::names::region_of_name;
 use av_types::RegionPos;
 use std::alloc::{AllocError, Global};
 

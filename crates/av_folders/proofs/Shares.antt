@@ -5,7 +5,7 @@ use Rattle.std.proofs.lemmas.List.{map-append}
 use Rattle.av_types.specs.declared.place.RegionPos.{RegionPos}
 use Rattle.av_region_files.specs.Names.{region_name_of}
 use Rattle.av_region_files.specs.declared.files.RegionFile.{RegionFile}
-use Rattle.av_commands.specs.declared.failure.UnreadFile.{UnreadFile}
+use Rattle.av_reports.specs.declared.failure.UnreadFile.{UnreadFile}
 use Rattle.av_folders.specs.declared.reading.FolderFiles.{FolderFiles}
 use Rattle.av_folders.specs.declared.reading.Listed.{Listed}
 use Rattle.av_folders.specs.Folders.{AreRead, AreSharedOut, none, first, second}

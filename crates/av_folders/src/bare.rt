@@ -1,7 +1,7 @@
 //! Folders without region files.
 ghost use Rattle.std.specs.Prelude.{None, OnOk, Some, option_map};
 ghost use Rattle.std.specs.Io.KnownBytes.{Appends};
-ghost use Rattle.av_commands.specs.Output.{line};
+ghost use Rattle.av_reports.specs.Output.{line};
 ghost use Rattle.av_folders.specs.Bare.{bare_text};
 
 use std::io::Write;

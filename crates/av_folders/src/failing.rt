@@ -3,7 +3,7 @@ ghost use Rattle.std.specs.Prelude.{◌≡◌, ◌⊎◌};
 ghost use Rattle.av_types.specs.declared.fault.Fault.TheVariants.{OutOfMemory};
 ghost use Rattle.av_sink.specs.Account.{IsDevice};
 
-use av_commands::failure::{Failure, Reason};
+use av_reports::failure::{Failure, Reason};
 use av_sink::FailedFile;
 use av_types::Fault;
 use std::alloc::Global;

@@ -6,10 +6,10 @@ ghost use Rattle.av_folders.specs.Folders.{folder_account};
 use crate::holding::LockFiles;
 use crate::system_folder::SystemFolder;
 use crate::tidying::hold_if_free;
-use av_commands::names::region_of_name;
 use av_exchange::{
     Folder, JOURNAL, close, is_own, place, place_alone, repair, stage, sweep, unstage,
 };
+use av_reports::names::region_of_name;
 use av_sink::{FailedFile, OutputFolder, Repair, Sink, SinkFailed, Teller};
 use std::alloc::{AllocError, Global};
 use std::io::{self, ErrorKind};

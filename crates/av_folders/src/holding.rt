@@ -3,7 +3,7 @@ ghost use Rattle.std.specs.Prelude.{IfErr};
 ghost use Rattle.av_folders.specs.Folders.{IsFolderFault};
 
 use crate::locks::holder_of;
-use av_commands::failure::Failure;
+use av_reports::failure::Failure;
 use std::fs::{self, File, Metadata, TryLockError};
 use std::io::{self, ErrorKind};
 use std::path::Path;

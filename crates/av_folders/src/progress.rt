@@ -1,5 +1,5 @@
 //! How far long work is.
-use av_commands::manner::Progress;
+use av_reports::manner::Progress;
 use std::fmt::Display;
 use std::io::Write;
 

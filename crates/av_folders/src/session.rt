@@ -4,7 +4,7 @@ ghost use Rattle.av_folders.specs.Folders.{IsOutputFault, IsSessionFault};
 
 use crate::holding::{HeldFolder, LockFiles, hold_folder};
 use crate::locks::holder_of;
-use av_commands::failure::Failure;
+use av_reports::failure::Failure;
 use std::fs;
 use std::io::{self, ErrorKind};
 use std::path::{Path, PathBuf};

@@ -1,7 +1,7 @@
 -- Lines that begin with a number.
 use Rattle.std.proofs.Common.{sym, subst, append_assoc, List, ℕ, [], ◌∷◌, ◌++◌, Option, Result, OnOk}
 use Rattle.std.specs.Io.KnownBytes.{Appends}
-use Rattle.av_commands.specs.Output.{line}
+use Rattle.av_reports.specs.Output.{line}
 
 -- a number, and a text with its end of line
 pub told : {T E : Type 0} (r : Result T E) (before after : Option (List ℕ)) (number text : List ℕ) → OnOk r (Appends before after (number ++ (text ++ 10 ∷ [])))

@@ -4,8 +4,8 @@ use Rattle.std.specs.Fmt.{decimal}
 use Rattle.std.specs.Io.KnownBytes.{Appends}
 use Rattle.av_region_files.specs.declared.files.RegionFile.{RegionFile}
 use Rattle.av_changes.specs.Changes.{change_lines}
-use Rattle.av_commands.specs.Output.{line}
-use Rattle.av_commands.specs.declared.failure.Failure.{Failure}
+use Rattle.av_reports.specs.Output.{line}
+use Rattle.av_reports.specs.declared.failure.Failure.{Failure}
 use Rattle.av_answers.specs.declared.answers.Ran.{Ran}
 use Rattle.av_answers.specs.declared.answers.Ran.TheVariants.{Done, Uncovered}
 use Rattle.av_outcomes.specs.declared.telling.Foreseen.{Foreseen}

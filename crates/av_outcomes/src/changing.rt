@@ -5,9 +5,9 @@ ghost use Rattle.av_outcomes.specs.Telling.{outcome_files};
 
 use av_answers::Ran;
 use av_changes::{CHANGED, Change, by_name, write_changes};
-use av_commands::failure::Failure;
-use av_commands::manner::Progress;
 use av_folders::progress::end_steps;
+use av_reports::failure::Failure;
+use av_reports::manner::Progress;
 use av_requests::changes_in;
 use std::io::Write;
 use std::rt::Files;

@@ -2,11 +2,11 @@
 ghost use Rattle.std.specs.Prelude.{◌≡◌, ◌⊎◌};
 ghost use Rattle.av_outcomes.specs.Closing.{goes_on};
 
-use av_commands::manner::Manner;
-use av_commands::output::FAULT;
-use av_commands::reasons::report_failure;
 use av_folders::failing::failure_of_folder;
 use av_folders::note_removed;
+use av_reports::manner::Manner;
+use av_reports::output::FAULT;
+use av_reports::reasons::report_failure;
 use av_requests::Request;
 use av_sink::{OutputFolder, Repair};
 use std::alloc::Global;

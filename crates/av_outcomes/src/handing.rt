@@ -7,8 +7,8 @@ ghost use Rattle.av_outcomes.specs.Handing.{IsHandedOver, IsNotHandedOver, IsNot
 
 use crate::steps::StepTeller;
 use av_answers::Ran;
-use av_commands::manner::Progress;
 use av_region_files::RegionFile;
+use av_reports::manner::Progress;
 use av_sink::{OutputFolder, save_all};
 use av_types::Fault;
 use std::alloc::Global;

@@ -1,9 +1,9 @@
 //! The steps of a run, as they are told on standard error.
 ghost use Rattle.std.specs.Prelude.{◌≤◌};
 
-use av_commands::manner::Progress;
 use av_crew::{Done, Gate, Job, Step};
 use av_folders::progress::tell_step;
+use av_reports::manner::Progress;
 use av_sink::Teller;
 use std::fmt;
 

@@ -1,14 +1,14 @@
 //! What is told of a run, and the program's status.
 ghost use Rattle.std.specs.Prelude.{OnOk};
 ghost use Rattle.std.specs.Io.KnownBytes.{Appends};
-ghost use Rattle.av_commands.specs.Output.{line};
+ghost use Rattle.av_reports.specs.Output.{line};
 ghost use Rattle.av_outcomes.specs.Telling.{HasCounts, HasReported, HasTold, strict_text, uncovered_text};
 
 use av_answers::{Outcome, Ran};
 use av_changes::{Change, WOULD_CHANGE, write_changes};
-use av_commands::failure::Failure;
-use av_commands::output::{FAULT, report_output};
-use av_commands::reasons::report_failure;
+use av_reports::failure::Failure;
+use av_reports::output::{FAULT, report_output};
+use av_reports::reasons::report_failure;
 use std::alloc::Global;
 use std::io::{self, Write};
 

@@ -4,7 +4,7 @@ use Rattle.av_types.specs.declared.fault.Fault.{Fault}
 use Rattle.av_sink.specs.Account.{Account, with_files, with_places}
 use Rattle.av_sink.specs.Saving.{named_file}
 use Rattle.av_files.specs.Files.{file_in}
-use Rattle.av_commands.specs.declared.failure.Failure.{Failure}
+use Rattle.av_reports.specs.declared.failure.Failure.{Failure}
 use Rattle.av_answers.specs.Checked.{IsCheckedAnswer}
 use Rattle.av_answers.specs.declared.answers.Ran.{Ran}
 use Rattle.av_answers.specs.declared.answers.Ran.TheVariants.{Done}

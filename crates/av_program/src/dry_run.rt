@@ -3,13 +3,13 @@ ghost use Rattle.std.specs.Prelude.{◌≤◌, IfOk};
 ghost use Rattle.av_program.specs.DryRun.{HasRunDry, IsForeseen};
 
 use crate::running::run_inputs;
-use av_commands::failure::Failure;
-use av_commands::manner::Manner;
-use av_commands::output::REFUSED;
-use av_commands::reasons::report_failure;
 use av_folders::progress::{end_steps, note_step};
 use av_folders::{LockFiles, tidy};
 use av_outcomes::{Foreseen, changes_of, tell};
+use av_reports::failure::Failure;
+use av_reports::manner::Manner;
+use av_reports::output::REFUSED;
+use av_reports::reasons::report_failure;
 use av_requests::{Request, failure_of_run, look_for, read_inputs};
 use std::io::{Input, Write};
 use std::sync::Wait;

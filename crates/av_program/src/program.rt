@@ -8,13 +8,13 @@ ghost use Rattle.av_sink.specs.Account.{IsFresh};
 
 use crate::dry_run::run_dry;
 use crate::running::run_over;
-use av_commands::manner::Manner;
-use av_commands::output::{REFUSED, report_fault};
-use av_commands::reasons::report_failure;
 use av_folders::progress::end_steps;
 use av_folders::{LockFiles, RepairTeller, hold_output};
 use av_outcomes::{close, goes_on, note_repair, report, report_folder};
 use av_queries::{Order, run_block, run_check, run_map, run_states};
+use av_reports::manner::Manner;
+use av_reports::output::{REFUSED, report_fault};
+use av_reports::reasons::report_failure;
 use av_requests::{
     Request, as_texts, explain_words, given_words, judge_skips, refuse_twice, report_skip,
     request_of,

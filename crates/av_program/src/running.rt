@@ -3,12 +3,12 @@ ghost use Rattle.std.specs.Prelude.{◌≡◌};
 ghost use Rattle.av_requests.specs.Requests.{IsReadBy};
 ghost use Rattle.av_program.specs.RunCommand.{HasRunInto, HasRunOver, IsRunOf};
 
-use av_commands::failure::Failure;
-use av_commands::manner::Manner;
 use av_folders::LockFiles;
 use av_folders::failing::failure_of_file;
 use av_folders::progress::note_step;
 use av_outcomes::{StepTeller, changes_asked, hand_over_run, note_changes};
+use av_reports::failure::Failure;
+use av_reports::manner::Manner;
 use av_requests::{Inputs, Request, failure_of_run, read_inputs};
 use av_run::{Ran, run_checked};
 use av_sink::OutputFolder;

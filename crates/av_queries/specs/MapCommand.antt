@@ -11,7 +11,7 @@ use Rattle.av_map.specs.Maps.{IsMap}
 use Rattle.av_map.specs.declared.drawing.Map.{Map}
 use Rattle.av_map.specs.declared.view.View.{View}
 use Rattle.av_map.specs.declared.view.View.TheVariants.{Blocks, Light}
-use Rattle.av_commands.specs.Names.{IsFileIn}
+use Rattle.av_reports.specs.Names.{IsFileIn}
 use Rattle.av_commands.specs.Tables.{IsHeightBy}
 
 -- ---- what is drawn

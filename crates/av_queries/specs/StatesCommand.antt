@@ -7,7 +7,7 @@ use Rattle.av_region_files.specs.declared.files.RegionFile.{RegionFile}
 use Rattle.av_census.specs.Census.{IsCensus}
 use Rattle.av_census.specs.Listing.{listing}
 use Rattle.av_census.specs.declared.counts.Census.{Census}
-use Rattle.av_commands.specs.Output.{HasBegun}
+use Rattle.av_reports.specs.Output.{HasBegun}
 use Rattle.av_commands.specs.Tables.{IsTableBy, IsWorldHeight}
 
 -- the lines for a census of some region files, under the table that is named, and how many chunks it leaves out

@@ -5,14 +5,14 @@ ghost use Rattle.av_folders.specs.Folders.{IsFolderFault};
 ghost use Rattle.av_queries.specs.BlockCommand.{HasRunBlock, IsUnreadBlock};
 
 use av_commands::block::{block_text, note_other_file};
-use av_commands::device::read_file;
-use av_commands::failure::Failure;
-use av_commands::manner::Manner;
-use av_commands::names::split_path;
-use av_commands::output::REFUSED;
-use av_commands::reasons::report_failure;
 use av_commands::tables::read_height;
 use av_folders::{LockFiles, tidy};
+use av_reports::device::read_file;
+use av_reports::failure::Failure;
+use av_reports::manner::Manner;
+use av_reports::names::split_path;
+use av_reports::output::REFUSED;
+use av_reports::reasons::report_failure;
 use av_types::{Height, Pos};
 use std::io::{Input, Write};
 

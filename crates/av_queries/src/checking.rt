@@ -5,12 +5,12 @@ ghost use Rattle.av_folders.specs.Folders.{IsFolderRead};
 ghost use Rattle.av_queries.specs.CheckCommand.{HasChecked, HasSurveyed, IsUnreadCheck};
 
 use av_commands::checking::{Counts, findings, write_counts, write_unread};
-use av_commands::failure::Failure;
-use av_commands::manner::{Manner, Progress};
-use av_commands::output::{FAULT, REFUSED};
-use av_commands::reasons::report_failure;
 use av_commands::tables::read_height;
 use av_folders::{FolderFiles, LockFiles, read_readable};
+use av_reports::failure::Failure;
+use av_reports::manner::{Manner, Progress};
+use av_reports::output::{FAULT, REFUSED};
+use av_reports::reasons::report_failure;
 use av_survey::{Finding, count_chunks, survey};
 use av_types::{Fault, Height};
 use std::alloc::Global;

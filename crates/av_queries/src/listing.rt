@@ -3,12 +3,12 @@ ghost use Rattle.std.specs.Prelude.{◌≡◌, IfOk, option_map};
 ghost use Rattle.av_queries.specs.StatesCommand.{HasListed, IsListingBy, status_after};
 
 use av_census::{census, listing};
-use av_commands::failure::Failure;
-use av_commands::manner::Manner;
-use av_commands::output::{FAULT, report_output, write_first, write_left_out};
-use av_commands::reasons::report_failure;
 use av_commands::tables::{read_rules, world_height};
 use av_folders::{LockFiles, read_folder};
+use av_reports::failure::Failure;
+use av_reports::manner::Manner;
+use av_reports::output::{FAULT, report_output, write_first, write_left_out};
+use av_reports::reasons::report_failure;
 use std::io::{Input, Write};
 
 /// The lines of `states`.

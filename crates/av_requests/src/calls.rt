@@ -3,7 +3,7 @@ ghost use Rattle.std.specs.Prelude.{◌≡◌, ◌≤◌, IfOk, map, string_byte
 ghost use Rattle.clap.specs.Words.{kind_of};
 ghost use Rattle.av_requests.specs.Refusals.{IsRefusalStatus};
 
-use av_commands::output::{FAULT, REFUSED, report_fault, report_output};
+use av_reports::output::{FAULT, REFUSED, report_fault, report_output};
 use av_types::Fault;
 use clap::Error;
 use clap::error::ErrorKind;

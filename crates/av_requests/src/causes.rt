@@ -3,12 +3,12 @@ ghost use Rattle.std.specs.Prelude.{◌≡◌};
 
 use crate::requests::Request;
 use crate::skipping::read_others;
-use av_commands::device::read_file;
-use av_commands::edit_trouble::{EditTrouble, edit_cause};
-use av_commands::failure::{Failure, Reason};
-use av_commands::manner::{Manner, Progress};
 use av_commands::tables::read_height;
 use av_folders::LockFiles;
+use av_reports::device::read_file;
+use av_reports::edit_trouble::{EditTrouble, edit_cause};
+use av_reports::failure::{Failure, Reason};
+use av_reports::manner::{Manner, Progress};
 use av_survey::{Finding, survey};
 use av_types::Fault;
 use av_words::STANDARD_INPUT;

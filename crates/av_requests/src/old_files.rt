@@ -5,8 +5,8 @@ ghost use Rattle.av_folders.specs.Folders.{IsFolderFault};
 ghost use Rattle.av_requests.specs.Olds.{AreUnreadOlds, IsUnreadOld};
 
 use av_changes::{Change, add_change};
-use av_commands::failure::Failure;
 use av_region_files::{RegionFile, region_name};
+use av_reports::failure::Failure;
 use av_types::RegionPos;
 use std::alloc::{AllocError, Global};
 use std::fs;

@@ -3,12 +3,12 @@ ghost use Rattle.std.specs.Prelude.{◌≤◌, IfErr, IfOk};
 ghost use Rattle.av_requests.specs.Requests.{IsReadBy, IsRequestOf, IsUnreadRun, IsWorkersBy};
 
 use crate::skipping::read_others;
-use av_commands::device::read_text_or;
-use av_commands::failure::Failure;
-use av_commands::manner::Manner;
 use av_commands::tables::read_table;
+use av_commands::texts::read_text_or;
 use av_folders::LockFiles;
 use av_region_files::RegionFile;
+use av_reports::failure::Failure;
+use av_reports::manner::Manner;
 use av_words::RunWords;
 use std::io::{Input, Write};
 use std::thread::{self, Threads};

@@ -7,12 +7,12 @@ ghost use Rattle.av_region_files.specs.declared.files.RegionFile.{RegionFile};
 ghost use Rattle.av_folders.specs.Folders.{IsUnreadFolder};
 ghost use Rattle.av_requests.specs.Skipping.{AreOthers, IsFirstNoSkip, IsNoSkip, IsSkipped, is_among, names_of, others, skipped_text};
 
-use av_commands::failure::{Failure, UnreadFile};
-use av_commands::manner::Manner;
-use av_commands::names::region_of_name;
-use av_commands::output::{FAULT, report_fault};
 use av_folders::{LockFiles, read_folder, read_readable};
 use av_region_files::{RegionFile, region_name};
+use av_reports::failure::{Failure, UnreadFile};
+use av_reports::manner::Manner;
+use av_reports::names::region_of_name;
+use av_reports::output::{FAULT, report_fault};
 use av_types::Fault;
 use std::alloc::{AllocError, Global};
 use std::fs;

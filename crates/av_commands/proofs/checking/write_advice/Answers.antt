@@ -4,8 +4,8 @@ use Rattle.std.specs.Io.KnownBytes.{Appends}
 use Rattle.std.proofs.lemmas.List.{take_all}
 use Rattle.std.proofs.lemmas.List.Folds.{list_any_at}
 use Rattle.av_survey.specs.declared.finding.Finding.{Finding}
-use Rattle.av_commands.specs.Output.{is_compression, packed_advice}
-use Rattle.av_commands.proofs.Lines.{appends_none}
+use Rattle.av_reports.specs.Output.{is_compression, packed_advice}
+use Rattle.av_reports.proofs.Lines.{appends_none}
 use Rattle.av_commands.proofs.checking.write_advice.Goals as goal
 
 -- whether a finding is of a chunk of another compression

@@ -1,6 +1,6 @@
 use Rattle.std.proofs.Common.{◌≡◌, false, take}
 use Rattle.std.specs.List.{list_any}
-use Rattle.av_commands.specs.Output.{is_compression}
+use Rattle.av_reports.specs.Output.{is_compression}
 use Rattle.av_commands.proofs.checking.write_advice.Given as goal
 
 -- no finding up to here is of a chunk of another compression, and nothing is written

@@ -2,7 +2,8 @@ use Rattle.std.proofs.Common.{◌<◌, sym, subst, arith, List, ℕ, length, tak
 use Rattle.std.specs.Io.KnownBytes.{Appends}
 use Rattle.av_types.specs.Faults.{fault_text}
 use Rattle.av_commands.specs.CheckCommand.{finding_lines, written_at}
-use Rattle.av_commands.proofs.Lines.{appends_more, appends_none, findings_more}
+use Rattle.av_commands.proofs.Findings.{findings_more}
+use Rattle.av_reports.proofs.Lines.{appends_more, appends_none}
 use Rattle.av_commands.proofs.checking.write_findings.Goals as goal
 
 pub loop-finding-init : goal.loop-finding-init

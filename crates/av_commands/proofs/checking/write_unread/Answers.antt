@@ -3,8 +3,8 @@ use Rattle.std.specs.Vec.Iter.{into_iter_items}
 use Rattle.av_types.specs.declared.fault.Fault.{Fault}
 use Rattle.av_types.specs.declared.fault.Fault.TheVariants.{Device}
 use Rattle.av_commands.specs.CheckCommand.{TellsUnread}
-use Rattle.av_commands.specs.Reasons.{TellsFailure}
-use Rattle.av_commands.specs.declared.failure.UnreadFile.{UnreadFile}
+use Rattle.av_reports.specs.Reasons.{TellsFailure}
+use Rattle.av_reports.specs.declared.failure.UnreadFile.{UnreadFile}
 use Rattle.av_commands.proofs.checking.write_unread.Goals as goal
 
 one_more : (explains : Bool) (us : List UnreadFile) (u : UnreadFile) (a b c : Option (List ℕ)) → TellsUnread explains us a b

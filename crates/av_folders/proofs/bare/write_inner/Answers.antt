@@ -1,6 +1,6 @@
 use Rattle.std.proofs.Common.{◌≡◌, subst, append_assoc, List, ℕ, [], ◌∷◌, ◌++◌, codes, OnOk}
 use Rattle.std.specs.Io.KnownBytes.{Appends}
-use Rattle.av_commands.specs.Output.{line}
+use Rattle.av_reports.specs.Output.{line}
 use Rattle.av_folders.proofs.bare.write_inner.Goals as goal
 
 -- the text as it is written, piece after piece

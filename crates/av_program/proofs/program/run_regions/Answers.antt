@@ -1,6 +1,6 @@
 use Rattle.std.proofs.Common.{ℕ, List, Option, Result}
 use Rattle.av_sink.specs.Account.{Account}
-use Rattle.av_commands.specs.declared.failure.Failure.{Failure}
+use Rattle.av_reports.specs.declared.failure.Failure.{Failure}
 use Rattle.av_answers.specs.declared.answers.Ran.{Ran}
 use Rattle.av_answers.specs.declared.answers.Ran.TheVariants.{Done, Uncovered}
 use Rattle.av_requests.specs.declared.requests.Request.{Request}

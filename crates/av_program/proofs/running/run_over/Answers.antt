@@ -2,7 +2,7 @@ use Rattle.std.proofs.Common.{◌≡◌, sym, subst, refl, Result, Ok, Err, Matc
 use Rattle.std.proofs.lemmas.Result.{err_from_is_err_and}
 use Rattle.av_types.specs.declared.fault.Fault.{Fault}
 use Rattle.av_sink.specs.Account.{Account}
-use Rattle.av_commands.specs.declared.failure.Failure.{Failure}
+use Rattle.av_reports.specs.declared.failure.Failure.{Failure}
 use Rattle.av_answers.specs.declared.answers.Ran.{Ran}
 use Rattle.av_requests.specs.declared.requests.Inputs.{Inputs}
 use Rattle.av_requests.specs.declared.requests.Request.{Request}

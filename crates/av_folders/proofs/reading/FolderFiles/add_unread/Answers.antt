@@ -1,5 +1,5 @@
 use Rattle.std.proofs.Common.{◌∙◌, refl}
-use Rattle.av_commands.specs.declared.failure.UnreadFile.{UnreadFile}
+use Rattle.av_reports.specs.declared.failure.UnreadFile.{UnreadFile}
 use Rattle.av_folders.specs.declared.reading.FolderFiles.{FolderFiles}
 use Rattle.av_folders.proofs.Shares.{one_more_unread}
 use Rattle.av_folders.proofs.reading.FolderFiles.add_unread.Goals as goal

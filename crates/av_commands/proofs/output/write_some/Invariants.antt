@@ -1,6 +1,0 @@
--- Nothing is written until a write is taken.
-use Rattle.std.specs.Io.KnownBytes.{Keeps}
-use Rattle.av_commands.proofs.output.write_some.Given as goal
-
-abbrev pub invariant-loop : goal.invariant-loop
-invariant-loop g l = Keeps (g.O.Write.contents l.fn.out) (g.O.Write.contents l.out)

@@ -1,7 +1,0 @@
-use Rattle.std.proofs.Common.{map, take, string_bytes}
-use Rattle.std.specs.Io.KnownBytes.{Appends}
-use Rattle.av_commands.specs.Reasons.{reason_lines}
-use Rattle.av_commands.proofs.reasons.write_reasons.Given as goal
-
-abbrev pub invariant-loop-reason : goal.invariant-loop-reason
-invariant-loop-reason g l = Appends (g.E.Write.contents l.fn.err) (g.E.Write.contents l.err) (reason_lines (map string_bytes (take l.reason-index l.reasons)))

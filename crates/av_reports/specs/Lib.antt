@@ -1,0 +1,4 @@
+pub mod Names
+pub mod Output
+pub mod Reasons
+pub mod Edits
