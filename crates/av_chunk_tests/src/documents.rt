@@ -12,30 +12,30 @@ use crate::pieces::{Piece, joined, push_all, push_light};
 use crate::tags::{
     ABOVE, AIR, BARE, BEGIN, BELOW, BIOMES, DATA, END, EXTRA, FACING, FLOWING, FURNACE, LAST, LAVA,
     LEVEL_0, LEVEL_3, LEVEL_8, LEVEL_12, LIT, LIT_AIR, NO_LIST, ODD_TICK, PALETTE_1, PALETTE_2,
-    PALETTE_5, ROOT, SECTIONS_1, SECTIONS_4, SECTIONS_5, SECTIONS_17, SKY, SLAB, STATES, STATUS,
-    STILL, STONE, TICKS_0, TICKS_1, TICKS_4, TICKS_6, TICKS_7, UNKNOWN, WATER, Z_POS,
+    ROOT, SECTIONS_1, SECTIONS_4, SECTIONS_5, SECTIONS_17, SKY, STATES, STATUS, STONE, TICKS_0,
+    TICKS_4, UNKNOWN, WATER, Z_POS,
 };
 use av_chunk::{Chunk, ChunkLight, ChunkRest, Reading};
 use av_nbt::{decode, encode};
 use av_rules::{Kinds, Rules};
 use av_state::StateTable;
-use av_types::{ChunkPos, Entry, Fault, Height, Pos};
+use av_types::{ChunkPos, Entry, Fault, Height};
 use std::alloc::{AllocError, Global};
 use std::process::Abort;
 use std::test::Fail;
 
 /// The most bytes that a region's sectors hold of a chunk.
-const MOST_BYTES: usize = 1_044_475;
+pub(crate) const MOST_BYTES: usize = 1_044_475;
 
 const PLACE: ChunkPos = ChunkPos { x: 1, z: -2 };
 
-const LOW: Height = Height {
+pub(crate) const LOW: Height = Height {
     min_section: 0,
     sections: 16,
 };
 
 /// What the chunk that bytes spell is read as, at its place.
-fn read(alloc: Global, bytes: &[u8], height: Height) -> Result<Reading, Fault>
+pub(crate) fn read(alloc: Global, bytes: &[u8], height: Height) -> Result<Reading, Fault>
     requires { length bytes.now ≤ 1044475 }
 {
     let root = decode(alloc, bytes)?;
@@ -52,7 +52,7 @@ fn kinds_of(alloc: Global, table: StateTable) -> Result<Kinds, Fault>
 }
 
 /// What is written of a chunk, so many ticks after it was read.
-fn written(
+pub(crate) fn written(
     alloc: Global,
     chunk: &Chunk,
     rest: &ChunkRest,
@@ -157,13 +157,13 @@ fn three_lights(alloc: Global, bytes: [u8; 3]) -> Result<ChunkLight, Fail> {
     Ok(ChunkLight::from_bytes(3, light))
 }
 
-const Y_0: Piece<'static> = Number(0);
+pub(crate) const Y_0: Piece<'static> = Number(0);
 
 const Y_1: Piece<'static> = Number(1);
 
 const Y_2: Piece<'static> = Number(2);
 
-const DARK: Piece<'static> = Light(0);
+pub(crate) const DARK: Piece<'static> = Light(0);
 
 const LIGHT_0: Piece<'static> = Light(0x1a);
 
@@ -267,82 +267,6 @@ fn states_are_written_in_their_form(rt: HostRuntime) -> Result<(), Fail> {
     Ok(())
 }
 
-/// Ticks of five blocks from (16, 0, -32) on: a source, two flows, a soaked slab, and stone. Each has its fluid as it was
-/// read, and below as it is written.
-const READ_TICKS: &[Piece<'static>] = &[
-    Tick(STILL, [20, 0, -32, 9, 0]),
-    Tick(FLOWING, [16, 0, -32, 7, -1]),
-    Tick(FLOWING, [19, 0, -32, -3, 0]),
-    Tick(STILL, [17, 0, -32, 7, 0]),
-    Tick(FLOWING, [18, 0, -32, 2, 5]),
-];
-
-const WRITTEN_TICKS: &[Piece<'static>] = &[
-    Tick(FLOWING, [20, 0, -32, 9, 0]),
-    Tick(STILL, [16, 0, -32, 7, -1]),
-    Tick(STILL, [19, 0, -32, -3, 0]),
-    Tick(FLOWING, [17, 0, -32, 7, 0]),
-    Tick(FLOWING, [18, 0, -32, 2, 5]),
-];
-
-/// The same five ticks after they were read.
-const TICKS_AFTER_5: &[Piece<'static>] = &[
-    Tick(FLOWING, [20, 0, -32, 4, 0]),
-    Tick(STILL, [16, 0, -32, 2, -1]),
-    Tick(STILL, [19, 0, -32, -8, 0]),
-    Tick(FLOWING, [17, 0, -32, 2, 0]),
-    Tick(FLOWING, [18, 0, -32, -3, 5]),
-];
-
-/// A second entry of a block, which is dropped.
-const SECOND: Piece<'static> = Tick(FLOWING, [16, 0, -32, 0, 0]);
-
-const LOW_LAVA: Piece<'static> = Tick(LAVA, [16, 0, -32, 1, 0]);
-
-/// Stone is the first of five states, and the last that is found.
-const OLD_FIVE: Piece<'static> = Longs([0, 0, 0, 0, 0, 0, 0x43, 0x21], 0);
-
-const NEW_FIVE: Piece<'static> = Longs([68, 68, 68, 68, 68, 68, 0x32, 0x10], 68);
-
-/// What follows the ticks of a chunk of five states, as it is read.
-const READ_FIVE: &[Piece<'static>] = &[
-    SECOND, LOW_LAVA, SECTIONS_1, Y_0, STATES, PALETTE_5, STONE, WATER, LEVEL_0, WATER, LEVEL_3,
-    WATER, LEVEL_8, SLAB, DATA, OLD_FIVE, END, END, END,
-];
-
-/// The same as it is written.
-const WRITTEN_FIVE: &[Piece<'static>] = &[
-    SECTIONS_1, Y_0, STATES, PALETTE_5, WATER, LEVEL_0, WATER, LEVEL_3, WATER, LEVEL_8, SLAB,
-    STONE, DATA, NEW_FIVE, END, DARK, END, END,
-];
-
-/// That chunk is written so, so many ticks after it was read.
-fn expect_ticks_after(
-    rt: &impl Abort,
-    alloc: Global,
-    ticks: u32,
-    ticks_written: &[Piece],
-) -> Result<(), Fail> {
-    let light = ChunkLight::new(alloc, 1)?;
-    let bytes = joined(alloc, &[&[ROOT, TICKS_7], READ_TICKS, READ_FIVE])?;
-    let written = rewritten_after(alloc, &bytes, &light, ticks)?;
-    let mut want = joined(alloc, &[&[ROOT, TICKS_6, LOW_LAVA]])?;
-    push_all(&mut want, ticks_written)?;
-    push_all(&mut want, WRITTEN_FIVE)?;
-    expect_equal(rt, written, want);
-    Ok(())
-}
-
-#[test]
-fn water_ticks_keep_their_order(rt: HostRuntime) -> Result<(), Fail> {
-    expect_ticks_after(&rt, rt.alloc(), 0, WRITTEN_TICKS)
-}
-
-#[test]
-fn water_ticks_come_sooner_by_the_ticks_that_were_run(rt: HostRuntime) -> Result<(), Fail> {
-    expect_ticks_after(&rt, rt.alloc(), 5, TICKS_AFTER_5)
-}
-
 /// Section -1, and 16 sections of air from 0 on.
 fn seventeen_sections(alloc: Global) -> Result<Vec<u8>, AllocError> {
     let mut bytes = joined(alloc, &[&[ROOT, SECTIONS_17, BELOW]])?;
@@ -363,70 +287,6 @@ fn a_section_below_the_height_stands_first(rt: HostRuntime) -> Result<(), Fail> 
     let bytes = joined(rt.alloc(), &[&[ROOT, SECTIONS_1, BELOW, TICKS_0, END]])?;
     let written = rewritten(rt.alloc(), &bytes, &light)?;
     expect_equal(&rt, written, seventeen_sections(rt.alloc())?);
-    Ok(())
-}
-
-/// A root of no section, with one entry at y 300.
-fn high_entry(alloc: Global) -> Result<Vec<u8>, AllocError> {
-    let entry = Tick(STILL, [16, 300, -32, 4, -2]);
-    joined(alloc, &[&[ROOT, NO_LIST, TICKS_1, entry, END]])
-}
-
-/// What a chunk is read as.
-fn full(alloc: Global, bytes: &[u8], height: Height) -> Result<Chunk, Fail> {
-    if bytes.len() > MOST_BYTES {
-        return Err(Fail::new("too many bytes"));
-    }
-    match read(alloc, bytes, height)? {
-        Reading::Full { chunk, rest: _ } => Ok(chunk),
-        Reading::Kept => Err(Fail::new("a chunk that is not full")),
-    }
-}
-
-/// Whether a block is pending in the section of this index.
-fn is_pending(chunk: &Chunk, pos: Pos, index: usize) -> bool {
-    match chunk.sections.get(index) {
-        Some(Some(section)) => section.pending(pos.place()),
-        _ => false,
-    }
-}
-
-/// The one entry of a chunk of the game's height is pending in the section of this index.
-fn expect_entry(rt: &impl Abort, chunk: &Chunk, entry: Entry, index: usize) {
-    expect_equal(rt, chunk.ticks.as_slice(), [entry].as_slice());
-    expect_equal(rt, chunk.sections.len(), 24);
-    expect_true(rt, is_pending(chunk, entry.pos, index));
-}
-
-/// An entry at y 300 is in section 18 of the game's height, the 23rd.
-#[test]
-fn an_entry_lies_in_the_height(rt: HostRuntime) -> Result<(), Fail> {
-    let bytes = high_entry(rt.alloc())?;
-    let pos = Pos {
-        x: 16,
-        y: 300,
-        z: -32,
-    };
-    let entry = Entry {
-        pos,
-        due: 4,
-        priority: -2,
-    };
-    let chunk = full(rt.alloc(), &bytes, Height::game())?;
-    expect_entry(&rt, &chunk, entry, 22);
-    Ok(())
-}
-
-/// An entry at y 300 lies out of 16 sections from 0 on.
-#[test]
-fn an_entry_lies_out_of_the_height(rt: HostRuntime) -> Result<(), Fail> {
-    let bytes = high_entry(rt.alloc())?;
-    assert!(rt; bytes.len() <= MOST_BYTES);
-    expect_equal(
-        &rt,
-        read(rt.alloc(), &bytes, LOW).err(),
-        Some(Fault::BadTick),
-    );
     Ok(())
 }
 

@@ -4,6 +4,10 @@
 #[cfg(test)]
 mod blocks;
 #[cfg(test)]
+mod crowded;
+#[cfg(test)]
+mod document_ticks;
+#[cfg(test)]
 mod documents;
 #[cfg(test)]
 mod expecting;
@@ -11,6 +15,8 @@ mod expecting;
 mod judging;
 #[cfg(test)]
 mod known;
+#[cfg(test)]
+mod palettes;
 #[cfg(test)]
 mod parts;
 #[cfg(test)]

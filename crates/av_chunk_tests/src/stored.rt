@@ -1,4 +1,4 @@
-//! Sections by hand, read, set and written.
+//! Sections by hand, read and set.
 ghost use Rattle.std.specs.Prelude.{length};
 ghost use Rattle.av_state.specs.Table.{states};
 ghost use Rattle.av_section.specs.Section.{HasNumbersBelow};
@@ -19,7 +19,7 @@ fn named_text(alloc: Global, name: &[u8], text: &[u8]) -> Result<Named, Fault> {
 }
 
 /// A palette entry of a name.
-fn entry(alloc: Global, name: &[u8]) -> Result<Tag, Fault> {
+pub(crate) fn entry(alloc: Global, name: &[u8]) -> Result<Tag, Fault> {
     let mut members = Vec::new(alloc);
     members.push(named_text(alloc, b"Name", name)?)?;
     Ok(Tag::compound(members))
@@ -35,7 +35,7 @@ fn entries(alloc: Global, count: u16) -> Result<Vec<Tag>, Fault> {
 }
 
 /// A palette of so many different states.
-fn palette(alloc: Global, count: u16) -> Result<Tag, Fault> {
+pub(crate) fn palette(alloc: Global, count: u16) -> Result<Tag, Fault> {
     Ok(Tag::list(TagType::Compound, entries(alloc, count)?))
 }
 
@@ -114,7 +114,7 @@ fn longs_of_17_states(rt: HostRuntime) -> Result<(), Fail> {
 }
 
 /// A palette of one entry.
-fn one_entry(alloc: Global, entry: Tag) -> Result<Tag, Fault> {
+pub(crate) fn one_entry(alloc: Global, entry: Tag) -> Result<Tag, Fault> {
     let mut entries = Vec::new(alloc);
     entries.push(entry)?;
     Ok(Tag::list(TagType::Compound, entries))
@@ -184,24 +184,24 @@ fn states_that_no_file_has_are_refused(rt: HostRuntime) -> Result<(), Fail> {
 }
 
 /// How many numbers and longs a section has, and the bits of an index.
-fn sizes(section: &Section) -> (usize, usize, u32) {
+pub(crate) fn sizes(section: &Section) -> (usize, usize, u32) {
     let (numbers, longs, bits) = section.parts();
     (numbers.len(), longs.len(), bits)
 }
 
 /// A section has so many numbers and longs, and an index so many bits.
-fn expect_sizes(rt: &impl Abort, section: &Section, want: (usize, usize, u32)) {
+pub(crate) fn expect_sizes(rt: &impl Abort, section: &Section, want: (usize, usize, u32)) {
     expect_equal(rt, sizes(section), want);
 }
 
 /// A place of a section has this number.
-fn expect_number(rt: &impl Abort, section: &Section, place: u16, want: u16) {
+pub(crate) fn expect_number(rt: &impl Abort, section: &Section, place: u16, want: u16) {
     assert!(rt; place < 4096);
     assert_eq!(rt; section.get(Place::new(place)), want, "at {place}");
 }
 
 /// A section is written with this palette and these longs.
-fn expect_written(
+pub(crate) fn expect_written(
     rt: &impl Abort,
     alloc: Global,
     section: &Section,
@@ -248,134 +248,14 @@ fn one_state_has_no_longs(rt: HostRuntime) -> Result<(), Fail> {
     Ok(())
 }
 
-/// A section of so many states with these longs.
-fn section_of(
-    alloc: Global,
-    table: &mut StateTable,
-    states: u16,
-    longs: Vec<i64>,
-) -> Result<Section, Fault> {
-    let palette = palette(alloc, states)?;
-    let longs = Tag::long_array(longs);
-    Section::read(alloc, Some(&palette), Some(&longs), table)
-}
-
 /// The longs of indices of 5 bits: long 1 is 12 and the last is 506284.
-fn two_longs(alloc: Global) -> Result<Vec<i64>, Fault> {
+pub(crate) fn two_longs(alloc: Global) -> Result<Vec<i64>, Fault> {
     let mut packed = vec![in alloc; 0; 342]?;
     if packed.len() == 342 {
         packed[1] = 12;
         packed[341] = 506284;
     }
     Ok(packed)
-}
-
-/// 17 states, numbered from 10 on, and twelve indices of 5 bits in a long. All longs are 0 except long 1, which is 12,
-/// and the last: place 12 has index 12, places 4092 to 4095 have 12, 13, 14 and 15, and all others have 0.
-#[test]
-fn places_have_the_numbers_of_their_states(rt: HostRuntime) -> Result<(), Fail> {
-    let mut table = StateTable::new(rt.alloc())?;
-    let section = section_of(rt.alloc(), &mut table, 17, two_longs(rt.alloc())?)?;
-    expect_equal(&rt, table.len(), 27);
-    expect_sizes(&rt, &section, (17, 342, 5));
-    for (place, number) in [(12, 22), (4092, 22), (4095, 25)] {
-        expect_number(&rt, &section, place, number);
-    }
-    Ok(())
-}
-
-/// 16 numbers have indices of 4 bits, and one more makes them 5.
-#[test]
-fn a_prepared_section_reads_as_before(rt: HostRuntime) -> Result<(), Fail> {
-    let mut section = Section::filled(rt.alloc(), 3)?;
-    let place = Place::new(700);
-    expect_equal(&rt, sizes(&section).1, 0);
-    section.set(place, 3);
-    section.add_pending(place);
-    section.prepare(&[0, 1, 2, 3, 4, 5, 6, 7, 8, 9, 10, 11, 12, 13, 14, 15])?;
-    expect_sizes(&rt, &section, (16, 256, 4));
-    section.prepare(&[16, 2])?;
-    expect_sizes(&rt, &section, (17, 342, 5));
-    let found = (
-        section.get(place),
-        section.get(Place::new(4095)),
-        section.pending(place),
-    );
-    expect_equal(&rt, found, (3, 3, true));
-    section.remove_pending(place);
-    expect_true(&rt, !section.pending(place));
-    Ok(())
-}
-
-/// Sets a place to a number that the palette need not have.
-fn set_prepared(section: &mut Section, place: Place, number: u16) -> Result<(), Fault> {
-    section.prepare(&[number])?;
-    section.set(place, number);
-    Ok(())
-}
-
-/// 16 states in use, the index of place i being i mod 16, and one more number: the states are numbered from 10 on.
-#[test]
-fn wider_indices_keep_every_place(rt: HostRuntime) -> Result<(), Fail> {
-    let mut table = StateTable::new(rt.alloc())?;
-    let longs = vec![in rt.alloc(); 0xFEDC_BA98_7654_3210_u64.cast_signed(); 256]?;
-    let mut section = section_of(rt.alloc(), &mut table, 16, longs)?;
-    expect_equal(&rt, sizes(&section).2, 4);
-    section.prepare(&[3])?;
-    expect_sizes(&rt, &section, (17, 342, 5));
-    expect_equal(&rt, section.parts().1.last(), Some(&506284));
-    for index in 0..4096 {
-        expect_number(&rt, &section, index, 10 + index % 16);
-    }
-    set_prepared(&mut section, Place::new(100), 3)?;
-    for (place, number) in [(99, 13), (100, 3), (101, 15)] {
-        expect_number(&rt, &section, place, number);
-    }
-    Ok(())
-}
-
-/// The longs of indices of 12 bits, the index of place i being i: five indices are in a long.
-fn rising_longs(alloc: Global) -> Result<Vec<i64>, Fault> {
-    let mut longs = Vec::new(alloc);
-    let mut long: i64 = 0x0004_0030_0200_1000;
-    for _ in 0..819 {
-        longs.push(long)?;
-        long = long.wrapping_add(0x0005_0050_0500_5005);
-    }
-    longs.push(4095)?;
-    Ok(longs)
-}
-
-/// 4,096 states, one a place, and then air and the nine water states, which no place has.
-#[test]
-fn unused_numbers_are_not_written(rt: HostRuntime) -> Result<(), Fail> {
-    let mut table = StateTable::new(rt.alloc())?;
-    let palette = palette(rt.alloc(), 4096)?;
-    let longs = Tag::long_array(rising_longs(rt.alloc())?);
-    let mut section = Section::read(rt.alloc(), Some(&palette), Some(&longs), &mut table)?;
-    section.prepare(&[0, 1, 2, 3, 4, 5, 6, 7, 8, 9])?;
-    expect_sizes(&rt, &section, (4106, 1024, 13));
-    expect_written(&rt, rt.alloc(), &section, &table, &palette, Some(&longs))
-}
-
-/// 16 states, the index of place i being i mod 16: they are written as they were read.
-#[test]
-fn a_palette_in_order_is_written_as_it_stands(rt: HostRuntime) -> Result<(), Fail> {
-    let mut table = StateTable::new(rt.alloc())?;
-    let palette = palette(rt.alloc(), 16)?;
-    let digits = vec![in rt.alloc(); 0xFEDC_BA98_7654_3210_u64.cast_signed(); 256]?;
-    let longs = Tag::long_array(digits);
-    let section = Section::read(rt.alloc(), Some(&palette), Some(&longs), &mut table)?;
-    expect_written(&rt, rt.alloc(), &section, &table, &palette, Some(&longs))
-}
-
-/// A section of air alone has no longs.
-#[test]
-fn air_is_written_without_longs(rt: HostRuntime) -> Result<(), Fail> {
-    let palette = one_entry(rt.alloc(), entry(rt.alloc(), b"minecraft:air")?)?;
-    let table = StateTable::new(rt.alloc())?;
-    let section = Section::filled(rt.alloc(), 0)?;
-    expect_written(&rt, rt.alloc(), &section, &table, &palette, None)
 }
 
 /// A table that knows a palette's states reads its sections as before and stays as it is. One that lacks a state reads none.

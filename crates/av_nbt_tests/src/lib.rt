@@ -2,6 +2,8 @@
 #![tactic(auto)]
 
 #[cfg(test)]
+mod documents;
+#[cfg(test)]
 mod expecting;
 #[cfg(test)]
-mod tests;
+mod tags;

@@ -6,4 +6,8 @@ mod covered;
 #[cfg(test)]
 mod expecting;
 #[cfg(test)]
+mod rows;
+#[cfg(test)]
+mod soaked;
+#[cfg(test)]
 mod tests;

@@ -7,6 +7,7 @@ mod known;
 mod numbering;
 mod order;
 mod palette;
+mod preparing;
 pub mod section;
 mod writing;
 

@@ -6,3 +6,5 @@ mod edit_tests;
 pub mod runs;
 #[cfg(test)]
 mod tests;
+#[cfg(test)]
+mod ticks;

@@ -2,6 +2,8 @@
 #![tactic(auto)]
 
 pub mod flat;
+#[cfg(test)]
+mod parcels;
 pub mod reads;
 #[cfg(test)]
 mod tests;
