@@ -20,6 +20,7 @@ import zlib
 
 sys.dont_write_bytecode = True
 import check_ends
+import check_hindrances
 import flat_runs
 import kept_worlds
 from check_packed import difference
@@ -250,8 +251,8 @@ def main():
     if len(sys.argv) != 2:
         sys.exit(__doc__)
     program, asked, wrong = os.path.abspath(sys.argv[1]), 0, 0
-    for examples in (whole, words, folders, hostile, check_ends.locks, check_ends.signals, check_ends.changed_by_others,
-                     check_ends.devices, check_ends.syncs, check_ends.going_back, check_ends.ends):
+    for examples in (whole, words, folders, hostile, check_hindrances.locks, check_hindrances.signals,
+                     check_hindrances.changed_by_others, check_hindrances.devices, check_ends.syncs, check_ends.going_back, check_ends.ends):
         with tempfile.TemporaryDirectory() as work:
             for what, want, got in examples(os.path.realpath(work), program):
                 asked += 1
