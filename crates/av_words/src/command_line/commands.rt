@@ -15,7 +15,7 @@ fn is_input(name: Option<&str>) -> bool
 }
 
 /// The values of `run`.
-#[derive(Debug, Drop)]
+#[derive(Drop)]
 pub struct RunWords<'a> {
     /// The folder whose region files are read.
     pub input: &'a str,
@@ -45,7 +45,7 @@ pub struct RunWords<'a> {
 }
 
 /// A command with its values.
-#[derive(Debug, Drop)]
+#[derive(Drop)]
 pub enum Words<'a> {
     /// Prints the block state at a position of a region file.
     Block {
