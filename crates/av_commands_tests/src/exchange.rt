@@ -190,7 +190,7 @@ fn a_repair_tells_what_it_did(rt: HostRuntime) -> Result<(), Fail> {
 /// A repair may be cut off too, and be done again.
 #[test]
 fn a_repair_that_is_cut_off(rt: HostRuntime) -> Result<(), Fail> {
-    for calls in 0..5 {
+    for calls in 0..6 {
         let mut folder = cut_off(rt.alloc(), 5)?;
         folder.calls_left = calls;
         let _ = repair(rt.alloc(), &mut folder, &NoTeller);
@@ -198,6 +198,23 @@ fn a_repair_that_is_cut_off(rt: HostRuntime) -> Result<(), Fail> {
         repair(rt.alloc(), &mut folder, &NoTeller)?;
         has(&rt, &folder, "new zero", "new one", 2);
     }
+    Ok(())
+}
+
+/// The name of a journal that a killed call has left may not be on the device: it is waited for before the first file moves.
+#[test]
+fn a_repair_waits_for_names_first(rt: HostRuntime) -> Result<(), Fail> {
+    let mut folder = cut_off(rt.alloc(), 5)?;
+    folder.calls_left = 1;
+    expect_equal(
+        &rt,
+        repair(rt.alloc(), &mut folder, &NoTeller).is_err(),
+        true,
+    );
+    expect_equal(&rt, folder.text("r.0.0.mca"), "old zero");
+    folder.calls_left = 2;
+    let _ = repair(rt.alloc(), &mut folder, &NoTeller);
+    has(&rt, &folder, "new zero", "-", 3);
     Ok(())
 }
 

@@ -5,7 +5,7 @@ use Rattle.std.specs.Option.{option_or}
 use Rattle.std.proofs.lemmas.Bool.{cases_Bool, cond-true, cond-false}
 use mathlib.Core.Logic.{inl, inr}
 use Rattle.av_exchange.specs.Names.{IsBeside, is_own, journal_name}
-use Rattle.av_exchange.specs.Steps.{Holdings, Step, Removed, Synced, after_all, with_name, AreSomeOf, IsCutOff, ended, during, later, all_of}
+use Rattle.av_exchange.specs.Steps.{Holdings, Step, Removed, Synced, after_all, with_name, AreSomeOf, none, IsCutOff, ended, during, later, all_of}
 use Rattle.av_exchange.specs.Exchange.{IsStepBeside, IsJournaled, StandsFor, counted, is_listed, placed, sweeping, RepairKeeps, RepairHolds}
 use Rattle.av_exchange.proofs.Own.{apart}
 use Rattle.av_exchange.proofs.Listing.{one_journal}
@@ -106,7 +106,8 @@ module _ (h k : Holdings) (names : List (List ℕ)) (is : IsJournaled h (Some na
 
 pub repair_keeps : RepairKeeps
 repair_keeps h k None gone left is are s cut = swept_keeps h k gone left is are s cut
-repair_keeps h k (Some names) gone left is are s cut =
+repair_keeps h k (Some names) gone _ is are s (during _ _ _ none) = s
+repair_keeps h k (Some names) gone _ is are s (later _ _ left cut) =
     let counts = by_journal h k (Some names) is s in
     finishing_keeps h k names is counts (sweeping gone) left
     (λ more swept. swept_keeps (forgotten h k names is counts) k gone more (forgotten_journal h k names is counts) are (forgotten_stands h k names is counts) swept) cut

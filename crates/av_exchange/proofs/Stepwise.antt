@@ -5,12 +5,12 @@ use Rattle.std.proofs.lemmas.List.{map-append}
 use Rattle.std.specs.List.{AllByRecursion}
 use Rattle.av_sink.specs.declared.sink.Repair.{Repair}
 use Rattle.av_exchange.specs.Steps.{AreSomeOf, none, kept, History, IfTold, IsCutOff, ended, during, later, Moved, Removed, Synced, Written, Step, all_of, with_steps}
-use Rattle.av_exchange.specs.Exchange.{IsJournaled, closing, finishing, placed, placing, repairing, sweeping}
+use Rattle.av_exchange.specs.Exchange.{IsJournaled, closing, placed, placing, repairing, sweeping}
 use Rattle.av_exchange.specs.Names.{IsRegionName, head_line, journal_name, journal_of, name_lines, new_journal_name}
-use Rattle.av_exchange.specs.Outcomes.{HasStopped, IsFinished, IsMovedInPart, IsRepaired, IsSettledInPart, IsSwept, IsSweepStopped, IsUnrepaired, in_part, name_of, stopped, unsynced}
+use Rattle.av_exchange.specs.Outcomes.{HasStopped, IsFinished, IsRepaired, IsSettledInPart, IsSwept, IsSweepStopped, IsUnrepaired, in_part, name_of, stopped, unsynced}
 use Rattle.av_exchange.specs.declared.moves.Move.{Move}
 use Rattle.av_exchange.proofs.Crash.{all_some, none_some}
-use Rattle.av_exchange.proofs.History.{then_steps}
+use Rattle.av_exchange.proofs.History.{no_steps, then_steps}
 
 -- what a function makes of one element more
 pub one_more : {X Y : Type 0} (f : X → Y) (xs : List X) (i : ℕ) (x : X) → i < length xs → x ≡ get_or xs i x → map f (take (i + 1) xs) ≡ map f (take i xs) ++ f x ∷ []
@@ -35,17 +35,24 @@ placed_by m part name parts names = ap₂ Moved (parts ∙ m.beside) names
 
 -- ---- what was stopped
 
-pub stopped_moving : (names : List (List ℕ)) (old new : Option History) → IsMovedInPart names old new → HasStopped (finishing names) old new
-stopped_moving names old new part = record { left = part.left; cut_off = during _ _ part.left part.some; steps = part.steps }
+pub stopped_moving : (names : List (List ℕ)) (old new : Option History) → IsSettledInPart names old new → HasStopped (repairing (Some names) []) old new
+stopped_moving names old new (unsynced same) = record { left = []; cut_off = during [] _ [] none; steps = same ∙ no_steps old }
+stopped_moving names old new (in_part left some is) = record { left = Synced ∷ left; cut_off = later [] _ left (during _ _ left some); steps = is }
 
-pub stopped_closing : (names : List (List ℕ)) (old mid new : Option History) → mid ≡ with_steps old (all_of (map placed names ∷ [])) → HasStopped closing mid new
-    → HasStopped (finishing names) old new
+pub stopped_closing : (names : List (List ℕ)) (old mid new : Option History) → mid ≡ with_steps old (Synced ∷ all_of (map placed names ∷ [])) → HasStopped closing mid new
+    → HasStopped (repairing (Some names) []) old new
 stopped_closing names old mid new first part = record {
-  left = map placed names ++ (Synced ∷ part.left);
-  cut_off = later _ _ _ part.cut_off;
-  steps = then_steps old mid new (map placed names ++ (Synced ∷ [])) part.left first part.steps
-      ∙ ap (with_steps old) (append_assoc (map placed names) (Synced ∷ []) part.left);
+  left = Synced ∷ (map placed names ++ (Synced ∷ part.left));
+  cut_off = later [] _ _ (later _ _ _ part.cut_off);
+  steps = then_steps old mid new (Synced ∷ (map placed names ++ (Synced ∷ []))) part.left first part.steps
+      ∙ ap (λ (l : List Step). with_steps old (Synced ∷ l)) (append_assoc (map placed names) (Synced ∷ []) part.left);
 }
+
+pub all_finished : (names : List (List ℕ)) (old mid new : Option History) → mid ≡ with_steps old (Synced ∷ all_of (map placed names ∷ []))
+    → new ≡ with_steps mid (all_of closing) → new ≡ with_steps old (all_of (repairing (Some names) []))
+all_finished names old mid new first next =
+    then_steps old mid new (Synced ∷ (map placed names ++ (Synced ∷ []))) (all_of closing) first next
+    ∙ ap (λ (l : List Step). with_steps old (Synced ∷ l)) (append_assoc (map placed names) (Synced ∷ []) (all_of closing))
 
 pub placed_all : (old mid new : Option History) (text : List ℕ) (names moved : List (List ℕ)) → text ≡ journal_of names → moved ≡ names
     → mid ≡ with_steps old (Written new_journal_name text ∷ Synced ∷ Moved new_journal_name journal_name ∷ [])
@@ -94,7 +101,8 @@ behind : (journal : Option (List (List ℕ))) (gone : List (List ℕ)) (left : L
     → IsCutOff (repairing journal gone) (all_of (repairing journal []) ++ left)
 behind None gone left cut = cut
 behind (Some names) gone left cut =
-    subst (IsCutOff (repairing (Some names) gone)) (sym (append_assoc (map placed names) (Synced ∷ Removed journal_name ∷ Synced ∷ []) left)) (later _ _ _ (later _ _ left cut))
+    later [] _ _ (subst (IsCutOff (map placed names ∷ (Removed journal_name ∷ []) ∷ sweeping gone))
+    (sym (append_assoc (map placed names) (Synced ∷ Removed journal_name ∷ Synced ∷ []) left)) (later _ _ _ (later _ _ left cut)))
 
 pub stopped_sweeping : (old mid new : Option History) (finished : Option ℕ) → IsFinished old mid finished → IsSweepStopped mid new → IsUnrepaired old new
 stopped_sweeping old mid new finished done part =
@@ -106,7 +114,8 @@ stopped_sweeping old mid new finished done part =
 
 all_behind : (journal : Option (List (List ℕ))) (gone : List (List ℕ)) → all_of (repairing journal []) ++ all_of (sweeping gone) ≡ all_of (repairing journal gone)
 all_behind None gone = refl
-all_behind (Some names) gone = append_assoc (map placed names) (Synced ∷ Removed journal_name ∷ Synced ∷ []) (all_of (sweeping gone))
+all_behind (Some names) gone =
+    ap (λ (l : List Step). Synced ∷ l) (append_assoc (map placed names) (Synced ∷ Removed journal_name ∷ Synced ∷ []) (all_of (sweeping gone)))
 
 pub repaired_all : (old mid new : Option History) (finished : Option ℕ) (removed : ℕ) (r : Repair) → r.finished ≡ finished → r.removed ≡ removed
     → IsFinished old mid finished → IsSwept mid new removed → IsRepaired old new r

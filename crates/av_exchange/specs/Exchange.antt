@@ -39,10 +39,12 @@ abbrev pub sweeping : List (List ℕ) → List (List Step)
 sweeping [] = []
 sweeping (name ∷ names) = (Removed name ∷ map Removed names) ∷ []
 
--- what is done to a folder where an exchange may have been cut off: by its journal, where there is one, and then these files go
+-- What is done to a folder where an exchange may have been cut off: by its journal, where there is one, and then these files go. A process that was
+-- killed may have left names that are not on the device yet, that of the journal among them, so these are waited for before the first file moves:
+-- a crash until then is one of that exchange.
 abbrev pub repairing : Option (List (List ℕ)) → List (List ℕ) → List (List Step)
 repairing None gone = sweeping gone
-repairing (Some names) gone = map placed names ∷ (Removed journal_name ∷ []) ∷ sweeping gone
+repairing (Some names) gone = [] ∷ map placed names ∷ (Removed journal_name ∷ []) ∷ sweeping gone
 
 -- ---- what a folder stands for
 

@@ -1,7 +1,7 @@
 //! New files take their places.
-ghost use Rattle.std.specs.Prelude.{◌≡◌, ◌∷◌, [], IfErr, IfOk, OnErr, OnOk, map, string_bytes};
+ghost use Rattle.std.specs.Prelude.{◌≡◌, ◌∷◌, [], IfErr, IfOk, OnErr, OnOk, Some, map, string_bytes};
 ghost use Rattle.av_sink.specs.Account.{file_named};
-ghost use Rattle.av_exchange.specs.Exchange.{closing, finishing, placed, placing, staged};
+ghost use Rattle.av_exchange.specs.Exchange.{closing, placed, placing, repairing, staged};
 ghost use Rattle.av_exchange.specs.Names.{journal_name, new_journal_name, part_of};
 ghost use Rattle.av_exchange.specs.Outcomes.{HasStopped, IsBesideAlone, IsMovedInPart, IsNotPlaced, IsPlacedInPart, IsSettledInPart, IsUnstaged, name_of};
 ghost use Rattle.av_exchange.specs.Steps.{Moved, Removed, Synced, Written, all_of, with_steps};
@@ -117,23 +117,6 @@ fn settle<F: Folder>(folder: &mut F, moves: &[Move]) -> io::Result<()>
     Ok(())
 }
 
-/// Does what the journal says, by the new files that it lists, tells it, and takes the journal away.
-pub(crate) fn finish<F: Folder, T: Teller>(
-    folder: &mut F,
-    moves: &[Move],
-    teller: &T,
-) -> io::Result<()>
-    ensures ok { OnOk result (F.history folder.new
-        ≡ with_steps (F.history folder.old) (all_of (finishing (map name_of moves.now)))) }
-    ensures err { OnErr result (HasStopped (finishing (map name_of moves.now))
-        (F.history folder.old) (F.history folder.new)) }
-{
-    settle(folder, moves)?;
-    teller.finished(moves.len());
-    close(folder)?;
-    Ok(())
-}
-
 /// Writes the journal, and gives it its name.
 fn record<F: Folder>(folder: &mut F, text: &str) -> io::Result<()>
     ensures ok { OnOk result (F.history folder.new ≡ with_steps (F.history folder.old)
@@ -156,6 +139,24 @@ fn settle_behind<F: Folder>(folder: &mut F, moves: &[Move]) -> io::Result<()>
 {
     folder.sync()?;
     settle(folder, moves)?;
+    Ok(())
+}
+
+/// Does what the journal says, by the new files that it lists, tells it, and takes the journal away. The journal's name may not be on the
+/// device yet.
+pub(crate) fn finish<F: Folder, T: Teller>(
+    folder: &mut F,
+    moves: &[Move],
+    teller: &T,
+) -> io::Result<()>
+    ensures ok { OnOk result (F.history folder.new ≡ with_steps (F.history folder.old)
+        (all_of (repairing (Some (map name_of moves.now)) []))) }
+    ensures err { OnErr result (HasStopped (repairing (Some (map name_of moves.now)) [])
+        (F.history folder.old) (F.history folder.new)) }
+{
+    settle_behind(folder, moves)?;
+    teller.finished(moves.len());
+    close(folder)?;
     Ok(())
 }
 

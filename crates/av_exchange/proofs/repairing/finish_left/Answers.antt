@@ -2,7 +2,7 @@ use Rattle.std.proofs.Common.{◌≡◌, ◌∙◌, ap, sym, subst, refl, [], Li
 use Rattle.std.proofs.lemmas.List.{length-map}
 use Rattle.av_types.proofs.Exits.{on_err_from}
 use Rattle.av_exchange.specs.Steps.{all_of, with_steps}
-use Rattle.av_exchange.specs.Exchange.{finishing}
+use Rattle.av_exchange.specs.Exchange.{repairing}
 use Rattle.av_exchange.specs.Outcomes.{HasStopped, name_of, stopped}
 use Rattle.av_exchange.proofs.History.{no_steps}
 use Rattle.av_exchange.proofs.Stepwise.{told_journal, told_none}
@@ -19,7 +19,7 @@ returns-in_err-finish-clause-err g c =
     ap (map name_of) c.as_slice-2.ensures.value ∙ (c.in_ok-moves.ensures ∙ ap (map string_bytes) c.as_slice.ensures.value) in
     on_err_from c.from_residual-in_err-finish.result
     (stopped (Some names) [] (told_journal _ _ c.in-Some.text _ names c.in-Some.is c.as_str.ensures.value told.0 told.1 c.in_ok-text.ensures) tt
-    (subst (λ (ns : List (List ℕ)). HasStopped (finishing ns) (g.F.Folder.history c.args.folder.now) (g.F.Folder.history c.finish.new.folder)) moved c.in_err-finish.ensures.err))
+    (subst (λ (ns : List (List ℕ)). HasStopped (repairing (Some ns) []) (g.F.Folder.history c.args.folder.now) (g.F.Folder.history c.finish.new.folder)) moved c.in_err-finish.ensures.err))
 
 pub returns-clause-ok : goal.returns-clause-ok
 returns-clause-ok g c =
@@ -30,6 +30,6 @@ returns-clause-ok g c =
     record {
       journal = Some names;
       journaled = told_journal _ _ c.in-Some.text _ names c.in-Some.is c.as_str.ensures.value told.0 told.1 c.in_ok-text.ensures;
-      steps = c.in_ok-finish.ensures.ok ∙ ap (λ (ns : List (List ℕ)). with_steps (g.F.Folder.history c.args.folder.now) (all_of (finishing ns))) moved;
+      steps = c.in_ok-finish.ensures.ok ∙ ap (λ (ns : List (List ℕ)). with_steps (g.F.Folder.history c.args.folder.now) (all_of (repairing (Some ns) []))) moved;
       count = ap Some (c.len.ensures ∙ (sym c.as_slice-2.ensures.len ∙ (sym (length-map c.as_slice-2.result.now name_of) ∙ ap length moved)));
     }
