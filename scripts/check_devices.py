@@ -4,11 +4,12 @@
     scripts/check_devices.py PROGRAM           as crates/av_main/out/av_main
 
 Each command that reads or writes a folder finishes the run that its journal tells of, or takes away what one left, unless another call
-is at it; journals of another form, and links, are refused or leave alone what they lead to. Two calls meet at steps of a run, where there
+is at it; journals of another form, and links, are refused or leave alone what they lead to, and a file that can't take its place is named. Two calls meet at steps of a run, where there
 is a C compiler for halt.c. A device of each size from full to large enough is tried, and one that is read-only, where this may mount some;
 and files of other owners where it runs as root.
 """
 import contextlib
+import errno
 import itertools
 import os
 import shutil
@@ -199,6 +200,27 @@ def owners(world):
             yield "files after it", True, [] in (differing(contents(files), found) for files in (world.old, world.new))
 
 
+def unmoved(world):
+    """A file that can't take its place is named by the run, and so it is by the command that can't finish the run either."""
+    if world.library is None:
+        return
+    name = CHANGED[1]
+    place = "rename %s %s" % (part(name), name)
+    folder = world.laid(world.old)
+    _, calls = world.halted(world.words(folder), folder)
+    folder = world.laid(world.old)
+    why = "  %s: Operation not permitted (os error 1)" % os.path.join(folder, name)
+    run, _ = world.halted(world.words(folder, "--explain"), folder, calls.index(place) + 1, error=errno.EPERM)
+    yield "a run whose file can't take its place", (1, "", [why]), (run.status, run.output, [line for line in run.errors if line.startswith("  /")])
+    words = [*world.check_words(folder), "--explain"]
+    copy = world.laid(shots(folder))
+    _, calls = world.halted(world.check_words(copy), copy)
+    check, _ = world.halted(words, folder, calls.index(place) + 1, error=errno.EPERM)
+    yield "the next command", (1, "", [why]), (check.status, check.output, [line for line in check.errors if line.startswith("  /")])
+    yield "the command behind it", (0, [FINISHED % (folder, 3)]), (lambda answer: (answer.status, answer.errors))(world.check(folder))
+    yield "files after that", [], differing(world.new, shots(folder))
+
+
 # ---------------------------------------------------------------- devices
 
 
@@ -285,7 +307,7 @@ def main():
     if len(sys.argv) not in (2, 3):
         sys.exit(__doc__)
     may_mount = has_own_mounts()
-    checks = [commands, journals, links, held, two_at_once, owners]
+    checks = [commands, journals, links, held, two_at_once, unmoved, owners]
     if may_mount:
         checks.append(full)
     if may_mount or os.geteuid() != 0:

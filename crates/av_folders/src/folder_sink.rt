@@ -4,11 +4,9 @@ ghost use Rattle.av_sink.specs.Account.{IsFresh};
 ghost use Rattle.av_folders.specs.Folders.{folder_account};
 
 use crate::holding::LockFiles;
-use crate::system_folder::SystemFolder;
+use crate::system_folder::{RefusedStep, SystemFolder, file_told};
 use crate::tidying::hold_if_free;
-use av_exchange::{
-    Folder, JOURNAL, close, is_own, place, place_alone, repair, stage, sweep, unstage,
-};
+use av_exchange::{Folder, close, is_own, place, place_alone, repair, stage, sweep, unstage};
 use av_reports::names::region_of_name;
 use av_sink::{FailedFile, OutputFolder, Repair, Sink, SinkFailed, Teller};
 use std::alloc::{AllocError, Global};
@@ -136,6 +134,12 @@ fn failed_file(
     })
 }
 
+/// What is known of a step that was refused.
+fn failed_step(alloc: Global, folder: &Option<String>, refused: RefusedStep) -> Option<FailedFile> {
+    let RefusedStep { name, error } = refused;
+    failed_file(alloc, folder, file_told(&name), error)
+}
+
 impl<'a, R: LockFiles + AllocGlobal + Clone + Drop> FolderSink<'a, R> {
     /// A folder that is not opened yet.
     pub fn new(rt: &'a R) -> FolderSink<'a, R>
@@ -154,29 +158,30 @@ impl<'a, R: LockFiles + AllocGlobal + Clone + Drop> FolderSink<'a, R> {
     }
 
     /// Repairs the folder.
-    fn repair_opened<T: Teller>(&self, teller: &T) -> io::Result<Repair> {
+    fn repair_opened<T: Teller>(&self, teller: &T) -> Result<Repair, RefusedStep> {
         let mut folder = opened(self.rt, &self.folder)?;
-        repair(self.rt.alloc(), &mut folder, teller)
+        let repaired = repair(self.rt.alloc(), &mut folder, teller);
+        folder.told(repaired)
     }
 
     /// Lets the files that were written take their places.
-    fn place_written(&self) -> io::Result<()> {
+    fn place_written(&self) -> Result<(), RefusedStep> {
         if self.names.is_empty() {
             return Ok(());
         }
-        place_or_sweep(
-            self.rt.alloc(),
-            &mut opened(self.rt, &self.folder)?,
-            self.names.as_slice(),
-        )
+        let mut folder = opened(self.rt, &self.folder)?;
+        let placed = place_or_sweep(self.rt.alloc(), &mut folder, self.names.as_slice());
+        folder.told(placed)
     }
 
     /// Takes the journal away, where the files have their places.
-    fn close_placed(&self) -> io::Result<()> {
+    fn close_placed(&self) -> Result<(), RefusedStep> {
         if !self.is_placed || self.names.is_empty() {
             return Ok(());
         }
-        close(&mut opened(self.rt, &self.folder)?)
+        let mut folder = opened(self.rt, &self.folder)?;
+        let closed = close(&mut folder);
+        folder.told(closed)
     }
 }
 
@@ -226,8 +231,8 @@ impl<'a, R: LockFiles + AllocGlobal + Clone + Drop> OutputFolder for FolderSink<
                 self.repaired = Some(repaired);
                 Ok(repaired)
             }
-            Err(error) => {
-                self.failed = failed_file(self.rt.alloc(), &self.folder, JOURNAL, error);
+            Err(refused) => {
+                self.failed = failed_step(self.rt.alloc(), &self.folder, refused);
                 Err(SinkFailed)
             }
         }
@@ -239,8 +244,8 @@ impl<'a, R: LockFiles + AllocGlobal + Clone + Drop> OutputFolder for FolderSink<
                 self.is_placed = true;
                 Ok(())
             }
-            Err(error) => {
-                self.failed = failed_file(self.rt.alloc(), &self.folder, JOURNAL, error);
+            Err(refused) => {
+                self.failed = failed_step(self.rt.alloc(), &self.folder, refused);
                 Err(SinkFailed)
             }
         }
@@ -249,8 +254,8 @@ impl<'a, R: LockFiles + AllocGlobal + Clone + Drop> OutputFolder for FolderSink<
     fn close(&mut self) -> Result<(), SinkFailed> {
         match self.close_placed() {
             Ok(()) => Ok(()),
-            Err(error) => {
-                self.failed = failed_file(self.rt.alloc(), &self.folder, JOURNAL, error);
+            Err(refused) => {
+                self.failed = failed_step(self.rt.alloc(), &self.folder, refused);
                 Err(SinkFailed)
             }
         }

@@ -1,7 +1,7 @@
 //! A folder of the system, for exchanges.
 ghost use Rattle.std.specs.Prelude.{None};
 
-use av_exchange::Folder;
+use av_exchange::{Folder, JOURNAL};
 use std::alloc::Global;
 use std::fs::{self, DirEntry, File, Metadata, OpenFile};
 use std::io::{self, ErrorKind, Write};
@@ -17,12 +17,52 @@ const NO_FILE: &str = "a link, a folder or a pipe, where a file is to be";
 pub struct SystemFolder<'a, R> {
     rt: &'a R,
     pub(crate) path: String,
+    /// The file that could not take a place or be taken away, where one couldn't.
+    unmoved: Option<String>,
+}
+
+/// A step that a folder refused, and the name of the file that it was about, where that is known.
+#[derive(Drop)]
+pub(crate) struct RefusedStep {
+    pub(crate) name: Option<String>,
+    pub(crate) error: io::Error,
+}
+
+/// The file that is named where a refused step is told: the journal, unless another is known.
+pub(crate) fn file_told(name: &Option<String>) -> &str {
+    match name {
+        Some(name) => name.as_str(),
+        None => JOURNAL,
+    }
+}
+
+impl From<io::Error> for RefusedStep {
+    ghost from_gives = { λ _ _. Unit {0} };
+
+    fn from(error: io::Error) -> RefusedStep {
+        RefusedStep { name: None, error }
+    }
 }
 
 impl<'a, R: Files + AllocGlobal + Clone + Drop> SystemFolder<'a, R> {
     /// The folder of that path.
     pub fn new(rt: &'a R, path: String) -> SystemFolder<'a, R> {
-        SystemFolder { rt, path }
+        SystemFolder {
+            rt,
+            path,
+            unmoved: None,
+        }
+    }
+
+    /// What was done, or the refused step, with the name of the file that it was about.
+    pub(crate) fn told<T: Drop>(&mut self, done: io::Result<T>) -> Result<T, RefusedStep> {
+        match done {
+            Ok(done) => Ok(done),
+            Err(error) => Err(RefusedStep {
+                name: self.unmoved.take(),
+                error,
+            }),
+        }
     }
 
     /// The folder's own path, which is that of the folder in which this process works where it is empty.
@@ -142,10 +182,13 @@ impl<'a, R: Files + AllocGlobal + Clone + Drop> Folder for SystemFolder<'a, R> {
     }
 
     fn move_over(&mut self, from: &str, to: &str) -> io::Result<()> {
-        let from = self.path_of(from)?;
-        let to = self.path_of(to)?;
-        match fs::rename(self.rt, from.as_path(), to.as_path()) {
-            Err(error) if error.kind() != ErrorKind::NotFound => Err(error),
+        let new = self.path_of(from)?;
+        let old = self.path_of(to)?;
+        match fs::rename(self.rt, new.as_path(), old.as_path()) {
+            Err(error) if error.kind() != ErrorKind::NotFound => {
+                self.unmoved = String::from_str(self.rt.alloc(), to).ok();
+                Err(error)
+            }
             _ => Ok(()),
         }
     }
@@ -153,7 +196,10 @@ impl<'a, R: Files + AllocGlobal + Clone + Drop> Folder for SystemFolder<'a, R> {
     fn remove(&mut self, name: &str) -> io::Result<()> {
         let path = self.path_of(name)?;
         match fs::remove_file(self.rt, path.as_path()) {
-            Err(error) if error.kind() != ErrorKind::NotFound => Err(error),
+            Err(error) if error.kind() != ErrorKind::NotFound => {
+                self.unmoved = String::from_str(self.rt.alloc(), name).ok();
+                Err(error)
+            }
             _ => Ok(()),
         }
     }

@@ -6,7 +6,7 @@ ghost use Rattle.av_folders.specs.Repairs.{removed_text};
 
 use crate::holding::LockFiles;
 use crate::session::look_for_game;
-use crate::system_folder::SystemFolder;
+use crate::system_folder::{RefusedStep, SystemFolder, file_told};
 use av_exchange::{Folder, JOURNAL, is_own, repair};
 use av_reports::device::device_fault;
 use av_reports::failure::Failure;
@@ -53,12 +53,13 @@ pub(crate) fn hold_if_free<R: LockFiles>(rt: &R, folder: &str) -> io::Result<Opt
 }
 
 /// That of a folder whose journal can't be done with.
-fn undone<R: Files + AllocGlobal>(rt: &R, path: &str, name: &str, error: io::Error) -> Failure
+fn undone<R: Files + AllocGlobal>(rt: &R, path: &str, name: &str, refused: RefusedStep) -> Failure
     ensures { IsFolderFault name.now result.fault }
 {
-    match Path::new(path).join(rt.alloc(), JOURNAL) {
-        Ok(journal) => Failure::of_device(rt.alloc(), error, name, journal.as_str()),
-        Err(refused) => Failure::from(refused),
+    let RefusedStep { name: file, error } = refused;
+    match Path::new(path).join(rt.alloc(), file_told(&file)) {
+        Ok(file) => Failure::of_device(rt.alloc(), error, name, file.as_str()),
+        Err(want) => Failure::from(want),
     }
 }
 
@@ -89,7 +90,7 @@ fn repair_if_free<R: LockFiles + Eprint + AllocGlobal + Clone + Drop>(
 {
     let held = match hold_if_free(rt, path) {
         Ok(held) => held,
-        Err(error) => return Err(undone(rt, path, name, error)),
+        Err(error) => return Err(undone(rt, path, name, error.into())),
     };
     if held.is_none() {
         return Ok(None);
@@ -99,9 +100,10 @@ fn repair_if_free<R: LockFiles + Eprint + AllocGlobal + Clone + Drop>(
     }
     let mut folder = SystemFolder::new(rt, String::from_str(rt.alloc(), path)?);
     let teller = RepairTeller { rt, folder: path };
-    match repair(rt.alloc(), &mut folder, &teller) {
+    let repaired = repair(rt.alloc(), &mut folder, &teller);
+    match folder.told(repaired) {
         Ok(repaired) => Ok(Some(repaired)),
-        Err(error) => Err(undone(rt, path, name, error)),
+        Err(refused) => Err(undone(rt, path, name, refused)),
     }
 }
 
