@@ -546,6 +546,7 @@ expect_run 1 "" "--skip README: the name of a region's file is r.X.Z.mca\n" miss
 expect_run 1 "" "--skip r.9.9.mca: the folder has no such file\n" missing.toml missing.edits missing missing 9 --skip r.9.9.mca
 expect_run 1 "" "--skip r.9.9.mca: the folder has no such file\n" "$blocks" "$edits" "$input" "$output" 1 --skip r.9.9.mca --skip README
 expect_run 1 "" "--skip README: the name of a region's file is r.X.Z.mca\n" "$blocks" "$edits" "$input" missing 1 --skip README --dry-run
+expect_run 1 "" "fault 25: Device $blocks\n" "$blocks" "$edits" "$blocks" "$output" 1 --skip r.9.9.mca
 mkdir "$input/r.2.0.mca"
 head -c 100 /dev/zero > "$input/r.3.0.mca"
 expect_run 1 "" "fault 25: Device r.2.0.mca\n" "$blocks" "$edits" "$input" "$output" 1

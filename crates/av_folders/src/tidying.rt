@@ -11,6 +11,8 @@ use av_exchange::{Folder, JOURNAL, is_own, repair};
 use av_reports::device::device_fault;
 use av_reports::failure::Failure;
 use av_sink::{Repair, Teller};
+use av_types::Fault;
+use std::alloc::AllocError;
 use std::fs::{self, TryLockError};
 use std::io::{self, Write};
 use std::path::Path;
@@ -71,9 +73,11 @@ fn wait_for_game<R: Files + AllocGlobal>(rt: &R, path: &str, name: &str) -> Resu
     let help = "stop the game: a run is to be finished first";
     match look_for_game(rt, path, help) {
         Ok(()) => Ok(()),
-        Err(Failure { reason, .. }) => {
+        Err(failure) if failure.fault == Fault::OutOfMemory => Err(AllocError.into()),
+        Err(failure) => {
             let error: io::Error = io::ErrorKind::WouldBlock.into();
             let fault = device_fault(rt.alloc(), &error, name);
+            let reason = failure.reason;
             Err(Failure { fault, reason })
         }
     }

@@ -16,7 +16,7 @@ use av_reports::output::{FAULT, report_fault};
 use av_types::Fault;
 use std::alloc::{AllocError, Global};
 use std::fs;
-use std::io::{self, Write};
+use std::io::{self, ErrorKind, Write};
 use std::path::Path;
 use std::rt::Files;
 
@@ -42,7 +42,7 @@ impl<'a> From<AllocError> for NoSkip<'a> {
     }
 }
 
-/// Whether a file of that name can be skipped: it is a region's, and in the folder.
+/// Whether a file of that name can be skipped: it is a region's, and in the folder. What else is wrong with a folder, its reading tells.
 fn judge_skip<'a, R: Files + AllocGlobal>(
     rt: &R,
     folder: &str,
@@ -56,8 +56,8 @@ fn judge_skip<'a, R: Files + AllocGlobal>(
     }
     let path = Path::new(folder).join(rt.alloc(), name)?;
     match fs::symlink_metadata(rt, path.as_path()) {
-        Ok(_) => Ok(()),
-        Err(_) => Err(NoSkip::Missing(name)),
+        Err(error) if error.kind() == ErrorKind::NotFound => Err(NoSkip::Missing(name)),
+        _ => Ok(()),
     }
 }
 
