@@ -2,7 +2,7 @@
 use Rattle.std.proofs.Common.{sym, ◌∙◌}
 use Rattle.av_section.proofs.FromLongs.{below_at}
 use Rattle.av_section.proofs.Ready.{all_there}
-use Rattle.av_section.proofs.preparing.Section.prepare.Goals as goal
+use Rattle.av_section.proofs.section.Section.prepare.Goals as goal
 
 pub returns-then-are_below-clause-ok : goal.returns-then-are_below-clause-ok
 returns-then-are_below-clause-ok c =

@@ -3,7 +3,7 @@ use Rattle.std.proofs.Common.{◌≡◌, [], ◌∙◌, sym, arith}
 use Rattle.std.proofs.lemmas.Bool.{eqb-true}
 use Rattle.std.proofs.lemmas.List.{nil_from_length}
 use Rattle.av_section.proofs.PackedLemmas.{packed_zeros}
-use Rattle.av_section.proofs.preparing.Section.add_longs.Goals as goal
+use Rattle.av_section.proofs.section.Section.add_longs.Goals as goal
 
 pub invariant_of-self-clause-packed : goal.invariant_of-self-clause-packed
 invariant_of-self-clause-packed c =

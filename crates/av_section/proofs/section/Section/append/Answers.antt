@@ -2,7 +2,7 @@
 use Rattle.std.proofs.Common.{is_ok}
 use Rattle.av_section.proofs.Grown.{grown}
 use Rattle.av_section.proofs.Ready.{known_grown}
-use Rattle.av_section.proofs.preparing.Section.append.Goals as goal
+use Rattle.av_section.proofs.section.Section.append.Goals as goal
 
 pub invariant_of-self-clause-packed : goal.invariant_of-self-clause-packed
 invariant_of-self-clause-packed c =

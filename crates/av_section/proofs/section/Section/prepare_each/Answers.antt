@@ -4,7 +4,7 @@ use Rattle.std.proofs.lemmas.Bool.{cases_lt}
 use Rattle.std.proofs.lemmas.List.{get_or_default}
 use Rattle.av_section.specs.Section.{CanSet}
 use Rattle.av_section.proofs.Keeps.{KeepsPlaces-trans}
-use Rattle.av_section.proofs.preparing.Section.prepare_each.Goals as goal
+use Rattle.av_section.proofs.section.Section.prepare_each.Goals as goal
 
 pub loop-number-preserved : goal.loop-number-preserved
 loop-number-preserved c = record {

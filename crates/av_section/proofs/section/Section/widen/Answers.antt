@@ -3,7 +3,7 @@ use Rattle.std.proofs.Common.{refl}
 use Rattle.std.proofs.lemmas.List.Elements.{Contains-append_left}
 use Rattle.av_section.proofs.Grown.{packed_pushed, number_pushed}
 use Rattle.av_section.proofs.Ready.{known_pushed}
-use Rattle.av_section.proofs.preparing.Section.widen.Goals as goal
+use Rattle.av_section.proofs.section.Section.widen.Goals as goal
 
 pub invariant_of-self-2-clause-packed : goal.invariant_of-self-2-clause-packed
 invariant_of-self-2-clause-packed c =

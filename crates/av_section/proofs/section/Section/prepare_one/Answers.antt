@@ -1,7 +1,7 @@
 -- A palette that lacks a number is not full.
 use Rattle.std.proofs.Common.{length, refl, true≢false, arith, sym, ◌∙◌, ap}
 use Rattle.av_section.proofs.Grown.{room_for}
-use Rattle.av_section.proofs.preparing.Section.prepare_one.Goals as goal
+use Rattle.av_section.proofs.section.Section.prepare_one.Goals as goal
 
 pub bits_for-bits-requires : goal.bits_for-bits-requires
 bits_for-bits-requires c =
