@@ -2,8 +2,6 @@
 #![tactic(auto)]
 
 #[cfg(test)]
-mod expecting;
-#[cfg(test)]
 mod pack;
 #[cfg(test)]
 mod region;

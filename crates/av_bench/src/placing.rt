@@ -64,7 +64,7 @@ fn in_pools(low: u32, mixed: u32) -> Pos {
 }
 
 /// The block of the entry with a number.
-fn place_of(kind: Kind, number: u32) -> Pos {
+fn block_of(kind: Kind, number: u32) -> Pos {
     let mixed = number.wrapping_mul(2_654_435_761);
     match kind {
         Kind::Lake => in_lake(number),
@@ -101,7 +101,7 @@ pub(crate) fn entries_of(
 {
     let mut entries = Vec::new(alloc);
     for number in 0..count {
-        push_loaded(world, &mut entries, place_of(kind, number))?;
+        push_loaded(world, &mut entries, block_of(kind, number))?;
     }
     Ok(entries)
 }

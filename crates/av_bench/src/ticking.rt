@@ -9,6 +9,7 @@ use av_rules::Kinds;
 use av_serial_tests::runs::{After, edits_and_kinds, run_edits, world_of};
 use av_types::{ChunkPos, Fault, Pos};
 use av_world::World;
+use av_world_tests::flat::SOURCE;
 use std::alloc::{AllocError, Global};
 use std::rt::Clock;
 use std::sync::Wait;
@@ -17,8 +18,6 @@ use std::time::Instant;
 
 /// The numbers of air and of a source.
 const AIR: u16 = 0;
-
-const SOURCE: u16 = 1;
 
 /// All chunks of a region.
 fn region_chunks(alloc: Global) -> Result<Vec<ChunkPos>, AllocError> {

@@ -1,5 +1,5 @@
 //! The blocks of a chunk, counted by the numbers of their states.
-ghost use Rattle.std.specs.Prelude.{◌≡◌, ℕ, ◌+◌, ◌*◌, ◌<◌, ◌≤◌, ◌^◌, None, length, slice_index, slice_index_or, slice_set, IfOk, IfSome};
+ghost use Rattle.std.specs.Prelude.{◌≡◌, ℕ, ◌+◌, ◌<◌, ◌≤◌, ◌^◌, None, length, slice_index, slice_index_or, slice_set, IfOk, IfSome};
 ghost use Rattle.std.specs.Option.{option_copied};
 ghost use Rattle.av_section.specs.Section.{number_at, HasNumbersBelow, section_states};
 ghost use Rattle.av_census.specs.Counting.{AreSlotCounts, CountsMore, SlotBelow, SlotsBelow, first_places, slot_states};

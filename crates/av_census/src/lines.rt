@@ -51,14 +51,13 @@ fn push_line(
     text: &mut Vec<u8>,
     count: &StateCount,
     rules: Option<&Rules>,
-) -> Result<(), Fault>
-    ensures ok { OnOk result (text.new.items ≡ text.old.items
+) -> Result<(), AllocError>
+    ensures { OnOk result (text.new.items ≡ text.old.items
         ++ count_line (option_map table_of (option_copied rules.entry)) count.now) }
-    ensures memory { IfErr result (λ e. e ≡ OutOfMemory) }
 {
     let blocks = count.blocks;
     let head = format!(in alloc; "{blocks} ")?;
-    let state = count.state.text(alloc)?;
+    let state = count.state.text(alloc).map_err(|_| AllocError)?;
     let row = table_text(alloc, &count.state, rules)?;
     text.extend_from_slice(head.as_bytes())?;
     text.extend_from_slice(state.as_slice())?;

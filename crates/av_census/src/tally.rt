@@ -1,5 +1,5 @@
 //! How many blocks have each state, by the order of the states.
-ghost use Rattle.std.specs.Prelude.{◌≡◌, ℕ, List, ◌+◌, ◌<◌, ◌^◌, true, false, None, length, slice_get, slice_index, IfOk, IfSome, OnOk, Some, if◌then◌else◌};
+ghost use Rattle.std.specs.Prelude.{◌≡◌, List, ◌+◌, ◌<◌, ◌^◌, true, false, None, length, IfOk, OnOk, Some, if◌then◌else◌};
 ghost use Rattle.std.specs.BTreeMap.{get, is_at};
 ghost use Rattle.av_state.specs.BlockState.{BlockState};
 ghost use Rattle.av_state.specs.StateList.{same_state};

@@ -10,8 +10,6 @@ mod document_ticks;
 #[cfg(test)]
 mod documents;
 #[cfg(test)]
-mod expecting;
-#[cfg(test)]
 mod judging;
 #[cfg(test)]
 mod known;

@@ -1,17 +1,15 @@
 //! The parts of a tick.
-ghost use Rattle.std.specs.Prelude.{◌≡◌, ◌↔◌, ◌<◌, ◌≤◌, ◌+◌, ◌++◌, ◌∷◌, [], None, Some, true, ℕ, IsTrue, OnOk, IfOk, IfErr, IfSome, length, All, map, slice_get, slice_set, slice_index, slice_index_or, vec_len};
+ghost use Rattle.std.specs.Prelude.{◌≡◌, ◌<◌, ◌≤◌, ◌+◌, ◌++◌, ◌∷◌, [], Some, true, ℕ, IsTrue, OnOk, IfOk, IfErr, length, All, slice_set, slice_index, slice_index_or, vec_len};
 ghost use Rattle.std.specs.Map.{keys_of};
 ghost use Rattle.av_types.specs.declared.fault.Fault.TheVariants.{OutOfMemory};
 ghost use Rattle.av_types.specs.declared.tick.Entry.{Entry};
 ghost use Rattle.av_world.specs.Views.{blocks};
-ghost use Rattle.av_play.specs.Parts.{numbered};
-ghost use Rattle.av_play.specs.Groups.{rank, grouped};
 ghost use Rattle.av_cluster.specs.Forest.{first, IsFalling, AreSame};
 ghost use Rattle.av_cluster.specs.Gathering.{IsGathered, AreAlone};
 ghost use Rattle.av_cluster.specs.Clusters.{parts_of, sections_of, IsGiven, AreBare, AreShared, AreOnce, ArePlanned};
 ghost use Rattle.av_types.specs.declared.place.SectionPos.{SectionPos};
 ghost use Rattle.av_types.specs.Places.{section_of, is_section_of};
-ghost use Rattle.av_cluster.specs.Joining.{key_of, owner_in, IsTouchedIf, IsNoted, IsBefore, Touches};
+ghost use Rattle.av_cluster.specs.Joining.{owner_in, IsTouchedIf, IsNoted, IsBefore};
 
 use crate::cluster_part::Cluster;
 use crate::forest::{find, join};

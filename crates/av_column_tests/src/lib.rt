@@ -8,8 +8,6 @@ mod drops;
 #[cfg(test)]
 mod examples;
 #[cfg(test)]
-mod expecting;
-#[cfg(test)]
 mod flat;
 #[cfg(test)]
 mod turns;

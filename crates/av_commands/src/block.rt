@@ -1,6 +1,5 @@
 //! The command `block`: the state of a block of a region file.
 ghost use Rattle.std.specs.Prelude.{◌≡◌, IfErr, IfOk, option_map};
-ghost use Rattle.std.specs.Io.KnownBytes.{Appends};
 ghost use Rattle.av_types.specs.Places.{IsInLimits};
 ghost use Rattle.av_types.specs.declared.fault.Fault.TheVariants.{OutOfMemory};
 ghost use Rattle.av_state.specs.States.{state_of};

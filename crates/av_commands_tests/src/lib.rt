@@ -9,8 +9,6 @@ mod chunks;
 #[cfg(test)]
 mod exchange;
 #[cfg(test)]
-mod expecting;
-#[cfg(test)]
 mod lines;
 #[cfg(test)]
 mod locks;

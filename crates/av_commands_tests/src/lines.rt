@@ -1,7 +1,7 @@
 //! Names and lines. What the program answers, `scripts/check_words.sh` asks of the built one.
-use crate::expecting::expect_equal;
 use av_commands::block::block_text;
 use av_commands::checking::{Counts, findings, write_counts, write_unread};
+use av_expecting::expect_equal;
 use av_reports::edit_trouble::{EditCause, EditTrouble, edit_cause};
 use av_reports::failure::{Failure, Reason, UnreadFile};
 use av_reports::names::{file_name, region_of_name, split_path};
@@ -35,6 +35,11 @@ fn names_of_regions(rt: HostRuntime) -> Result<(), Fail> {
             "{name}"
         );
     }
+    Ok(())
+}
+
+#[test]
+fn names_of_no_region(rt: HostRuntime) -> Result<(), Fail> {
     for name in [
         "r.00.0.mca",
         "r.-0.0.mca",
@@ -50,8 +55,13 @@ fn names_of_regions(rt: HostRuntime) -> Result<(), Fail> {
         "ar.0.0.mca",
         "",
     ] {
-        assert_eq!(rt; region_of_name(alloc, name)?, None, "{name}");
+        assert_eq!(rt; region_of_name(rt.alloc(), name)?, None, "{name}");
     }
+    Ok(())
+}
+
+#[test]
+fn names_in_paths(rt: HostRuntime) -> Result<(), Fail> {
     expect_equal(&rt, file_name("a/b/r.0.0.mca"), "r.0.0.mca");
     expect_equal(&rt, file_name("r.0.0.mca"), "r.0.0.mca");
     expect_equal(&rt, file_name("a/"), "");
@@ -60,7 +70,7 @@ fn names_of_regions(rt: HostRuntime) -> Result<(), Fail> {
         ("/map.png", "/", "map.png"),
         ("map.png", "", "map.png"),
     ] {
-        let (folder, name) = split_path(alloc, path)?;
+        let (folder, name) = split_path(rt.alloc(), path)?;
         expect_equal(&rt, folder.as_str(), want_folder);
         expect_equal(&rt, name, want_name);
     }

@@ -1,9 +1,8 @@
 //! Parcels of a tick's parts: carved out of the world, and mended.
-ghost use Rattle.std.specs.Prelude.{◌≡◌, ◌≤◌, ◌+◌, ◌<◌, ◌++◌, ◌∷◌, ◌||◌, ℕ, List, [], OnOk, OnErr, IfOk, IfErr, is_some, false, vec_len, vec_capacity};
+ghost use Rattle.std.specs.Prelude.{◌≡◌, ◌≤◌, ◌+◌, ◌<◌, ◌++◌, ◌∷◌, ◌||◌, List, [], OnOk, OnErr, IfOk, IfErr, is_some, false, vec_len, vec_capacity};
 ghost use Rattle.std.specs.List.{All, flat_map, list_any};
 ghost use Rattle.av_types.specs.declared.fault.Fault.TheVariants.{OutOfMemory};
 ghost use Rattle.av_types.specs.declared.tick.Entry.{Entry};
-ghost use Rattle.av_cells.specs.Grid.{Grid};
 ghost use Rattle.av_world.specs.Views.{grid, blocks, lists, is_broken, IsSamePlaces};
 ghost use Rattle.av_world.specs.ParcelViews.{blocks as parcel_blocks};
 ghost use Rattle.av_crew.specs.Jobs.{mended_all, AreJobs, IsCarved};

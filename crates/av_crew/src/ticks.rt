@@ -1,10 +1,10 @@
 //! The tick on several workers.
-ghost use Rattle.std.specs.Prelude.{nat_eq, ◌≡◌, ◌≢◌, ◌≤◌, ◌<◌, nat_lt, nat_le, ◌||◌, true, false, All, OnOk, OnErr, IfOk, IfErr, if◌then◌else◌, length, vec_len};
+ghost use Rattle.std.specs.Prelude.{◌≡◌, ◌≢◌, ◌≤◌, ◌<◌, ◌||◌, true, false, All, OnOk, OnErr, IfOk, IfErr, if◌then◌else◌, length, vec_len};
 ghost use Rattle.std.specs.List.{list_all};
 ghost use Rattle.av_types.specs.declared.fault.Fault.TheVariants.{OutOfMemory, BadCount, Broken};
 ghost use Rattle.av_rules.specs.Kinds.{kind_count};
 ghost use Rattle.av_cells.specs.Kinds.{kinds_of};
-ghost use Rattle.av_land.specs.Tick.{set_in, edited, turned_all, ticked, tick_count, due_entries, without_due};
+ghost use Rattle.av_land.specs.Tick.{turned_all, ticked, tick_count, due_entries, without_due};
 ghost use Rattle.av_world.specs.Views.{is_broken, blocks};
 ghost use Rattle.av_world.specs.Lands.{land_of};
 ghost use Rattle.av_cluster.specs.Clusters.{ArePlanned};

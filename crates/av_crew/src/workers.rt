@@ -1,11 +1,10 @@
 //! Workers that take jobs from a ring.
-ghost use Rattle.std.specs.Prelude.{◌≡◌, ◌<◌, ◌≤◌, ◌++◌, ◌∷◌, [], ℕ, IfOk, IfErr, OnOk, true, false, All, vec_len, vec_capacity, length, List, map};
+ghost use Rattle.std.specs.Prelude.{◌≡◌, ◌<◌, ◌≤◌, [], IfOk, IfErr, OnOk, All, vec_len, map};
 ghost use Rattle.std.specs.List.{AllZip, flat_map};
-ghost use Rattle.std.specs.List.Sorted.{IsPermutation};
 ghost use Rattle.av_types.specs.declared.fault.Fault.TheVariants.{OutOfMemory};
 ghost use Rattle.av_cells.specs.Kinds.{kinds_of};
 ghost use Rattle.av_ring.specs.Numbers.{HaveDistinctNumbers};
-ghost use Rattle.av_crew.specs.Work.{CanWork, IsDoneOf};
+ghost use Rattle.av_crew.specs.Work.{CanWork};
 ghost use Rattle.av_crew.specs.Answer.{AnswersAll};
 ghost use Rattle.av_crew.specs.Workers.{Worked, IsNewSeat, WorkedPart, IsWorkerOf, GivesBack};
 
@@ -261,6 +260,7 @@ pub fn work_all<R: Threads + Wait + Sync, G: Gate + Sync>(
     let Ok(left) = ring.close(rt, alloc, seats) else {
         return Err(Fault::OutOfMemory);
     };
+    // A job is left only where memory was refused at every seat: where one is dry none is left.
     if !left.is_empty() {
         return Err(Fault::OutOfMemory);
     }

@@ -1,5 +1,5 @@
 //! Flat worlds after ticks on several workers, and what stands in them.
-ghost use Rattle.std.specs.Prelude.{◌≡◌, ◌<◌, ◌≤ℤ◌, pos, negsuc};
+ghost use Rattle.std.specs.Prelude.{◌<◌};
 ghost use Rattle.av_world_tests.specs.Flat.{IsPlain};
 
 use av_cells::Cells;

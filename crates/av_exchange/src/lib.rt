@@ -5,9 +5,9 @@
 
 pub mod exchange;
 pub mod folder;
-pub mod journal;
+mod journal;
 pub mod laws;
-pub mod moves;
+mod moves;
 pub mod names;
 pub mod repairing;
 

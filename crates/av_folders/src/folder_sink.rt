@@ -6,7 +6,7 @@ ghost use Rattle.av_folders.specs.Folders.{folder_account};
 use crate::holding::LockFiles;
 use crate::system_folder::{RefusedStep, SystemFolder, file_told};
 use crate::tidying::hold_if_free;
-use av_exchange::{Folder, close, is_own, place, place_alone, repair, stage, sweep, unstage};
+use av_exchange::{close, is_own, place, place_alone, repair, stage, sweep, unstage};
 use av_reports::names::region_of_name;
 use av_sink::{FailedFile, OutputFolder, Repair, Sink, SinkFailed, Teller};
 use std::alloc::{AllocError, Global};
@@ -109,14 +109,20 @@ pub struct FolderSink<'a, R> {
 }
 
 /// Lets files that were written take their places. Where they can't begin to they are taken away.
-fn place_or_sweep<F: Folder>(alloc: Global, folder: &mut F, names: &[String]) -> io::Result<()> {
+fn place_or_sweep<R: Files + AllocGlobal + Clone + Drop>(
+    alloc: Global,
+    folder: &mut SystemFolder<'_, R>,
+    names: &[String],
+) -> Result<(), RefusedStep> {
     let Err(not) = place(alloc, folder, names) else {
         return Ok(());
     };
-    if !not.begun {
+    let begun = not.begun;
+    let refused = folder.refused(not.error);
+    if !begun {
         let _ = sweep(alloc, folder);
     }
-    Err(not.error)
+    Err(refused)
 }
 
 /// What is known of a failure, where memory is enough for it.
@@ -160,8 +166,10 @@ impl<'a, R: LockFiles + AllocGlobal + Clone + Drop> FolderSink<'a, R> {
     /// Repairs the folder.
     fn repair_opened<T: Teller>(&self, teller: &T) -> Result<Repair, RefusedStep> {
         let mut folder = opened(self.rt, &self.folder)?;
-        let repaired = repair(self.rt.alloc(), &mut folder, teller);
-        folder.told(repaired)
+        match repair(self.rt.alloc(), &mut folder, teller) {
+            Ok(repaired) => Ok(repaired),
+            Err(error) => Err(folder.refused(error)),
+        }
     }
 
     /// Lets the files that were written take their places.
@@ -170,8 +178,7 @@ impl<'a, R: LockFiles + AllocGlobal + Clone + Drop> FolderSink<'a, R> {
             return Ok(());
         }
         let mut folder = opened(self.rt, &self.folder)?;
-        let placed = place_or_sweep(self.rt.alloc(), &mut folder, self.names.as_slice());
-        folder.told(placed)
+        place_or_sweep(self.rt.alloc(), &mut folder, self.names.as_slice())
     }
 
     /// Takes the journal away, where the files have their places.
@@ -180,8 +187,10 @@ impl<'a, R: LockFiles + AllocGlobal + Clone + Drop> FolderSink<'a, R> {
             return Ok(());
         }
         let mut folder = opened(self.rt, &self.folder)?;
-        let closed = close(&mut folder);
-        folder.told(closed)
+        match close(&mut folder) {
+            Ok(()) => Ok(()),
+            Err(error) => Err(folder.refused(error)),
+        }
     }
 }
 

@@ -3,6 +3,7 @@ ghost use Rattle.std.specs.Prelude.{IfErr};
 ghost use Rattle.av_folders.specs.Folders.{IsFolderFault};
 
 use crate::locks::holder_of;
+use av_exchange::TRIAL;
 use av_reports::failure::Failure;
 use std::fs::{self, File, Metadata, TryLockError};
 use std::io::{self, ErrorKind};
@@ -37,9 +38,6 @@ fn held<R: Files + AllocGlobal>(rt: &R, found: &Metadata) -> io::Error {
         ),
     }
 }
-
-/// The name of a file that is made in such a folder and taken away again.
-const TRIAL: &str = ".anvilwater-trial";
 
 /// Makes a file in a folder and takes it away, unless one of that name is there.
 fn make_and_remove<R: Files + AllocGlobal>(rt: &R, folder: &str) -> io::Result<()> {

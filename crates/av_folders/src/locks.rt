@@ -33,14 +33,15 @@ pub struct FileNumbers {
     pub number: String,
 }
 
-/// The first number of a device, as the system packs them.
+/// The first number of a device, as Linux packs the two (<https://man7.org/linux/man-pages/man3/makedev.3.html>): bits 8 to 19,
+/// and above them those from bit 44 on.
 fn major_of(device: u64) -> u64
     ensures { result ≡ major_of device }
 {
     device / 256 % 4096 + device / 17_592_186_044_416 * 4096
 }
 
-/// The second.
+/// The second: the lowest 8 bits, and above them bits 20 to 43.
 fn minor_of(device: u64) -> u64
     ensures { result ≡ minor_of device }
 {

@@ -15,7 +15,7 @@ use av_region_files::RegionFile;
 use av_reports::failure::{Failure, UnreadFile};
 use av_reports::manner::Manner;
 use av_reports::names::region_of_name;
-use av_types::{Fault, RegionPos};
+use av_types::RegionPos;
 use std::alloc::{AllocError, Global};
 use std::fs::DirEntry;
 use std::io::Write;
@@ -45,11 +45,10 @@ impl FolderFiles {
         self.files.len().saturating_add(self.unread.len())
     }
 
-    fn add_read(&mut self, listed: &Listed, file: RegionFile) -> Result<(), Fault>
+    fn add_read(&mut self, listed: &Listed, file: RegionFile) -> Result<(), AllocError>
         requires { file.pos ≡ listed.now.region }
         ensures adds { OnOk result ((before : List RegionPos) → AreRead before self.old
             → AreRead (before ++ listed.now.region ∷ []) self.new) }
-        ensures memory { IfErr result (λ e. e ≡ OutOfMemory) }
     {
         Ok(self.files.push(file)?)
     }
@@ -60,14 +59,13 @@ impl FolderFiles {
         folder: &str,
         listed: &Listed,
         error: io::Error,
-    ) -> Result<(), Fault>
+    ) -> Result<(), AllocError>
         requires { IsListed listed.now }
         ensures adds { OnOk result ((before : List RegionPos) → AreRead before self.old
             → AreRead (before ++ listed.now.region ∷ []) self.new) }
-        ensures memory { IfErr result (λ e. e ≡ OutOfMemory) }
     {
         if error.kind() == io::ErrorKind::OutOfMemory {
-            return Err(Fault::OutOfMemory);
+            return Err(AllocError);
         }
         let name = String::from_str(alloc, listed.name.as_str())?;
         let path = path_in(alloc, folder, listed.name.as_str())?;
@@ -81,12 +79,11 @@ impl FolderFiles {
         folder: &str,
         listed: &Listed,
         read: io::Result<RegionFile>,
-    ) -> Result<(), Fault>
+    ) -> Result<(), AllocError>
         requires listed { IsListed listed.now }
         requires pos { IfOk read (λ file. file.pos ≡ listed.now.region) }
         ensures adds { OnOk result ((before : List RegionPos) → AreRead before self.old
             → AreRead (before ++ listed.now.region ∷ []) self.new) }
-        ensures memory { IfErr result (λ e. e ≡ OutOfMemory) }
     {
         match read {
             Ok(file) => self.add_read(listed, file),
@@ -168,7 +165,7 @@ fn path_in(alloc: Global, folder: &str, name: &str) -> Result<String, AllocError
 
 /// The bytes of a file, or of that to which a link leads. What is neither a file nor a folder, as a pipe, is not opened, since
 /// that might never return.
-fn read_regular<R: Files + AllocGlobal>(rt: &R, path: &str) -> io::Result<Vec<u8>> {
+pub fn read_regular<R: Files + AllocGlobal>(rt: &R, path: &str) -> io::Result<Vec<u8>> {
     let found = fs::metadata(rt, path)?;
     if found.is_file() || found.is_dir() {
         return fs::read(rt, path);

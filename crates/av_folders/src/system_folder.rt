@@ -54,14 +54,11 @@ impl<'a, R: Files + AllocGlobal + Clone + Drop> SystemFolder<'a, R> {
         }
     }
 
-    /// What was done, or the refused step, with the name of the file that it was about.
-    pub(crate) fn told<T: Drop>(&mut self, done: io::Result<T>) -> Result<T, RefusedStep> {
-        match done {
-            Ok(done) => Ok(done),
-            Err(error) => Err(RefusedStep {
-                name: self.unmoved.take(),
-                error,
-            }),
+    /// The step that was refused last, by its error.
+    pub(crate) fn refused(&mut self, error: io::Error) -> RefusedStep {
+        RefusedStep {
+            name: self.unmoved.take(),
+            error,
         }
     }
 

@@ -104,10 +104,9 @@ fn repair_if_free<R: LockFiles + Eprint + AllocGlobal + Clone + Drop>(
     }
     let mut folder = SystemFolder::new(rt, String::from_str(rt.alloc(), path)?);
     let teller = RepairTeller { rt, folder: path };
-    let repaired = repair(rt.alloc(), &mut folder, &teller);
-    match folder.told(repaired) {
+    match repair(rt.alloc(), &mut folder, &teller) {
         Ok(repaired) => Ok(Some(repaired)),
-        Err(refused) => Err(undone(rt, path, name, refused)),
+        Err(error) => Err(undone(rt, path, name, folder.refused(error))),
     }
 }
 

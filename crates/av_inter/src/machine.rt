@@ -1,15 +1,10 @@
 //! The machine: a tick whose parts workers take, turn and give back.
-ghost use Rattle.std.specs.Prelude.{◌≡◌, ◌<◌, ℕ, Some, None, false, IsTrue, OnOk, OnErr, IfOk, IfErr, length};
-ghost use Rattle.std.specs.List.{slice_get};
+ghost use Rattle.std.specs.Prelude.{◌≡◌, ◌<◌, Some, false, OnOk, OnErr, IfErr};
 ghost use Rattle.std.proofs.Props.{props};
-ghost use Rattle.av_types.specs.declared.fault.Fault.TheVariants.{OutOfMemory};
 ghost use Rattle.av_rules.specs.Kinds.{kind_count};
-ghost use Rattle.av_cells.specs.Kinds.{kinds_of};
-ghost use Rattle.av_cells.specs.Rule.{HasKinds};
 ghost use Rattle.av_world.specs.Views.{blocks, lists, height_of, positions_of, is_broken};
 ghost use Rattle.av_play.specs.declared.event.Event.{Event};
 ghost use Rattle.av_play.specs.declared.event.Stage.{Stage};
-ghost use Rattle.av_play.specs.Parts.{part_at};
 ghost use Rattle.av_cluster.specs.Clusters.{parts_of, sections_of};
 ghost use Rattle.av_inter.specs.Out.{outs};
 ghost use Rattle.av_inter.specs.Lawful.{IsCore};
@@ -40,7 +35,7 @@ pub struct Core<'a> {
 }
 
 impl<'a> Core<'a> {
-    ghost use Rattle.av_play.specs.Play.{after, moved, IsLawfulEvent, HoldsEntry};
+    ghost use Rattle.av_play.specs.Play.{after, moved, IsLawfulEvent};
     ghost use Rattle.av_inter.specs.Refusals.{IsEventRefusal};
     ghost use Rattle.av_inter.specs.Views.{state_of, parts_in, kinds_in, now_in, IsSameTick};
 

@@ -2,22 +2,13 @@
 ghost use Rattle.std.specs.Prelude.{◌<◌};
 
 use crate::drawn::{bring_all_back, drawn_world, play_drawn};
-use crate::parts::{started, stone_kinds, ticked};
-use av_inter::Core;
+use crate::parts::{end_of, started, stone_kinds, ticked};
 use av_types::{ChunkPos, Fault, Pos};
 use av_world::World;
 use av_world_tests::reads::{entries_in, number_at};
 use std::alloc::Global;
 use std::process::Abort;
 use std::test::Fail;
-
-/// The world after a tick whose parts are all back.
-fn end_of(core: Core<'_>) -> Result<World, Fault> {
-    match core.finish() {
-        Ok(world) => Ok(world),
-        Err(_) => Err(Fault::OutOfMemory),
-    }
-}
 
 /// The layers that a tick of a drawn world may change, and some around them.
 const BLOCKS: u32 = 28_672;

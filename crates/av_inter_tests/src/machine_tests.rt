@@ -1,5 +1,5 @@
 //! Ticks event by event, on chunks with stone at y 63 and air elsewhere.
-use crate::parts::{poured, started, stone_kinds, ticked};
+use crate::parts::{EAST, ORIGIN, at, end_of, poured, started, stone_kinds, ticked};
 use av_inter::{Core, Refused};
 use av_play::Event;
 use av_rules::Kinds;
@@ -9,14 +9,6 @@ use av_world_tests::reads::{entries_in, water_in};
 use std::alloc::Global;
 use std::process::Abort;
 use std::test::Fail;
-
-const ORIGIN: ChunkPos = ChunkPos { x: 0, z: 0 };
-
-const EAST: ChunkPos = ChunkPos { x: 1, z: 0 };
-
-fn at(x: i32, y: i32, z: i32) -> Pos {
-    Pos { x, y, z }
-}
 
 /// Each event happens, or is refused for its cause.
 fn expect_answers(rt: &impl Abort, core: &mut Core<'_>, events: &[(Event, Option<Refused>)]) {
@@ -29,14 +21,6 @@ fn expect_answers(rt: &impl Abort, core: &mut Core<'_>, events: &[(Event, Option
 fn play(rt: &impl Abort, core: &mut Core<'_>, events: &[Event]) {
     for event in events {
         assert_eq!(rt; core.step(*event).err(), None, "{event:?}");
-    }
-}
-
-/// The world after a tick whose parts are all back.
-fn end_of(core: Core<'_>) -> Result<World, Fault> {
-    match core.finish() {
-        Ok(world) => Ok(world),
-        Err(_) => Err(Fault::OutOfMemory),
     }
 }
 

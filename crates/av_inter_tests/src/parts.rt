@@ -12,12 +12,17 @@ use av_rules::{Kinds, Rules};
 use av_serial::tick;
 use av_types::{ChunkPos, Entry, Fault, Height, Pos, SectionPos};
 use av_world::World;
-use av_world_tests::flat::stone_table;
+use av_world_tests::flat::{SOURCE, stone_table};
 use av_world_tests::worlds::{flat_world, put, wait};
 use std::alloc::Global;
 
-/// The number of a source.
-const SOURCE: u16 = 1;
+pub(crate) const ORIGIN: ChunkPos = ChunkPos { x: 0, z: 0 };
+
+pub(crate) const EAST: ChunkPos = ChunkPos { x: 1, z: 0 };
+
+pub(crate) fn at(x: i32, y: i32, z: i32) -> Pos {
+    Pos { x, y, z }
+}
 
 /// Stone.
 const ROWS: &str = r#"
@@ -115,5 +120,13 @@ pub fn started<'a>(
     match Core::new(alloc, world, kinds, now, clusters) {
         Ok(core) => Ok(core),
         Err((fault, _)) => Err(fault),
+    }
+}
+
+/// The world after a tick whose parts are all back.
+pub(crate) fn end_of(core: Core<'_>) -> Result<World, Fault> {
+    match core.finish() {
+        Ok(world) => Ok(world),
+        Err(_) => Err(Fault::OutOfMemory),
     }
 }

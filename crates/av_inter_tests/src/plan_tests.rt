@@ -1,5 +1,5 @@
 //! Territories and plans by hand, on chunks with stone at y 63 and air elsewhere.
-use crate::parts::{plan_of, poured, territory_of};
+use crate::parts::{EAST, ORIGIN, at, plan_of, poured, territory_of};
 use av_cluster::Cluster;
 use av_types::{ChunkPos, Fault, Height, Pos, SectionPos};
 use av_world::World;
@@ -7,14 +7,6 @@ use av_world_tests::worlds::flat_world;
 use std::alloc::Global;
 use std::process::Abort;
 use std::test::Fail;
-
-const ORIGIN: ChunkPos = ChunkPos { x: 0, z: 0 };
-
-const EAST: ChunkPos = ChunkPos { x: 1, z: 0 };
-
-fn at(x: i32, y: i32, z: i32) -> Pos {
-    Pos { x, y, z }
-}
 
 /// A section by its x, y and z.
 fn section(x: i32, y: i32, z: i32) -> SectionPos {

@@ -1,5 +1,5 @@
 //! A world as the light of one chunk reads it.
-ghost use Rattle.std.specs.Prelude.{◌≡◌, ◌<◌, ◌+◌, ◌≤ℤ◌, ◌+ℤ◌, ◌-ℤ◌, pos, negsuc, ℕ, ⊤, slice_index, map, MatchOption, IfSome};
+ghost use Rattle.std.specs.Prelude.{◌≡◌, ◌<◌, ◌+◌, ◌≤ℤ◌, ◌+ℤ◌, pos, negsuc, ℕ, slice_index, map, IfSome};
 ghost use Rattle.av_world.specs.Index.{slot};
 ghost use Rattle.av_world.specs.Views.{positions_of};
 ghost use Rattle.av_light.specs.Columns.{column, IsCorner};

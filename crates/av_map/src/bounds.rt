@@ -1,5 +1,5 @@
 //! The rectangle that regions fill.
-ghost use Rattle.std.specs.Prelude.{◌≡◌, ◌≤◌, ◌<◌, ◌/◌, ◌+ℤ◌, ◌≤ℤ◌, IsTrue, ◌↔◌, negsuc, pos, fold};
+ghost use Rattle.std.specs.Prelude.{◌≡◌, ◌<◌, ◌/◌, IsTrue, ◌↔◌, pos};
 ghost use Rattle.std.specs.List.{All};
 ghost use Rattle.av_types.specs.Places.{IsInLimits};
 ghost use Rattle.av_map.specs.Maps.{greater, lesser};

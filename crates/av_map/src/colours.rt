@@ -1,11 +1,11 @@
 //! The colours of blocks, by their names.
-ghost use Rattle.std.specs.Prelude.{◌≡◌, ◌≢◌, ◌≤◌, ◌<◌, ◌^◌, IfOk, IfErr, IsUtf8, Some, None, [], ◌+◌, ◌%◌, map, option_and_then};
+ghost use Rattle.std.specs.Prelude.{◌≡◌, ◌≢◌, ◌<◌, ◌^◌, IfOk, IfErr, IsUtf8, Some, None, [], ◌+◌, ◌%◌, map, option_and_then};
 ghost use Rattle.av_types.specs.declared.fault.Fault.TheVariants.{OutOfMemory, BadTable};
 ghost use Rattle.av_state.specs.States.{state_of};
 ghost use Rattle.av_state.specs.Table.{states};
 ghost use Rattle.toml.specs.Data.{as_str};
 ghost use Rattle.toml.specs.View.{view, table_view};
-ghost use Rattle.av_map.specs.Colours.{block_colour, colour_named, colour_of_bytes, colour_or, colour_spelled, colours_in, colours_spelled, letters_colour, letters_number, water_blue, water_colour};
+ghost use Rattle.av_map.specs.Colours.{block_colour, colour_named, colour_of_bytes, colour_spelled, colours_in, colours_spelled, letters_colour, letters_number, water_colour};
 ghost use Rattle.av_map.specs.Looks.{look_of};
 ghost use Rattle.av_map.specs.Sections.{Reads};
 ghost use Rattle.av_map.specs.Views.{all_named, colours_of, named_of};

@@ -1,8 +1,8 @@
 //! The picture of a world from above.
-ghost use Rattle.std.specs.Prelude.{◌≡◌, ◌≤◌, ◌∷◌, ◌*◌, IfOk, IfErr, length};
+ghost use Rattle.std.specs.Prelude.{◌≡◌, ◌*◌, IfOk, IfErr};
 ghost use Rattle.std.specs.List.{All, sum_by};
 ghost use Rattle.av_types.specs.Places.{IsInLimits};
-ghost use Rattle.av_map.specs.Maps.{IsDrawable, IsMap, IsMapOf, IsRefused, bounds_of, is_short, short_in};
+ghost use Rattle.av_map.specs.Maps.{IsDrawable, IsMap, IsMapOf, IsRefused, is_short, short_in};
 ghost use Rattle.av_map.specs.Views.{colours_of};
 ghost use Rattle.av_map.specs.Within.{AreWithin};
 

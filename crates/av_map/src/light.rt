@@ -1,5 +1,5 @@
 //! The block light of a chunk's document.
-ghost use Rattle.std.specs.Prelude.{◌≡◌, ◌+ℤ◌, pos, [], codes, option_map, IfOk};
+ghost use Rattle.std.specs.Prelude.{◌≡◌, [], option_map, IfOk};
 ghost use Rattle.std.specs.Option.{option_copied};
 ghost use Rattle.av_tags.specs.Shape.{compound_of, or_else};
 ghost use Rattle.av_tags.specs.View.{document, named_views, view, views};

@@ -1,5 +1,5 @@
 //! Why there is no map.
-ghost use Rattle.std.specs.Prelude.{◌≡◌, Some, codes};
+ghost use Rattle.std.specs.Prelude.{◌≡◌, Some};
 
 use av_types::Fault;
 use std::alloc::AllocError;

@@ -4,6 +4,4 @@
 #[cfg(test)]
 mod documents;
 #[cfg(test)]
-mod expecting;
-#[cfg(test)]
 mod tags;

@@ -11,7 +11,7 @@ use crate::running::run_over;
 use av_folders::progress::end_steps;
 use av_folders::{LockFiles, RepairTeller, hold_output};
 use av_outcomes::{close, goes_on, note_repair, report, report_folder};
-use av_queries::{Order, run_block, run_check, run_map, run_states};
+use av_queries::{MapRequest, run_block, run_check, run_map, run_states};
 use av_reports::manner::Manner;
 use av_reports::output::{REFUSED, report_fault};
 use av_reports::reasons::report_failure;
@@ -168,14 +168,14 @@ fn run_command<
             light,
             ..
         } => {
-            let order = Order {
+            let request = MapRequest {
                 input,
                 picture,
                 table,
                 colours,
                 light,
             };
-            run_map(rt, order, sink, manner, err)
+            run_map(rt, request, sink, manner, err)
         }
         Words::States { input, table, .. } => run_states(rt, input, table, manner, out, err),
     }

@@ -25,7 +25,7 @@ use std::rt::Files;
 
 /// What a picture is asked for.
 #[derive(Clone, Copy, Drop)]
-pub struct Order<'a> {
+pub struct MapRequest<'a> {
     /// The folder whose region files are read.
     pub input: &'a str,
     /// The file of the picture.
@@ -81,18 +81,18 @@ impl From<Refusal> for NoPicture {
 /// Reads what is asked for, and draws it.
 fn draw_map<R: LockFiles + Input + Eprint + AllocGlobal + Clone + Drop, E: Write>(
     rt: &R,
-    order: Order<'_>,
+    request: MapRequest<'_>,
     manner: Manner,
     err: &mut E,
 ) -> Result<Map, NoPicture>
-    ensures { IfOk result (IsMapBy (option_map (λ t. t.now) order.entry.table)
-        (option_map (λ t. t.now) order.entry.colours) order.entry.light) }
+    ensures { IfOk result (IsMapBy (option_map (λ t. t.now) request.entry.table)
+        (option_map (λ t. t.now) request.entry.colours) request.entry.light) }
 {
-    let height = read_height(rt, order.table)?;
-    let colours = read_colours(rt, order.colours)?;
-    let files = read_folder(rt, order.input, manner, err)?;
+    let height = read_height(rt, request.table)?;
+    let colours = read_colours(rt, request.colours)?;
+    let files = read_folder(rt, request.input, manner, err)?;
     note_step(err, manner.progress, "drawing");
-    Ok(draw(rt.alloc(), files, height, &colours, view_by(order.light))?)
+    Ok(draw(rt.alloc(), files, height, &colours, view_by(request.light))?)
 }
 
 /// The bytes of a picture's file.
@@ -186,17 +186,17 @@ pub fn run_map<
     R: LockFiles + Input + Eprint + AllocGlobal + Clone + Drop,
     S: OutputFolder,
     E: Write,
->(rt: &R, order: Order<'_>, sink: &mut S, manner: Manner, err: &mut E) -> u8
+>(rt: &R, request: MapRequest<'_>, sink: &mut S, manner: Manner, err: &mut E) -> u8
     requires fresh { IsFresh (S.account sink.old) }
-    ensures { HasMapped order.entry.picture.now (option_map (λ t. t.now) order.entry.table) (option_map (λ t. t.now) order.entry.colours) order.entry.light
+    ensures { HasMapped request.entry.picture.now (option_map (λ t. t.now) request.entry.table) (option_map (λ t. t.now) request.entry.colours) request.entry.light
         (S.account sink.old) (S.account sink.new) result }
 {
-    let map = match draw_map(rt, order, manner, err) {
+    let map = match draw_map(rt, request, manner, err) {
         Ok(map) => map,
         Err(none) => return report_no_picture(rt.alloc(), err, &none, manner),
     };
     end_steps(err, manner.progress);
-    match save_picture(rt.alloc(), order.picture, &map.picture, sink) {
+    match save_picture(rt.alloc(), request.picture, &map.picture, sink) {
         Ok(()) => {
             note_left_out(err, &map);
             0

@@ -8,5 +8,5 @@ pub mod listing;
 
 pub use block::run_block;
 pub use checking::run_check;
-pub use drawing::{Order, run_map};
+pub use drawing::{MapRequest, run_map};
 pub use listing::run_states;

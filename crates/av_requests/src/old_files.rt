@@ -1,10 +1,11 @@
 //! The files of a folder beside those that would take their places.
-ghost use Rattle.std.specs.Prelude.{◌≡◌, ◌⊎◌, IfErr, IfOk, List, Option, ℕ};
+ghost use Rattle.std.specs.Prelude.{IfErr, IfOk, List, Option, ℕ};
 ghost use Rattle.av_changes.specs.Changes.{AreChangesOf};
 ghost use Rattle.av_folders.specs.Folders.{IsFolderFault};
 ghost use Rattle.av_requests.specs.Olds.{AreUnreadOlds, IsUnreadOld};
 
 use av_changes::{Change, add_change};
+use av_folders::reading::read_regular;
 use av_region_files::{RegionFile, region_name};
 use av_reports::failure::Failure;
 use av_types::RegionPos;
@@ -20,17 +21,13 @@ fn path_of(alloc: Global, folder: &str, region: RegionPos) -> Result<String, All
     Ok(Path::new(folder).join(alloc, name.as_str())?.into_string())
 }
 
-/// The bytes of a file, where it is there. What is neither a file nor a folder is not opened, since that might never return.
+/// The bytes of a file, where it is there.
 fn read_present<R: Files + AllocGlobal>(rt: &R, path: &str) -> io::Result<Option<Vec<u8>>> {
-    let found = match fs::metadata(rt, path) {
-        Ok(found) => found,
-        Err(error) if error.kind() == ErrorKind::NotFound => return Ok(None),
-        Err(error) => return Err(error),
-    };
-    if found.is_file() || found.is_dir() {
-        return Ok(Some(fs::read(rt, path)?));
+    match read_regular(rt, path) {
+        Ok(bytes) => Ok(Some(bytes)),
+        Err(error) if error.kind() == ErrorKind::NotFound => Ok(None),
+        Err(error) => Err(error),
     }
-    Err(io::Error::new(ErrorKind::InvalidInput, "neither a file nor a folder"))
 }
 
 /// The bytes of a region's file of a folder, where it is there.

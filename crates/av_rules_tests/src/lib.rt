@@ -4,8 +4,6 @@
 #[cfg(test)]
 mod covered;
 #[cfg(test)]
-mod expecting;
-#[cfg(test)]
 mod rows;
 #[cfg(test)]
 mod soaked;

@@ -1,5 +1,5 @@
 //! Runs of ticks.
-ghost use Rattle.std.specs.Prelude.{◌≡◌, ◌⊎◌, ◌+◌, ◌≤◌, ◌<◌, true, false, All, OnOk, OnErr, IfOk, IfErr, if◌then◌else◌, length, nat_eq, nat_lt, ◌&&◌, ◌^◌};
+ghost use Rattle.std.specs.Prelude.{◌≡◌, ◌⊎◌, ◌+◌, ◌<◌, true, false, All, OnOk, OnErr, IfOk, IfErr, if◌then◌else◌, length, nat_eq, nat_lt, ◌&&◌, ◌^◌};
 ghost use Rattle.std.specs.List.Sorted.{IsNonDecreasingBy};
 ghost use Rattle.av_types.specs.declared.fault.Fault.TheVariants.{OutOfMemory, Broken};
 ghost use Rattle.av_rules.specs.Kinds.{kind_count};

@@ -1,5 +1,5 @@
 //! The edits of a run by their ticks.
-ghost use Rattle.std.specs.Prelude.{◌≡◌, ◌≤◌, ◌<◌, IfOk, length};
+ghost use Rattle.std.specs.Prelude.{◌≤◌, ◌<◌, IfOk, length};
 ghost use Rattle.std.specs.List.Sorted.{IsNonDecreasingBy, IsPermutation};
 ghost use Rattle.av_serial.specs.Schedule.{tick_of, AreUpTo, IsOfLaterTick, SameByTick};
 

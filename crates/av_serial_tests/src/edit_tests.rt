@@ -1,19 +1,14 @@
 //! Lines of edits by hand, on a chunk with stone at y 63 and air elsewhere.
+use crate::tests::{ORIGIN, at};
 use av_edits::{Edit, read};
 use av_state::{State, StateTable};
-use av_types::{ChunkPos, Fault, Height, Pos};
+use av_types::{Fault, Height, Pos};
 use av_world::World;
 use av_world_tests::flat::{STONE, stone_table};
 use av_world_tests::worlds::flat_world;
 use std::alloc::Global;
 use std::process::Abort;
 use std::test::Fail;
-
-const ORIGIN: ChunkPos = ChunkPos { x: 0, z: 0 };
-
-fn at(x: i32, y: i32, z: i32) -> Pos {
-    Pos { x, y, z }
-}
 
 /// Texts that are refused, for a run of 20 ticks, with the fault's line.
 const REFUSED: [(&str, &str); 14] = [

@@ -11,12 +11,9 @@ use av_rules::{Kinds, Rules};
 use av_serial::{apply, run_ticks, tick, turn_all};
 use av_types::{ChunkPos, Entry, Fault, Height, Pos};
 use av_world::{Cells, World};
-use av_world_tests::flat::stone_table;
+use av_world_tests::flat::{SOURCE, stone_table};
 use av_world_tests::worlds::{flat_world, put, wait_all};
 use std::alloc::Global;
-
-/// The number of a source.
-const SOURCE: u16 = 1;
 
 /// Stone and glowstone.
 const ROWS: &str = r#"

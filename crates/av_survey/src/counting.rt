@@ -1,5 +1,5 @@
 //! How many chunks files have, by their headers.
-ghost use Rattle.std.specs.Prelude.{◌≡◌, ◌≤◌, ◌↔◌, ◌^◌, ◌-◌, IsTrue, min};
+ghost use Rattle.std.specs.Prelude.{◌≤◌, ◌↔◌, ◌-◌, IsTrue};
 ghost use Rattle.av_region.specs.Region.{IsAbsent};
 ghost use Rattle.av_survey.specs.Counting.{HasChunks, AreChunksBelow, IsChunkTotal};
 

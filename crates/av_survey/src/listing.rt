@@ -1,5 +1,5 @@
 //! A list of files, judged before any of them is looked at.
-ghost use Rattle.std.specs.Prelude.{◌≡◌, ◌≢◌, IfOk, IfErr, IsPermutation, IsTrue, ◌↔◌, ℤ};
+ghost use Rattle.std.specs.Prelude.{◌≡◌, ◌≢◌, IfOk, IfErr, IsPermutation, IsTrue, ◌↔◌};
 ghost use Rattle.std.specs.List.{All, list_any};
 ghost use Rattle.av_types.specs.declared.fault.Fault.TheVariants.{OutOfMemory};
 ghost use Rattle.av_types.specs.Places.{IsInLimits};

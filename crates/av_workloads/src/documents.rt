@@ -4,8 +4,6 @@ use std::alloc::AllocError;
 /// The numbers of tags.
 pub(crate) const BYTE: u8 = 1;
 
-pub(crate) const SHORT: u8 = 2;
-
 pub(crate) const INT: u8 = 3;
 
 pub(crate) const LONG: u8 = 4;

@@ -119,8 +119,8 @@ pub(crate) struct Drawn {
     pub(crate) loaded: Vec<bool>,
 }
 
-/// The chunk at an index of a region.
-fn place_of(pos: RegionPos, x: u32, z: u32) -> ChunkPos {
+/// The chunk of a region at its x and z there.
+fn chunk_at(pos: RegionPos, x: u32, z: u32) -> ChunkPos {
     ChunkPos {
         x: pos.x.wrapping_mul(32).wrapping_add((x % 32) as i32),
         z: pos.z.wrapping_mul(32).wrapping_add((z % 32) as i32),
@@ -152,7 +152,7 @@ pub(crate) fn region(
                 &mut document,
                 pool,
                 &mut dice,
-                place_of(pos, x, z),
+                chunk_at(pos, x, z),
                 scene,
                 flaw,
             )?;

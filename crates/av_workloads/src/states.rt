@@ -104,7 +104,7 @@ pub(crate) const ODDITIES_COUNT: u32 = 22;
 /// The text of a state's number.
 fn text_of(number: u8) -> &'static str {
     let number = usize::from(number);
-    if number < 56 {
+    if number < STATES.len() {
         STATES[number]
     } else {
         STATES[0]

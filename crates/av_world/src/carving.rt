@@ -1,5 +1,5 @@
 //! Sections taken out of a world, and put back.
-ghost use Rattle.std.specs.Prelude.{◌≡◌, IsTrue, true, false, length, OnOk, OnErr, IfOk, IfErr, All, [], if◌then◌else◌};
+ghost use Rattle.std.specs.Prelude.{◌≡◌, IsTrue, false, length, OnOk, OnErr, IfOk, IfErr, All, [], if◌then◌else◌};
 ghost use Rattle.std.specs.List.{AllPairs};
 ghost use Rattle.av_types.specs.declared.fault.Fault.TheVariants.{OutOfMemory, Broken};
 ghost use Rattle.av_types.specs.declared.place.SectionPos.{SectionPos};

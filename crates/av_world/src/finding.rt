@@ -7,7 +7,7 @@ ghost use Rattle.av_world.specs.Chunks.{IsChunkOf};
 ghost use Rattle.av_world.specs.Index.{slot};
 ghost use Rattle.av_world.specs.Inserted.{IsFull};
 ghost use Rattle.av_world.specs.Lands.{IsUncarved};
-ghost use Rattle.av_world.specs.Views.{height_of, positions_of, chunks_of, sections, IsWorldKept};
+ghost use Rattle.av_world.specs.Views.{positions_of, chunks_of, sections, IsWorldKept};
 
 use crate::chunks::layer;
 use crate::slots::slot;

@@ -1,6 +1,5 @@
 //! Room for turns and sets to come.
 ghost use Rattle.std.specs.Prelude.{◌≡◌, ◌≤◌, ◌<◌, length, true, IsTrue, IsOk, OnOk, All, [], ◌∷◌};
-ghost use Rattle.av_types.specs.Places.{section_of, chunk_of};
 ghost use Rattle.av_cells.specs.Grid.{is_here};
 ghost use Rattle.av_cells.specs.Positions.{IsNearOrigin, around};
 ghost use Rattle.av_world.specs.Turned.{corners, turned, HasRoomAt, HasChunkRoom, CanSetAll};

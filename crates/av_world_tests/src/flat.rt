@@ -1,5 +1,5 @@
 //! Flat chunks: stone at y 63, and air elsewhere.
-ghost use Rattle.std.specs.Prelude.{◌≡◌, IfOk, OnOk, IfErr};
+ghost use Rattle.std.specs.Prelude.{◌≡◌, IfOk, IfErr};
 ghost use Rattle.av_types.specs.declared.fault.Fault.TheVariants.{OutOfMemory};
 ghost use Rattle.av_section.specs.Section.{CanSet};
 ghost use Rattle.av_world_tests.specs.Flat.{IsCalm, IsFlat};
@@ -13,6 +13,9 @@ use std::alloc::Global;
 
 /// The number of stone: it is the first state after air and water.
 pub const STONE: u16 = 10;
+
+/// The number of a source.
+pub const SOURCE: u16 = 1;
 
 /// The section with the blocks of y 48 to 63.
 const UNDERGROUND: i32 = 3;

@@ -4,10 +4,10 @@ ghost use Rattle.av_cells.specs.Rule.{HasKinds};
 ghost use Rattle.av_world.specs.ParcelViews.{blocks as parcel_blocks};
 ghost use Rattle.av_world_tests.specs.Flat.{IsPlain, StaysPart};
 
-use crate::flat::STONE;
+use crate::flat::{SOURCE, STONE};
 use crate::reads::water_in;
 use crate::tests::{
-    EAST, FIRST, SOURCE, SOUTH, at, entry, expect_list, expect_numbers, kinds, numbers, one_waiting,
+    EAST, FIRST, SOUTH, at, entry, expect_list, expect_numbers, kinds, numbers, one_waiting,
 };
 use crate::worlds::{carve_at, flat_world, put, put_aside, set_in_parcel, wait};
 use av_cells::Cells;

@@ -1,5 +1,5 @@
 //! What stands in a world: numbers of blocks, water, and entries.
-ghost use Rattle.std.specs.Prelude.{◌<◌, ◌≤ℤ◌, pos, negsuc};
+ghost use Rattle.std.specs.Prelude.{◌<◌, pos};
 
 use av_cells::Cells;
 use av_types::{ChunkPos, Entry, Fault, Pos};

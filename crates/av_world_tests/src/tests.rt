@@ -2,7 +2,7 @@
 ghost use Rattle.std.specs.Prelude.{IfOk};
 ghost use Rattle.av_world_tests.specs.Flat.{IsPlain};
 
-use crate::flat::{STONE, stone_table};
+use crate::flat::{SOURCE, STONE, stone_table};
 use crate::reads::list_of;
 use crate::worlds::{flat_world, made_of, put, wait, wait_all};
 use av_cells::Cells;
@@ -12,8 +12,6 @@ use av_world::World;
 use std::alloc::Global;
 use std::process::Abort;
 use std::test::Fail;
-
-pub(crate) const SOURCE: u16 = 1;
 
 pub(crate) const FIRST: ChunkPos = ChunkPos { x: 0, z: 0 };
 

@@ -50,11 +50,11 @@ fn files_in_order(files: Vec<RegionFile>) -> Result<Vec<RegionFile>, AllocError>
 }
 
 /// The chunks by (z, x).
-fn placed_in_order(found: Vec<LoadedChunk>) -> Result<Vec<LoadedChunk>, AllocError>
+fn chunks_in_order(found: Vec<LoadedChunk>) -> Result<Vec<LoadedChunk>, AllocError>
     ensures { IfOk result (λ xs. xs.items ≡ ordered placed_order found.items) }
 {
     let mut found = found;
-    found.sort_by_key(|x| (x.at.z, x.at.x))?;
+    found.sort_by_key(|loaded| (loaded.at.z, loaded.at.x))?;
     Ok(found)
 }
 
@@ -124,7 +124,7 @@ fn world_and_rest(
 {
     let mut found = Vec::new(alloc);
     let regions = split_regions(alloc, regions, &mut found)?;
-    let found = placed_in_order(found)?;
+    let found = chunks_in_order(found)?;
     let world = world_of(alloc, height, found)?;
     Ok((world, Rest { regions }))
 }
@@ -157,8 +157,8 @@ fn load_at(
 ///
 /// No section of the world is out, it is not broken, and the rest is that of its loaded chunks.
 ///
-/// Payloads, at most 64 at a time and none of more than 256 KiB, are decoded by as many threads as there are processors, and
-/// read by them where the table had all their states before these 64. All others are read one after the other.
+/// Payloads, a batch of at most 1 MiB of them at a time, are decoded by as many threads as there are processors, and read by
+/// them where the table had all their states before that batch. All others are read one after the other.
 ///
 /// # Errors
 /// The first of these, in this order: `RegionRange` where a region is out of the limits; `RepeatedRegion` where one comes

@@ -4,7 +4,7 @@ use Rattle.av_types.proofs.OrderLemmas.{sorted_is_ordered}
 use Rattle.av_image.specs.declared.reading.splits.LoadedChunk.{LoadedChunk}
 use Rattle.av_image.specs.Loading.{placed_order}
 use Rattle.av_image.proofs.Sorting.{placed_laws}
-use Rattle.av_image.proofs.reading.loading.placed_in_order.Goals as goal
+use Rattle.av_image.proofs.reading.loading.chunks_in_order.Goals as goal
 
 pub returns : goal.returns
 returns c =
