@@ -31,7 +31,7 @@ pub(crate) fn entry(pos: Pos, due: i64) -> Entry {
 pub(crate) type WetBlock = (i32, i32, i32, u16);
 
 /// A block by its x, y and z.
-type Place = (i32, i32, i32);
+pub(crate) type Place = (i32, i32, i32);
 
 /// Exactly these blocks are water, each of a level, by y, z and x.
 pub(crate) fn expect_water(
@@ -63,7 +63,7 @@ pub(crate) fn expect_list(
 /// What is there after some ticks: how many entries were taken, the blocks of water, and those of the entries of the
 /// chunk at the origin, which are all due in one tick.
 #[derive(Clone, Copy, Drop)]
-struct Want<'a> {
+pub(crate) struct Want<'a> {
     count: u128,
     water: &'a [WetBlock],
     due: i64,
