@@ -1,6 +1,7 @@
 //! The sections of a chunk, taken apart in the order of the file.
 ghost use Rattle.std.specs.Prelude.{◌≡◌, IfOk, IfErr, OnOk, IsSome, ◌<◌, ◌≢◌, length, false, option_map};
 ghost use Rattle.av_types.specs.declared.fault.Fault.TheVariants.{OutOfMemory};
+ghost use Rattle.av_types.specs.Places.{is_section_of};
 ghost use Rattle.av_tags.specs.Place.{tag_of, emptied, blank};
 ghost use Rattle.av_tags.specs.Shape.{compound_of};
 ghost use Rattle.av_tags.specs.View.{view, views, named_view, named_views};
