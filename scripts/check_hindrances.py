@@ -168,7 +168,7 @@ def changed_by_others(work, _):
     was = shots(world)
     found = call(world)
     yield "the game wrote what was to be replaced", (1, 1), (found[0], len(found[2]))
-    begins = "anvilwater-world: r.0.1.mca was changed since it began to be replaced; nothing is done. Remove "
+    begins = "anvilwater-world: r.0.1.mca was changed since it began to be replaced; nothing is done. To go on with the files as they are, move "
     yield "and is told", begins, found[2][0][:len(begins)]
     yield "nothing is another", was, shots(world)
 
@@ -270,7 +270,7 @@ def elsewhere(world, work, kept):
         yield "the old files", kept, contents(target)
         lines = open(path).read().splitlines()
         made, gone = (next(at for at, line in enumerate(lines) if line.startswith(kind) and line.endswith(end))
-                      for kind, end in (("mkdir ", os.path.basename(target)), ("rmdir ", ".work/old")))
+                      for kind, end in (("mkdir ", os.path.basename(target)), ("rename ", ".work/old.copied")))
         yield "its folder is synced before they go", True, "fsync dev/shm" in lines[made:gone]
     finally:
         shutil.rmtree(target, ignore_errors=True)

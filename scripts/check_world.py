@@ -21,6 +21,7 @@ import zlib
 sys.dont_write_bytecode = True
 import check_ends
 import check_hindrances
+import check_others
 import flat_runs
 import kept_worlds
 from check_packed import difference
@@ -251,8 +252,12 @@ def main():
     if len(sys.argv) != 2:
         sys.exit(__doc__)
     program, asked, wrong = os.path.abspath(sys.argv[1]), 0, 0
+    of_others = (check_others.journals_of_others, check_others.by_links, check_others.taken_away, check_others.attributes, check_others.one_backup,
+                 check_others.killed, check_others.fixed, check_others.limits, check_others.no_locks, check_others.hung_up,
+                 check_others.heights_of_tables, check_others.tables)
     for examples in (whole, words, folders, hostile, check_hindrances.locks, check_hindrances.signals,
-                     check_hindrances.changed_by_others, check_hindrances.devices, check_ends.syncs, check_ends.going_back, check_ends.ends):
+                     check_hindrances.changed_by_others, check_hindrances.devices, *of_others, check_ends.syncs, check_ends.going_back,
+                     check_ends.ends):
         with tempfile.TemporaryDirectory() as work:
             for what, want, got in examples(os.path.realpath(work), program):
                 asked += 1

@@ -152,6 +152,17 @@ def make_alike(descriptor, model):
     return given
 
 
+def give_attributes(descriptor, model):
+    """Gives an open file the extended attributes of the file at a path, which are also who may use it (ACL), as far as they can be given."""
+    try:
+        for name in os.listxattr(model):
+            with contextlib.suppress(PermissionError):
+                os.setxattr(descriptor, name, os.getxattr(model, name))
+    except OSError as why:
+        if why.errno not in (errno.ENOTSUP, errno.ENODATA, errno.EINVAL):
+            raise
+
+
 class Fresh:
     """Files that are written to a folder under names of their own, and take their places together. One that takes another's place has
     its owner, where that may be given, and its mode."""

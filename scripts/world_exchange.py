@@ -14,7 +14,7 @@ import shutil
 import stat
 
 from chunk_data import SECTOR
-from region_files import EXTERNAL_NAME, HEADER, REGION_NAME, externals, make_alike
+from region_files import EXTERNAL_NAME, HEADER, REGION_NAME, externals, give_attributes, make_alike
 from world_places import Problem, Stuck, is_ours
 
 FORM = 1
@@ -156,9 +156,10 @@ class Exchange:
 
     def like_old(self, name, files):
         """Gives a new file the owner and mode of the old one, and one that had none those of a region's."""
-        model = files.get(name) or next(iter(files.values()))
+        model = name if name in files else next(iter(files))
         with open(os.path.join(self.packed, name), "rb") as file:
-            given = make_alike(file.fileno(), model)
+            given = make_alike(file.fileno(), files[model])
+            give_attributes(file.fileno(), os.path.join(self.region, model))
             os.fsync(file.fileno())
         return given
 
@@ -223,13 +224,18 @@ class Exchange:
         """Refuses to go on where a file is another than it was when the journal was written, or where its new one is lost."""
         is_old = seen(os.path.join(self.region, name)) == before
         if waits != is_old:
-            raise Stuck("%s %s; nothing is done. Remove %s to go on with the files as they are; in it, old has the old ones" % (
-                name, "was changed since it began to be replaced" if waits else "is to be replaced, but its new file is lost", self.work))
+            raise Stuck("%s %s; nothing is done. To go on with the files as they are, move %s to another place, since it alone has the old files "
+                        "of those that were replaced, and then remove %s" % (
+                            name, "was changed since it began to be replaced" if waits else "is to be replaced, but its new file is lost",
+                            self.old, self.work))
 
-    def deliver(self, backup):
-        """Moves the old files to the folder in which they are to be kept."""
+    def deliver(self, backup, chosen):
+        """Moves the old files to the folder in which they are to be kept: one beside the region files, or that which this call names
+        too (`chosen`). Another is not taken from a journal, which may have come with a world that somebody else made."""
         target = os.path.join(self.world.parent, backup)
         if os.path.lexists(self.old):
+            if backup != chosen and not re.fullmatch(re.escape(self.world.name) + r"[.]before-[0-9-]+(-more)*", backup):
+                target = os.path.join(self.world.parent, "%s.before-%s" % (self.world.name, self.work[-len("0123456789abcdef.work"):-5]))
             try:
                 self.move_old(target)
             except OSError as why:
@@ -249,7 +255,13 @@ class Exchange:
 
     def copy_old(self, target):
         """Copies the old files to another file system."""
-        os.makedirs(target, exist_ok=True)
+        begun = os.path.join(self.work, "copying")
+        if not os.path.lexists(begun):
+            if os.path.lexists(target) and os.listdir(target):
+                raise FileExistsError(errno.EEXIST, os.strerror(errno.EEXIST))
+            os.makedirs(target, exist_ok=True)
+            open(begun, "x").close()
+            sync(self.work)
         for name in sorted(os.listdir(self.old)):
             copied(os.path.join(self.old, name), os.path.join(target, name))
         descriptor = os.open(target, os.O_RDONLY)
@@ -257,7 +269,8 @@ class Exchange:
         os.fsync(descriptor)
         os.close(descriptor)
         sync(os.path.dirname(target))
-        shutil.rmtree(self.old)
+        # At once, so that a part of them is never taken for all.
+        os.rename(self.old, self.old + ".copied")
 
     def clear(self):
         """Takes all away but the journal."""

@@ -2,7 +2,9 @@
 import fcntl
 import os
 import pathlib
+import re
 import stat
+import sys
 import typing
 
 from chunk_data import SECTOR, Refused, Unread
@@ -11,6 +13,10 @@ from region_files import EXTERNAL_NAME, HEADER, MOST_SECTORS, REGION_NAME, Regio
 LEVEL, SESSION = "level.dat", "session.lock"
 SNOWMAN = "\u2603".encode()
 SAMPLES = 64
+# What the program takes.
+MOST_REGIONS, MOST_PLACE = 1024, 60_000
+# The Ints of a chunk that are the version of the game that wrote it, and the lowest section of its world; and the Byte that is a section's.
+VERSION, LOWEST, SECTION = b"\x03\x00\x0bDataVersion", b"\x03\x00\x04yPos", re.compile(rb"\x01\x00\x01Y(.)", re.DOTALL)
 # The journal of a run of the program in the folder itself.
 JOURNAL = ".anvilwater-journal"
 
@@ -61,17 +67,33 @@ def find_world(named):
     region = os.path.realpath(inner if has_inner else named)
     if os.path.ismount(region):
         raise Problem("%s is where a file system is mounted, so that nothing of it is beside the folder" % region)
-    return World(region, tops((os.path.abspath(named), region)))
+    return World(region, tops([*ways(os.path.abspath(inner if has_inner else named)), region]))
+
+
+def upwards(path):
+    return [path, *map(str, pathlib.PurePath(path).parents)]
+
+
+def ways(path):
+    """A path, and each that it becomes as its links are followed."""
+    found, waiting = [], [path]
+    while waiting:
+        path = waiting.pop()
+        if path not in found:
+            found.append(path)
+            links = [folder for folder in upwards(path) if os.path.islink(folder)]
+            waiting += [os.path.normpath(os.path.join(os.path.realpath(os.path.dirname(link)), os.readlink(link), os.path.relpath(path, link)))
+                        for link in links]
+    return found
 
 
 def tops(paths):
-    """The folders of worlds that these paths lie in: above each, the nearest that has the files of a world."""
+    """The folders of worlds that these paths lie in: above each, the nearest that has the files of a world, and all that have a lock."""
     found = set()
     for path in paths:
-        for folder in [path, *map(str, pathlib.PurePath(path).parents)]:
-            if any(os.path.lexists(os.path.join(folder, name)) for name in (LEVEL, SESSION)):
-                found.add(os.path.realpath(folder))
-                break
+        has = [[os.path.lexists(os.path.join(folder, name)) for name in (LEVEL, SESSION)] for folder in upwards(path)]
+        nearest = next((number for number, files in enumerate(has) if any(files)), None)
+        found |= {os.path.realpath(folder) for number, folder in enumerate(upwards(path)) if number == nearest or has[number][1]}
     return sorted(found)
 
 
@@ -103,9 +125,10 @@ def hold_session(top, stack):
         if is_at(descriptor, path):
             break
     if made:
-        stack.callback(os.unlink, path)
+        stack.callback(remove_own, descriptor, path)
         os.write(descriptor, SNOWMAN)
         make_alike(descriptor, os.stat(os.path.join(top, LEVEL)))
+    return descriptor, path
 
 
 def hold_region(world, stack):
@@ -119,11 +142,17 @@ def hold_region(world, stack):
             number = os.pread(descriptor, 20, 0).decode("ascii", "replace").strip()
             os.close(descriptor)
             raise Problem("process %s works on %s already; nothing is done" % (number, world.region)) from why
+        except OSError as why:
+            # One that another call holds has its number.
+            if os.fstat(descriptor).st_size == 0:
+                os.unlink(path)
+            os.close(descriptor)
+            raise Problem("%s: %s; nothing is done" % (path, why.strerror)) from why
         if is_at(descriptor, path):
             break
         os.close(descriptor)
     stack.callback(os.close, descriptor)
-    stack.callback(os.unlink, path)
+    stack.callback(remove_own, descriptor, path)
     os.ftruncate(descriptor, 0)
     os.pwrite(descriptor, b"%d\n" % os.getpid(), 0)
     hold_folder(world, stack)
@@ -144,6 +173,19 @@ def hold_folder(world, stack):
         raise Problem("in %s a run of the program was cut off, which `anvilwater check` of it finishes; nothing is done" % world.region)
 
 
+def remove_own(descriptor, path):
+    """Takes a file of a lock away, but for one that came in its place."""
+    if is_at(descriptor, path):
+        os.unlink(path)
+
+
+def check_held(locks):
+    """Refuses to go on where the game may have a new session.lock, since the one that is held was taken away."""
+    for descriptor, path in locks:
+        if not is_at(descriptor, path):
+            raise Problem("%s was taken away while the world was worked on, and the game may have it open; nothing is done" % path)
+
+
 def is_at(descriptor, path):
     """Whether an open file still has its name, which who held it before took away at its end."""
     try:
@@ -157,33 +199,58 @@ def is_at(descriptor, path):
 
 class Survey(typing.NamedTuple):
     """What the files of a folder are: the status of each by its name, the bytes that they have, and about how many their chunks
-    have when they are plain."""
+    have when they are plain, and what some chunks say of their world."""
     files: dict
     stored: int
     plain: int
+    marks: set
+
+
+class Mark(typing.NamedTuple):
+    """What a chunk says: the version of the game that wrote it, the lowest section of its world, and its own highest."""
+    version: typing.Optional[int]
+    lowest: typing.Optional[int]
+    highest: typing.Optional[int]
+
+
+def mark_of(payload):
+    sections = [int.from_bytes(number, "big", signed=True) for number in SECTION.findall(payload)]
+    return Mark(int_behind(payload, VERSION), int_behind(payload, LOWEST), max(sections, default=None))
+
+
+def int_behind(payload, name):
+    at = payload.find(name)
+    return None if at < 0 else int.from_bytes(payload[at + len(name):at + len(name) + 4], "big", signed=True)
 
 
 def surveyed(folder):
     """Looks at each region file and each file c.X.Z.mcc of these regions. None may be a link, or have a chunk that can't be brought
     back."""
     found, beside = sorted(places(folder)), externals(folder)
+    for place in found:
+        if max(map(abs, place)) > MOST_PLACE:
+            raise Problem("%s is farther out than the program goes; nothing is done" % place.name)
+    if len(found) > MOST_REGIONS:
+        raise Problem("%s has %d region files, and the program takes %d; nothing is done" % (folder, len(found), MOST_REGIONS))
     names = [name for place in found for name in (place.name, *sorted(beside[place]))]
     files = {name: plain_file(folder, name) for name in names}
     check_folder(folder, files)
-    chunks, sizes = 0, []
+    chunks, sizes, marks = 0, [], set()
     for place in found:
         try:
             with opened(os.path.join(folder, place.name)) as file:
                 region = Region(folder, place, file)
                 indices = [index for index in range(1024) if region.locations[index]]
                 check_chunks(region, indices)
-                sizes += sampled(region, indices[::1 + len(indices) * len(found) // SAMPLES])
+                payloads = sampled(region, indices[::1 + len(indices) * len(found) // SAMPLES])
+                sizes += map(len, payloads)
+                marks.update(map(mark_of, payloads))
         except (OSError, Refused) as why:
             raise Problem("%s: %s; nothing is done" % (place.name, getattr(why, "strerror", None) or why)) from why
         chunks += len(indices)
     mean = sum(sizes) // len(sizes) if sizes else 0
     plain = len(found) * HEADER + chunks * (mean // SECTOR + 1) * SECTOR
-    return Survey(files, sum(status.st_size for status in files.values()), plain)
+    return Survey(files, sum(status.st_size for status in files.values()), plain, marks)
 
 
 def plain_file(folder, name):
@@ -201,6 +268,22 @@ def check_folder(folder, files):
     is_sticky = status.st_mode & stat.S_ISVTX and user not in (0, status.st_uid)
     if not os.access(folder, os.W_OK | os.X_OK) or is_sticky and any(file.st_uid != user for file in files.values()):
         raise Problem("%s: its files can't be replaced by this user; nothing is done" % folder)
+    for name in files:
+        if is_fixed(os.path.join(folder, name)):
+            raise Problem("%s can't be replaced, since it has the attribute i or a (chattr); nothing is done" % name)
+
+
+# FS_IOC_GETFLAGS, and FS_IMMUTABLE_FL and FS_APPEND_FL.
+ATTRIBUTES, FIXED = 0x80086601, 0x30
+
+
+def is_fixed(path):
+    """Whether a file has an attribute by which nobody can replace it."""
+    try:
+        with open(path, "rb", buffering=0) as file:
+            return int.from_bytes(fcntl.ioctl(file, ATTRIBUTES, bytes(8))[:4], sys.byteorder) & FIXED != 0
+    except OSError:
+        return False
 
 
 def check_chunks(region, indices):
@@ -212,14 +295,14 @@ def check_chunks(region, indices):
 
 
 def sampled(region, indices):
-    """How many plain bytes some chunks have."""
-    sizes = []
+    """The plain bytes of some chunks."""
+    payloads = []
     for index in indices:
         try:
-            sizes.append(len(region.plain(index, *region.record(index))))
+            payloads.append(region.plain(index, *region.record(index)))
         except Unread:
             pass
-    return sizes
+    return payloads
 
 
 def is_ours(name):

@@ -17,6 +17,7 @@ words are needed; another: that of the program where it refuses, 128 and the sig
 """
 import argparse
 import contextlib
+import ctypes
 import os
 import shutil
 import signal
@@ -25,10 +26,11 @@ import sys
 import time
 
 sys.dont_write_bytecode = True
+import world_tables
 import worlds
 from region_files import places
 from world_exchange import Exchange, check_near, left_behind, working_folder
-from world_places import Problem, Stuck, find_world, hold_region, hold_session, surveyed
+from world_places import Problem, Stuck, check_held, find_world, hold_region, hold_session, surveyed
 
 TOP = os.path.dirname(os.path.dirname(os.path.abspath(__file__)))
 STOPS = signal.SIGINT, signal.SIGTERM, signal.SIGHUP
@@ -59,8 +61,9 @@ def words_read(given):
     parser.add_argument("world", metavar="WORLD", help="the folder of a world, of a dimension, or of region files")
     parser.add_argument("--edits", metavar="FILE", help="blocks to be set, each in a tick of the run (docs/FORMATS.md)")
     parser.add_argument("--ticks", metavar="N", type=number(0, 1_000_000), help="ticks to be run; 0 without --edits")
-    parser.add_argument("--table", metavar="FILE", default=os.path.join(TOP, "tables", "blocks.toml"),
-                        help="the block table; tables/blocks.toml without it")
+    parser.add_argument("--table", metavar="FILE",
+                        help="the block table; without it that of tables/ for the version of the game that wrote the world, and a world is "
+                             "refused that has a block which it lacks")
     parser.add_argument("--workers", metavar="N", type=number(1, 8), default=min(8, worlds.processors()),
                         help="threads that turn ticks, 1 to 8; without it as many as there are processors")
     parser.add_argument("--backup", metavar="FOLDER", help="a new folder for the old files")
@@ -119,7 +122,8 @@ class Progress:
     def show(self, text, stays=False):
         """On a terminal what stays not is written over."""
         if self.shown and self.terminal and not stays:
-            os.write(2, ("\r\033[K" + text).encode())
+            with contextlib.suppress(OSError):
+                os.write(2, ("\r\033[K" + text).encode())
         elif self.shown:
             note(text)
 
@@ -161,22 +165,33 @@ def unstopped_behind():
 # ---------------------------------------------------------------- the program
 
 
+LIBRARY, DEATH_SIGNAL = ctypes.CDLL(None), 1
+
+
+def end_with_caller():
+    """Has the system end the program where this command is killed, which then can't."""
+    LIBRARY.prctl(DEATH_SIGNAL, signal.SIGTERM)
+
+
 class Program:
     """The program, with the words of the call."""
 
-    def __init__(self, words, work):
+    def __init__(self, words, work, table):
         self.path, self.workers = os.path.abspath(words.program), str(words.workers)
         self.table, self.edits = os.path.join(work, "table"), os.path.join(work, "edits")
-        for source, target in ((words.table, self.table), (words.edits or os.devnull, self.edits)):
-            with open(source, "rb") as given, open(target, "xb") as file:
-                shutil.copyfileobj(given, file)
+        self.strict = ["--strict"] if table.is_strict else []
+        with open(self.table, "xb") as file:
+            file.write(table.text)
+        with open(words.edits or os.devnull, "rb") as given, open(self.edits, "xb") as file:
+            shutil.copyfileobj(given, file)
 
     def run(self, source, target, edits, ticks):
         """What it prints. Its other lines go where those of this command go."""
         # This command holds session.lock itself.
         words = [self.path, "run", "--in", source, "--out", target, "--table", self.table, "--edits", edits, "--ticks", str(ticks),
-                 "--workers", self.workers, "--in-use"]
-        with subprocess.Popen(words, stdin=subprocess.DEVNULL, stdout=subprocess.PIPE, start_new_session=True) as process:
+                 "--workers", self.workers, "--in-use", *self.strict]
+        with subprocess.Popen(words, stdin=subprocess.DEVNULL, stdout=subprocess.PIPE, start_new_session=True,
+                              preexec_fn=end_with_caller) as process:
             try:
                 printed = process.communicate()[0]
             except BaseException:
@@ -203,8 +218,7 @@ class Call:
         """Does what the words say, under the locks, and answers the status."""
         self.world = find_world(self.words.world)
         hold_region(self.world, stack)
-        for top in self.world.tops:
-            hold_session(top, stack)
+        self.locks = [hold_session(top, stack) for top in self.world.tops]
         say("folder %s" % self.world.region)
         if not self.finish_left():
             self.work()
@@ -231,7 +245,7 @@ class Call:
         with working_folder(self.world) as work, unstopped_behind():
             check_near(self.world, work, next(iter(survey.files)))
             plain, out, packed = (os.path.join(work, name) for name in ("plain", "out", "packed"))
-            program = self.program(work)
+            program = self.program(work, survey)
             self.convert("plain", region, plain)
             printed = self.run_program(program, plain, out)
             shutil.rmtree(plain)
@@ -242,6 +256,7 @@ class Call:
                 say("%s\nnothing changed" % printed)
                 return
             stops_ignored()
+            check_held(self.locks)
             exchange.write_journal(content)
             self.exchange(exchange, [printed])
             if exchange.foreign:
@@ -295,13 +310,16 @@ class Call:
         self.progress.end()
         return stored
 
-    def program(self, work):
+    def program(self, work, survey):
         """The program with its table and edits, which are copied, since a pipe can be read once. It is run over a file without chunks, so
         that it is built, and tells of a table that it refuses, before the work."""
+        table = world_tables.named(self.words.table, survey.marks) if self.words.table else world_tables.of_world(survey.marks)
+        if table.name:
+            say("table %s" % table.name)
         nothing = os.path.join(work, "nothing")
         os.mkdir(nothing)
         open(os.path.join(nothing, "r.0.0.mca"), "xb").close()
-        program = Program(self.words, work)
+        program = Program(self.words, work, table)
         program.run(nothing, nothing, os.devnull, 0)
         return program
 
@@ -316,7 +334,7 @@ class Call:
         """Lets the new files take their places. What is told is told before the journal goes: so a call that told nothing is finished by
         the next one, and no call does its work twice."""
         content = exchange.place()
-        target = exchange.deliver(content["backup"])
+        target = exchange.deliver(content["backup"], self.words.backup and os.path.abspath(self.words.backup))
         exchange.clear()
         replaced = sum(before is not None for _, before in content["new"])
         lines.append("replaced %d added %d removed %d" % (replaced, len(content["new"]) - replaced, len(content["gone"])))

@@ -1,0 +1,58 @@
+"""The block table of a call: the one that it names, or that of the game's version and dimension, by what some chunks of the world say."""
+import os
+import re
+import typing
+
+from world_places import Problem
+
+TABLES = os.path.join(os.path.dirname(os.path.dirname(os.path.abspath(__file__))), "tables")
+SHORT = "blocks.toml"
+# The first data version of those that a table is of (minecraft.wiki, Data version).
+VERSIONS = (3953, "java-1.21.toml"), (3698, "java-1.20.3.toml"), (3463, "java-1.20.toml"), (3105, "java-1.19.toml"), (2860, "java-1.18.toml")
+# How many sections the game's dimensions have from their lowest on: the Overworld, and the Nether and the End.
+SECTIONS = {-4: 24, 0: 16}
+HEIGHT = b"min_section = %d\nsections = %d\n"
+
+
+class Table(typing.NamedTuple):
+    """The name of a table, or None where the call names it or nothing tells the world's version, and its text. One that the call does not
+    name has to have all blocks of the world, since others would be dark and opaque."""
+    name: typing.Optional[str]
+    text: bytes
+    is_strict: bool
+
+
+def named(path, marks):
+    """The table that a call names, which has to have the world's lowest section."""
+    with open(path, "rb") as file:
+        text = file.read()
+    check_lowest(text, marks)
+    return Table(None, text, False)
+
+
+def of_world(marks):
+    """The table of the newest version that chunks of a world say, with the height of their dimension; or the short one, where they say none."""
+    versions = {mark.version for mark in marks} - {None}
+    if not versions:
+        table = named(os.path.join(TABLES, SHORT), marks)
+        return table._replace(is_strict=True)
+    name = next((name for first, name in VERSIONS if first <= max(versions)), VERSIONS[-1][1])
+    with open(os.path.join(TABLES, name), "rb") as file:
+        text = file.read()
+    lowest = min({mark.lowest for mark in marks} - {None}, default=-4)
+    highest = max((mark.highest for mark in marks if mark.highest is not None), default=lowest)
+    # Behind the last section a chunk can have one that has light alone.
+    if lowest in SECTIONS and highest <= lowest + SECTIONS[lowest]:
+        text = text.replace(HEIGHT % (-4, SECTIONS[-4]), HEIGHT % (lowest, SECTIONS[lowest]))
+    check_lowest(text, marks)
+    return Table(name, text, True)
+
+
+def check_lowest(text, marks):
+    """Refuses a table with another height than the world's, whose chunks would get sections that the game does not have there."""
+    found = re.search(rb"^[ \t]*min_section[ \t]*=[ \t]*([-+]?[0-9]+)", text, re.MULTILINE)
+    wanted = int(found[1]) if found else -4
+    lowest = {mark.lowest for mark in marks} - {None}
+    if lowest and lowest != {wanted}:
+        raise Problem("the world's lowest section is %d, and the table's %d: name a table of its height by --table, which docs/FORMATS.md says "
+                      "how to make; nothing is done" % (min(lowest - {wanted}), wanted))
