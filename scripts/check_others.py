@@ -219,7 +219,13 @@ def tables(work, _):
     write(work, "program", b'#!/bin/sh\ncp "$7" "$0.table"\nfor word; do echo "$word"; done > "$0.words"\n[ "$3" = "$5" ] || cp "$3"/* "$5"\necho chunks 0 turns 0\n')
     os.chmod(program, 0o755)
     folder = os.path.join(os.path.dirname(os.path.dirname(os.path.abspath(__file__))), "tables")
-    read = lambda name: open(os.path.join(folder, name), "rb").read()
+    snow = b'  {name = "minecraft:powder_snow", open = false, floor = true, opacity = 15, emission = 0},\n'
+    grass = b'  {name = "minecraft:grass", open = true, floor = false, opacity = 0, emission = 0},\n'
+
+    def read(name):
+        text = open(os.path.join(folder, name), "rb").read()
+        return text.replace(b"\n]\n", b"\n" + (grass if b'"minecraft:short_grass"' in text else b"") + snow + b"]\n")
+
     heights = b"min_section = -4\nsections = 24\n", b"min_section = 0\nsections = 16\n"
     overworld, low = range(-5, 21), range(-1, 17)
     for what, chunks, name, low_world in (

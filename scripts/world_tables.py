@@ -12,6 +12,9 @@ VERSIONS = (3953, "java-1.21.toml"), (3698, "java-1.20.3.toml"), (3463, "java-1.
 # How many sections the game's dimensions have from their lowest on: the Overworld, and the Nether and the End.
 SECTIONS = {-4: 24, 0: 16}
 HEIGHT = b"min_section = %d\nsections = %d\n"
+ROW, LEFT_OUT = (re.compile(pattern, re.MULTILINE) for pattern in (rb'^  {name = "([^"]+)".*},$', rb"^#   (minecraft:[a-z_]+) "))
+# What the program takes a block for that has no row.
+SHUT = b'  {name = "%s", open = false, floor = true, opacity = 15, emission = 0},'
 
 
 class Table(typing.NamedTuple):
@@ -36,16 +39,33 @@ def of_world(marks):
     if not versions:
         table = named(os.path.join(TABLES, SHORT), marks)
         return table._replace(is_strict=True)
-    name = next((name for first, name in VERSIONS if first <= max(versions)), VERSIONS[-1][1])
-    with open(os.path.join(TABLES, name), "rb") as file:
-        text = file.read()
+    names = [name for first, name in VERSIONS if first <= max(versions)] or [VERSIONS[-1][1]]
+    text = whole(*names)
     lowest = min({mark.lowest for mark in marks} - {None}, default=-4)
     highest = max((mark.highest for mark in marks if mark.highest is not None), default=lowest)
     # Behind the last section a chunk can have one that has light alone.
     if lowest in SECTIONS and highest <= lowest + SECTIONS[lowest]:
         text = text.replace(HEIGHT % (-4, SECTIONS[-4]), HEIGHT % (lowest, SECTIONS[lowest]))
     check_lowest(text, marks)
-    return Table(name, text, True)
+    return Table(names[0], text, True)
+
+
+def whole(newest, *older):
+    """A table, with the rows of older ones for names that it has no more, as chunks have them that were written before; and with rows for
+    blocks that it leaves out, which stop all light."""
+    text = read(newest)
+    known, more = set(ROW.findall(text)), []
+    for name in older:
+        rows = [row for row in ROW.finditer(read(name)) if row[1] not in known]
+        more += [row[0] for row in rows]
+        known.update(row[1] for row in rows)
+    more += [SHUT % name for name in LEFT_OUT.findall(text)]
+    return text.replace(b"\n]\n", b"\n%s\n]\n" % b"\n".join(more), 1)
+
+
+def read(name):
+    with open(os.path.join(TABLES, name), "rb") as file:
+        return file.read()
 
 
 def check_lowest(text, marks):
