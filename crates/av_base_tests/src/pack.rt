@@ -1,7 +1,7 @@
 //! Entries and half bytes by hand, with the counts of the format's description.
 ghost use Rattle.std.specs.Prelude.{◌≡◌, ◌<◌, ◌^◌, IfOk, length, All};
 
-use av_expecting::expect_equal;
+use crate::expecting::expect_equal;
 use av_pack::{
     bits_for, cleaned, entries_below, get_at, longs_for, nibble, pack, set_at, set_nibble, unpack,
     used_in_order,

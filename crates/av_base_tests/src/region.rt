@@ -1,5 +1,5 @@
 //! Regions by hand.
-use av_expecting::expect_equal;
+use crate::expecting::expect_equal;
 use av_region::{Region, write, written_holds};
 use av_types::{ChunkPos, Fault, RegionPos};
 use std::alloc::Global;

@@ -1,5 +1,5 @@
 //! Lists of scheduled ticks by hand.
-use av_expecting::expect_equal;
+use crate::expecting::expect_equal;
 use av_ticks::{TickList, merge_made};
 use av_types::{Entry, Fault, Made, Pos};
 use std::alloc::Global;

@@ -1,5 +1,5 @@
 //! Places, heights and fault lines by hand.
-use av_expecting::expect_equal;
+use crate::expecting::expect_equal;
 use av_types::{ChunkPos, Fault, Height, Place, Pos, RegionPos, SectionPos, Wet};
 use std::test::Fail;
 

@@ -4,4 +4,6 @@
 #[cfg(test)]
 mod chunks;
 #[cfg(test)]
+mod expecting;
+#[cfg(test)]
 mod tests;

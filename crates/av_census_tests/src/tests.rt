@@ -1,7 +1,7 @@
 //! Counts of small region files.
 use crate::chunks::{EAST, FULL, UNFINISHED, region};
+use crate::expecting::expect_equal;
 use av_census::{Census, census, listing};
-use av_expecting::expect_equal;
 use av_region_files::RegionFile;
 use av_rules::Rules;
 use av_types::{Fault, Height, RegionPos};

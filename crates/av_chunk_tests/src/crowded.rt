@@ -1,7 +1,7 @@
 //! Chunks of more states than a table takes.
 use crate::blocks::{AIR, FULL, PLACE, STONE, WATER_17, joined};
+use crate::expecting::{expect_equal, expect_true};
 use crate::parts::fault_of;
-use av_expecting::{expect_equal, expect_true};
 use av_types::Fault;
 use std::alloc::{AllocError, Global};
 use std::process::Abort;

@@ -1,5 +1,6 @@
 //! Scheduled ticks of documents, read and written back.
 use crate::documents::{DARK, LOW, MOST_BYTES, Y_0, read, rewritten_after, written};
+use crate::expecting::{expect_equal, expect_true};
 use crate::pieces::Piece::{Longs, Tick};
 use crate::pieces::{Piece, joined, push_all};
 use crate::tags::{
@@ -7,7 +8,6 @@ use crate::tags::{
     SLAB, STATES, STILL, STONE, TICKS_1, TICKS_6, TICKS_7, WATER,
 };
 use av_chunk::{Chunk, ChunkLight, Reading};
-use av_expecting::{expect_equal, expect_true};
 use av_types::{Entry, Fault, Height, Pos};
 use std::alloc::{AllocError, Global};
 use std::process::Abort;

@@ -6,6 +6,7 @@ ghost use Rattle.av_state.specs.Table.{states};
 ghost use Rattle.av_rules.specs.declared.kinds.Kinds.{Kinds};
 ghost use Rattle.av_chunk.specs.Writing.{CanWrite, states_of_kinds};
 
+use crate::expecting::{expect_equal, expect_true};
 use crate::pieces::Piece::{Light, Longs, Number, Tick};
 use crate::pieces::{Piece, joined, push_all, push_light};
 use crate::tags::{
@@ -15,7 +16,6 @@ use crate::tags::{
     TICKS_4, UNKNOWN, WATER, Z_POS,
 };
 use av_chunk::{Chunk, ChunkLight, ChunkRest, Reading};
-use av_expecting::{expect_equal, expect_true};
 use av_nbt::{decode, encode};
 use av_rules::{Kinds, Rules};
 use av_state::StateTable;

@@ -1,6 +1,7 @@
 //! Chunks that are read by a table that others share.
 ghost use Rattle.std.specs.Prelude.{◌≤◌, length};
 
+use crate::expecting::{expect_equal, expect_true};
 use crate::pieces::Piece::{Longs, Number, Tick};
 use crate::pieces::{Piece, joined};
 use crate::tags::{
@@ -8,7 +9,6 @@ use crate::tags::{
     SECTIONS_1, SLAB, STATES, STILL, STONE, TICKS_1, WATER,
 };
 use av_chunk::{Chunk, ChunkRest, Reading};
-use av_expecting::{expect_equal, expect_true};
 use av_nbt::decode;
 use av_state::StateTable;
 use av_types::{ChunkPos, Entry, Fault, Height, Place, Pos};

@@ -10,6 +10,8 @@ mod document_ticks;
 #[cfg(test)]
 mod documents;
 #[cfg(test)]
+mod expecting;
+#[cfg(test)]
 mod judging;
 #[cfg(test)]
 mod known;

@@ -1,10 +1,10 @@
 //! Sections by hand, written with the states that they have.
 ghost use Rattle.av_state.specs.Table.{states};
 
+use crate::expecting::{expect_equal, expect_true};
 use crate::stored::{
     entry, expect_number, expect_sizes, expect_written, one_entry, palette, sizes, two_longs,
 };
-use av_expecting::{expect_equal, expect_true};
 use av_section::Section;
 use av_state::StateTable;
 use av_tags::Tag;

@@ -1,6 +1,6 @@
 //! Payloads by hand, read as chunks.
+use crate::expecting::expect_equal;
 use av_chunk::{Reading, read_payload};
-use av_expecting::expect_equal;
 use av_state::StateTable;
 use av_types::{ChunkPos, Fault, Height};
 use std::alloc::Global;

@@ -1,7 +1,7 @@
 //! What a section must have.
+use crate::expecting::expect_equal;
 use crate::parts::Part::{Byte, Compound, End, Int, Ints, List, Text};
 use crate::parts::{FULL, Part, X, Z, document, expect_fault, expect_read, fault_of, push_all};
-use av_expecting::expect_equal;
 use av_types::Fault;
 use std::alloc::{AllocError, Global};
 use std::process::Abort;

@@ -3,7 +3,7 @@ ghost use Rattle.std.specs.Prelude.{length};
 ghost use Rattle.av_state.specs.Table.{states};
 ghost use Rattle.av_section.specs.Section.{HasNumbersBelow};
 
-use av_expecting::{expect_equal, expect_true};
+use crate::expecting::{expect_equal, expect_true};
 use av_section::Section;
 use av_state::StateTable;
 use av_tags::{Named, Tag, TagType};

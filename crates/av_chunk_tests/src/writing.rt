@@ -1,9 +1,9 @@
 //! Chunks, read and written back.
 use crate::documents::rewritten;
+use crate::expecting::expect_equal;
 use crate::parts::Part::{Byte, Bytes, Compound, End, Int, List, Text, Tick};
 use crate::parts::{FULL, Part, document, push_all};
 use av_chunk::ChunkLight;
-use av_expecting::expect_equal;
 use std::alloc::{AllocError, Global};
 use std::process::Abort;
 use std::test::Fail;

@@ -1,8 +1,8 @@
 //! What comes into a block, and what a set wakes.
+use crate::expecting::expect_equal;
 use crate::flat::{
     Block, FALLING, LAVA, SOURCE, at, comes_into, expect_entries, flat_with, kinds, set,
 };
-use av_expecting::expect_equal;
 use av_types::Wet;
 use std::alloc::Global;
 use std::process::Abort;

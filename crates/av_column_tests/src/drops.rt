@@ -1,8 +1,8 @@
 //! How far it is to a drop.
+use crate::expecting::expect_equal;
 use crate::flat::{
     AIR, Block, LAVA, SOAKED_GRASS, SOURCE, STONE, at, drops_at, expect_drops, flat_with, kinds,
 };
-use av_expecting::expect_equal;
 use std::alloc::Global;
 use std::process::Abort;
 use std::test::Fail;

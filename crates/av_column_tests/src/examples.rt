@@ -1,4 +1,5 @@
 //! The rule's examples on the small flat world, with a soaked slab by the bare table.
+use crate::expecting::{expect_equal, expect_true};
 use crate::flat::{
     AIR, Block, SOURCE, STONE, at, comes_into, drop_by, drops_at, enters_at, expect_blocks,
     expect_drops, expect_entries, expect_made, flat_with, intern, kind, kinds_by, number_at,
@@ -6,7 +7,6 @@ use crate::flat::{
 };
 use av_cells::Cells;
 use av_column::Column;
-use av_expecting::{expect_equal, expect_true};
 use av_rules::Kinds;
 use av_state::StateTable;
 use av_types::{Direction, Fault, Pos, Wet};

@@ -1,9 +1,9 @@
 //! A flat world of one chunk: stone at y 63, air from y 60 to 69 elsewhere, and blocks put into it.
+use crate::expecting::expect_equal;
 use arrayvec::ArrayVec;
 use av_cells::{Cells, Kind, can_enter, has_hole, kind_at, set_awake};
 use av_column::Column;
 use av_drop::drop_distance;
-use av_expecting::expect_equal;
 use av_rules::{Kinds, Rules};
 use av_state::{Property, State, StateTable};
 use av_types::{Direction, Entry, Fault, Pos, Wet};

@@ -8,6 +8,8 @@ mod drops;
 #[cfg(test)]
 mod examples;
 #[cfg(test)]
+mod expecting;
+#[cfg(test)]
 mod flat;
 #[cfg(test)]
 mod turns;

@@ -1,8 +1,8 @@
 //! What would change in small region files.
+use crate::expecting::expect_equal;
 use av_changes::{
     CHANGED, Change, WOULD_CHANGE, add_change, by_name, changed_chunks, write_changes,
 };
-use av_expecting::expect_equal;
 use av_region_files::RegionFile;
 use av_types::RegionPos;
 use std::alloc::{AllocError, Global};

@@ -1,8 +1,8 @@
 //! Exchanges over a folder in memory, which are cut off at each of their steps.
 ghost use Rattle.std.specs.Prelude.{None};
 
+use crate::expecting::expect_equal;
 use av_exchange::{Folder, close, place, place_alone, repair, stage, sweep, unstage};
-use av_expecting::expect_equal;
 use av_sink::NoTeller;
 use std::alloc::{AllocError, Global};
 use std::io::{self, ErrorKind};

@@ -9,6 +9,8 @@ mod chunks;
 #[cfg(test)]
 mod exchange;
 #[cfg(test)]
+mod expecting;
+#[cfg(test)]
 mod lines;
 #[cfg(test)]
 mod locks;

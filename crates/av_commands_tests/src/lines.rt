@@ -1,7 +1,7 @@
 //! Names and lines. What the program answers, `scripts/check_words.sh` asks of the built one.
+use crate::expecting::expect_equal;
 use av_commands::block::block_text;
 use av_commands::checking::{Counts, findings, write_counts, write_unread};
-use av_expecting::expect_equal;
 use av_reports::edit_trouble::{EditCause, EditTrouble, edit_cause};
 use av_reports::failure::{Failure, Reason, UnreadFile};
 use av_reports::names::{file_name, region_of_name, split_path};

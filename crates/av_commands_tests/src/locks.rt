@@ -1,5 +1,5 @@
 //! Locks, by lines as Linux writes them in `/proc/locks`.
-use av_expecting::expect_equal;
+use crate::expecting::expect_equal;
 use av_folders::{FileNumbers, Lock, lock_in};
 use std::alloc::{AllocError, Global};
 use std::test::Fail;

@@ -2,7 +2,7 @@
 ghost use Rattle.std.specs.Prelude.{◌≡◌, [], ◌∷◌, ◌++◌, OnOk, OnErr, None, Some, false, map, string_bytes};
 ghost use Rattle.av_sink.specs.Account.{file_named};
 
-use av_expecting::expect_equal;
+use crate::expecting::expect_equal;
 use av_region_files::{RegionFile, region_name};
 use av_sink::{NoTeller, Sink, SinkFailed, save_all};
 use av_types::RegionPos;

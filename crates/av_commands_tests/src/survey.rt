@@ -1,6 +1,6 @@
 //! What is found wrong with small region files.
 use crate::chunks::{Layer, add_chunk};
-use av_expecting::expect_equal;
+use crate::expecting::expect_equal;
 use av_region_files::RegionFile;
 use av_survey::{count_chunks, survey};
 use av_types::{ChunkPos, Fault, Height, RegionPos};

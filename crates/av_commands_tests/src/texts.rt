@@ -1,7 +1,7 @@
 //! Texts that may be left out.
+use crate::expecting::expect_equal;
 use av_commands::tables::read_table;
 use av_commands::texts::read_text_or;
-use av_expecting::expect_equal;
 use std::test::Fail;
 
 #[test]

@@ -1,5 +1,5 @@
 //! Words. What the program answers, `scripts/check_words.sh` asks of the built one.
-use av_expecting::expect_equal;
+use crate::expecting::expect_equal;
 use av_types::Pos;
 use av_words::command_line::commands::{RunWords, Words};
 use av_words::command_line::words;

@@ -1,5 +1,5 @@
 //! Tables of colours that are read or refused.
-use av_expecting::expect_equal;
+use crate::expecting::expect_equal;
 use av_map::Colours;
 use av_types::Fault;
 use std::process::Abort;

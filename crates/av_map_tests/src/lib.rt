@@ -6,6 +6,8 @@ mod chunks;
 #[cfg(test)]
 mod colours;
 #[cfg(test)]
+mod expecting;
+#[cfg(test)]
 mod maps;
 #[cfg(test)]
 mod pictures;

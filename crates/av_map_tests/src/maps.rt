@@ -1,6 +1,6 @@
 //! Maps of small worlds, with values worked out by hand.
 use crate::chunks::{Layer, region};
-use av_expecting::expect_equal;
+use crate::expecting::expect_equal;
 use av_map::{Colours, Map, View, draw};
 use av_png::Pixel;
 use av_region_files::RegionFile;

@@ -1,5 +1,5 @@
 //! Pictures as PNG files.
-use av_expecting::expect_equal;
+use crate::expecting::expect_equal;
 use av_png::{Picture, Pixel, write_png};
 use std::process::Abort;
 use std::test::Fail;

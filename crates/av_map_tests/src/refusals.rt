@@ -1,5 +1,5 @@
 //! Worlds that are not drawn.
-use av_expecting::expect_equal;
+use crate::expecting::expect_equal;
 use av_map::{Colours, View, draw};
 use av_region_files::RegionFile;
 use av_types::{Height, RegionPos};

@@ -1,6 +1,6 @@
 //! Documents by hand.
+use crate::expecting::expect_equal;
 use crate::tags::tag;
-use av_expecting::expect_equal;
 use av_nbt::{decode, encode, spelling_is_unique, written_is_spelling};
 use av_tags::{Named, Tag, TagType, find};
 use av_types::Fault;

@@ -4,4 +4,6 @@
 #[cfg(test)]
 mod documents;
 #[cfg(test)]
+mod expecting;
+#[cfg(test)]
 mod tags;

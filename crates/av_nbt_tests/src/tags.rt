@@ -1,6 +1,6 @@
 //! Tags by hand.
 use crate::documents::ALL_KINDS;
-use av_expecting::expect_equal;
+use crate::expecting::expect_equal;
 use av_nbt::decode;
 use av_tags::{Named, Tag, TagType, copy_tags, exchange, find, put, remove};
 use av_types::Fault;

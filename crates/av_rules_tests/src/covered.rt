@@ -1,6 +1,6 @@
 //! Which states have a row.
+use crate::expecting::expect_equal;
 use crate::tests::state;
-use av_expecting::expect_equal;
 use av_rules::Rules;
 use std::alloc::Global;
 use std::process::Abort;

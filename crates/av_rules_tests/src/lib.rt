@@ -4,6 +4,8 @@
 #[cfg(test)]
 mod covered;
 #[cfg(test)]
+mod expecting;
+#[cfg(test)]
 mod rows;
 #[cfg(test)]
 mod soaked;

@@ -1,6 +1,6 @@
 //! Which row of a table counts.
+use crate::expecting::expect_equal;
 use crate::tests::{expect_row, row, state};
-use av_expecting::expect_equal;
 use av_rules::Rules;
 use av_types::Fault;
 use std::alloc::Global;

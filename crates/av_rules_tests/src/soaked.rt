@@ -1,6 +1,6 @@
 //! What water knows of soaked blocks.
+use crate::expecting::expect_equal;
 use crate::tests::{row, state};
-use av_expecting::expect_equal;
 use av_rules::{Kinds, Rules};
 use av_state::{State, StateTable};
 use av_types::{Fault, Wet};

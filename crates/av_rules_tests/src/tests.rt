@@ -1,5 +1,5 @@
 //! Block tables by hand.
-use av_expecting::{expect_equal, expect_true};
+use crate::expecting::{expect_equal, expect_true};
 use av_rules::{Row, Rules};
 use av_state::{Property, State};
 use av_types::Fault;

@@ -1,5 +1,5 @@
 //! States of one hash, by hand.
-use av_expecting::expect_equal;
+use crate::expecting::expect_equal;
 use av_state::{Property, PropertyText, State, StateTable};
 use av_types::Fault;
 use std::alloc::Global;

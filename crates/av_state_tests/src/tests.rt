@@ -1,5 +1,5 @@
 //! Block states and their numbers, by hand.
-use av_expecting::{expect_equal, expect_true};
+use crate::expecting::{expect_equal, expect_true};
 use av_state::{Property, PropertyText, State, StateTable};
 use av_types::{Fault, Wet};
 use std::alloc::Global;
