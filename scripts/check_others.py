@@ -238,14 +238,25 @@ def tables(work, _):
         world = os.path.join(work, what)
         write_world(world, {(0, 0): {(x, 0): chunk_of(*chunk) for x, chunk in enumerate(chunks)}})
         found = call(world, program=program)
-        yield what, (0, "table " + name), (found[0], found[1][1])
+        yield what, (0, "table %s (another by --table, which need not have all blocks)" % name), (found[0], found[1][1])
         yield "the table of " + what, read(name).replace(*heights) if low_world else read(name), open(program + ".table", "rb").read()
         yield "the words of " + what, "--strict\n", open(program + ".words").readlines()[-1]
     yield "a table that is named", 0, call(world, "--table", program + ".table", program=program)[0]
     yield "its words", False, "--strict\n" in open(program + ".words").readlines()
-    for what, chunk in (("high", (3700, 0, range(18))), ("low", (3700, -8, range(-8, 4)))):
+    by = "name a table of its height by --table, which docs/FORMATS.md says how to make; nothing is done"
+    low_line = "the world's lowest section is -8, and the table's -4: " + by
+    high_line = "the world has the section %d, which is above the game's own height: " + by
+    for what, chunks, line in (("a low world", [(3700, -8, range(-8, 4))], low_line), ("a high Nether", [(3700, 0, range(18))], high_line % 17),
+                               ("a high world", [(3700, -4, range(-4, 28))], high_line % 27),
+                               ("two heights", [(3700, -4, range(4)), (3700, -8, range(4))], low_line)):
         world = os.path.join(work, what)
-        write_world(world, {(0, 0): {(0, 0): chunk_of(*chunk)}})
-        line = "the world's lowest section is %d, and the table's -4: name a table of its height by --table, which docs/FORMATS.md says how to " \
-            "make; nothing is done" % chunk[1]
+        write_world(world, {(0, 0): {(x, 0): chunk_of(*chunk) for x, chunk in enumerate(chunks)}})
         yield what, refused(line), call(world, program=program)[::2]
+    for lowest in -4, -8:
+        write(work, "lowest", b"version = 3\nmin_section = %d\nsections = 28\n" % lowest)
+        yield "two heights and a table of one", 0, call(os.path.join(work, "two heights"), "--table", os.path.join(work, "lowest"), program=program)[0]
+    world, bytes_of_a_section = os.path.join(work, "an array"), b"\1\0\1Y\x50\x99"
+    kind, chunk = chunk_of(3700, 0, range(16))
+    array = b"\x07\0\x04data" + len(bytes_of_a_section).to_bytes(4, "big") + bytes_of_a_section + b"\0"
+    write_world(world, {(0, 0): {(0, 0): (kind, zlib.compress(zlib.decompress(chunk)[:-1] + array))}})
+    yield "bytes of an array that are as a section's", 0, call(world, program=program)[0]

@@ -152,15 +152,19 @@ def make_alike(descriptor, model):
     return given
 
 
+ACCESS = "system.posix_acl_access"
+
+
 def give_attributes(descriptor, model):
     """Gives an open file the extended attributes of the file at a path, which are also who may use it (ACL), as far as they can be given."""
-    try:
-        for name in os.listxattr(model):
-            with contextlib.suppress(PermissionError):
+    with contextlib.suppress(OSError):
+        names = os.listxattr(model)
+        # One that came from the folder in which the file was made.
+        if ACCESS in os.listxattr(descriptor) and ACCESS not in names:
+            os.removexattr(descriptor, ACCESS)
+        for name in names:
+            with contextlib.suppress(OSError):
                 os.setxattr(descriptor, name, os.getxattr(model, name))
-    except OSError as why:
-        if why.errno not in (errno.ENOTSUP, errno.ENODATA, errno.EINVAL):
-            raise
 
 
 class Fresh:

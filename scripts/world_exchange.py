@@ -239,8 +239,9 @@ class Exchange:
             try:
                 self.move_old(target)
             except OSError as why:
-                raise Problem("%s: %s; the new files are in their places, and the old ones are in %s" % (
-                    target, why.strerror, self.old)) from why
+                hint = " (without --backup they come beside the region files)" if backup == chosen else ""
+                raise Problem("%s: %s; the new files are in their places, and the old ones are in %s%s" % (
+                    target, why.strerror, self.old, hint)) from why
         return target
 
     def move_old(self, target):
@@ -259,9 +260,9 @@ class Exchange:
         if not os.path.lexists(begun):
             if os.path.lexists(target) and os.listdir(target):
                 raise FileExistsError(errno.EEXIST, os.strerror(errno.EEXIST))
-            os.makedirs(target, exist_ok=True)
             open(begun, "x").close()
             sync(self.work)
+        os.makedirs(target, exist_ok=True)
         for name in sorted(os.listdir(self.old)):
             copied(os.path.join(self.old, name), os.path.join(target, name))
         descriptor = os.open(target, os.O_RDONLY)

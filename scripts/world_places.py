@@ -15,8 +15,10 @@ SNOWMAN = "\u2603".encode()
 SAMPLES = 64
 # What the program takes.
 MOST_REGIONS, MOST_PLACE = 1024, 60_000
-# The Ints of a chunk that are the version of the game that wrote it, and the lowest section of its world; and the Byte that is a section's.
-VERSION, LOWEST, SECTION = b"\x03\x00\x0bDataVersion", b"\x03\x00\x04yPos", re.compile(rb"\x01\x00\x01Y(.)", re.DOTALL)
+# The Ints of a chunk that are the version of the game that wrote it, and the lowest section of its world; and the Byte that is a section's, behind
+# which another tag begins, or compounds end: an array can have the same bytes.
+VERSION, LOWEST, SECTION = b"\x03\x00\x0bDataVersion", b"\x03\x00\x04yPos", \
+    re.compile(rb"\x01\x00\x01Y(.)(?=\x00{0,2}[\x01-\x0c]\x00[\x01-\x20][A-Za-z]|\x00{1,3}\Z)", re.DOTALL)
 # The journal of a run of the program in the folder itself.
 JOURNAL = ".anvilwater-journal"
 
@@ -88,12 +90,12 @@ def ways(path):
 
 
 def tops(paths):
-    """The folders of worlds that these paths lie in: above each, the nearest that has the files of a world, and all that have a lock."""
+    """The folders of worlds that these paths lie in: above each, the nearest that has a file of a world, and all that have both."""
     found = set()
     for path in paths:
         has = [[os.path.lexists(os.path.join(folder, name)) for name in (LEVEL, SESSION)] for folder in upwards(path)]
         nearest = next((number for number, files in enumerate(has) if any(files)), None)
-        found |= {os.path.realpath(folder) for number, folder in enumerate(upwards(path)) if number == nearest or has[number][1]}
+        found |= {os.path.realpath(folder) for number, folder in enumerate(upwards(path)) if number == nearest or all(has[number])}
     return sorted(found)
 
 

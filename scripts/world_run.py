@@ -12,8 +12,9 @@ to the folder of --backup, by default one beside the region files that is named 
 
 A chunk that can't be read, or is too large for the program, is named, counts as not loaded, and comes back as it was; a file that
 can't be taken there and back ends the call, and the world is as it was. A call that was interrupted while files took their places is
-finished by the next one, which then does nothing else. Status 0: all was done; 1: something was wrong, and a line says what; 2: other
-words are needed; another: that of the program where it refuses, 128 and the signal's number after INT, TERM or HUP.
+finished by the next one, which then does nothing else, and keeps the old files beside the region files unless it names the same
+--backup. Status 0: all was done; 1: something was wrong, and a line says what; 2: other words are needed; another: that of the program
+where it refuses, 128 and the signal's number after INT, TERM or HUP.
 """
 import argparse
 import contextlib
@@ -315,7 +316,7 @@ class Call:
         that it is built, and tells of a table that it refuses, before the work."""
         table = world_tables.named(self.words.table, survey.marks) if self.words.table else world_tables.of_world(survey.marks)
         if table.name:
-            say("table %s" % table.name)
+            say("table %s (another by --table, which need not have all blocks)" % table.name)
         nothing = os.path.join(work, "nothing")
         os.mkdir(nothing)
         open(os.path.join(nothing, "r.0.0.mca"), "xb").close()

@@ -13,6 +13,7 @@ VERSIONS = (3953, "java-1.21.toml"), (3698, "java-1.20.3.toml"), (3463, "java-1.
 SECTIONS = {-4: 24, 0: 16}
 HEIGHT = b"min_section = %d\nsections = %d\n"
 ROW, LEFT_OUT = (re.compile(pattern, re.MULTILINE) for pattern in (rb'^  {name = "([^"]+)".*},$', rb"^#   (minecraft:[a-z_]+) "))
+ADVICE = "name a table of its height by --table, which docs/FORMATS.md says how to make; nothing is done"
 # What the program takes a block for that has no row.
 SHUT = b'  {name = "%s", open = false, floor = true, opacity = 15, emission = 0},'
 
@@ -29,7 +30,9 @@ def named(path, marks):
     """The table that a call names, which has to have the world's lowest section."""
     with open(path, "rb") as file:
         text = file.read()
-    check_lowest(text, marks)
+    lowest = {mark.lowest for mark in marks} - {None}
+    if lowest and lowest_of(text) not in lowest:
+        refuse(min(lowest), text)
     return Table(None, text, False)
 
 
@@ -41,13 +44,15 @@ def of_world(marks):
         return table._replace(is_strict=True)
     names = [name for first, name in VERSIONS if first <= max(versions)] or [VERSIONS[-1][1]]
     text = whole(*names)
-    lowest = min({mark.lowest for mark in marks} - {None}, default=-4)
-    highest = max((mark.highest for mark in marks if mark.highest is not None), default=lowest)
+    found = {mark.lowest for mark in marks} - {None}
+    lowest = min(found, default=-4)
+    if len(found) > 1 or lowest not in SECTIONS:
+        refuse(min(found - {lowest_of(text)}), text)
     # Behind the last section a chunk can have one that has light alone.
-    if lowest in SECTIONS and highest <= lowest + SECTIONS[lowest]:
-        text = text.replace(HEIGHT % (-4, SECTIONS[-4]), HEIGHT % (lowest, SECTIONS[lowest]))
-    check_lowest(text, marks)
-    return Table(names[0], text, True)
+    highest = max((mark.highest for mark in marks if mark.highest is not None), default=lowest)
+    if highest > lowest + SECTIONS[lowest]:
+        raise Problem("the world has the section %d, which is above the game's own height: %s" % (highest, ADVICE))
+    return Table(names[0], text.replace(HEIGHT % (-4, SECTIONS[-4]), HEIGHT % (lowest, SECTIONS[lowest])), True)
 
 
 def whole(newest, *older):
@@ -68,11 +73,11 @@ def read(name):
         return file.read()
 
 
-def check_lowest(text, marks):
-    """Refuses a table with another height than the world's, whose chunks would get sections that the game does not have there."""
+def lowest_of(text):
     found = re.search(rb"^[ \t]*min_section[ \t]*=[ \t]*([-+]?[0-9]+)", text, re.MULTILINE)
-    wanted = int(found[1]) if found else -4
-    lowest = {mark.lowest for mark in marks} - {None}
-    if lowest and lowest != {wanted}:
-        raise Problem("the world's lowest section is %d, and the table's %d: name a table of its height by --table, which docs/FORMATS.md says "
-                      "how to make; nothing is done" % (min(lowest - {wanted}), wanted))
+    return int(found[1]) if found else -4
+
+
+def refuse(lowest, text):
+    """Refuses a table with another height than the world's, whose chunks would get sections that the game does not have there."""
+    raise Problem("the world's lowest section is %d, and the table's %d: %s" % (lowest, lowest_of(text), ADVICE))
