@@ -6,4 +6,4 @@ use Rattle.av_folders.proofs.reading.FolderFiles.add_read.Goals as goal
 pub returns : goal.returns
 returns c =
     let new : FolderFiles = record { files = c.push.new.self; unread = c.args.self.now.unread } in
-    λ before shared. one_more_read before c.args.listed.now.region c.args.self.now new c.args.file c.requires c.in_ok-push.ensures.items refl shared
+    record { adds = λ before shared. one_more_read before c.args.listed.now.region c.args.self.now new c.args.file c.requires c.in_ok-push.ensures.items refl shared }
