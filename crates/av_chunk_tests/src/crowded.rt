@@ -1,5 +1,5 @@
 //! Chunks of more states than a table takes.
-use crate::blocks::{AIR, FULL, PLACE, STONE, WATER_17, joined};
+use crate::blocks::{AIR, FULL, PLACE, STONE, TICK_OF_NOTHING, WATER_17, joined};
 use crate::expecting::{expect_equal, expect_true};
 use crate::parts::fault_of;
 use av_types::Fault;

@@ -8,5 +8,7 @@ pub returns : goal.returns
 returns c =
     let u : UnreadFile = record { name = c.in_ok-name.name; path = c.in_ok-path.path; error = c.args.error } in
     let new : FolderFiles = record { files = c.args.self.now.files; unread = c.push.new.self } in
-    record { adds = λ before shared. one_more_unread before c.args.listed.now.region c.args.self.now new u (c.in_ok-name.ensures.ok ∙ (c.as_str.ensures.value ∙ c.requires)) refl
-    c.in_ok-push.ensures.items shared }
+    record {
+      adds = λ before shared. one_more_unread before c.args.listed.now.region c.args.self.now new u (c.in_ok-name.ensures.ok ∙ (c.as_str.ensures.value ∙ c.requires)) refl
+          c.in_ok-push.ensures.items shared;
+    }
