@@ -211,12 +211,12 @@ def unmoved(world):
     folder = world.laid(world.old)
     why = "  %s: Operation not permitted (os error 1)" % os.path.join(folder, name)
     run, _ = world.halted(world.words(folder, "--explain"), folder, calls.index(place) + 1, error=errno.EPERM)
-    yield "a run whose file can't take its place", (1, "", [why]), (run.status, run.output, [line for line in run.errors if line.startswith("  /")])
+    yield "a run whose file can't take its place", (1, "", [why]), (run.status, run.line, [line for line in run.errors if line.startswith("  /")])
     words = [*world.check_words(folder), "--explain"]
     copy = world.laid(shots(folder))
     _, calls = world.halted(world.check_words(copy), copy)
     check, _ = world.halted(words, folder, calls.index(place) + 1, error=errno.EPERM)
-    yield "the next command", (1, "", [why]), (check.status, check.output, [line for line in check.errors if line.startswith("  /")])
+    yield "the next command", (1, "", [why]), (check.status, check.line, [line for line in check.errors if line.startswith("  /")])
     yield "the command behind it", (0, [FINISHED % (folder, 3)]), (lambda answer: (answer.status, answer.errors))(world.check(folder))
     yield "files after that", [], differing(world.new, shots(folder))
 
