@@ -347,14 +347,14 @@ def read_by(program, path):
     samples = os.path.join(TOP, "samples")
     block = [program, "block", "--table", path, os.path.join(samples, "r.0.0.mca"), "4", "67", "15"]
     check = [program, "check", "--table", path, "--in", samples]
-    done = [subprocess.run(words, capture_output=True, text=True) for words in (block, check)]
+    done = (subprocess.run(words, capture_output=True, text=True) for words in (block, check))
     return [(one.returncode, one.stdout, one.stderr) for one in done]
 
 
 def nether(text):
     """The table for the Nether and the End, made as docs/FORMATS.md says."""
-    text, low = re.subn("^min_section = -4$", "min_section = 0", text, flags=re.MULTILINE)
-    text, many = re.subn("^sections = 24$", "sections = 16", text, flags=re.MULTILINE)
+    text, low = re.subn("(?m)^min_section = -4$", "min_section = 0", text)
+    text, many = re.subn("(?m)^sections = 24$", "sections = 16", text)
     return text, (low, many)
 
 
@@ -370,8 +370,7 @@ def low_world(run, text):
 def main():
     if len(sys.argv) != 2:
         sys.exit(__doc__)
-    program = os.path.abspath(sys.argv[1])
-    asked = wrong = 0
+    program, asked, wrong = os.path.abspath(sys.argv[1]), 0, 0
 
     def expect(version, what, want, got):
         nonlocal asked, wrong
@@ -391,9 +390,7 @@ def main():
         for kind in (light, let_through, replaced, floors, soaked):
             for state, want, got in kind(run, version):
                 expect(version, "%s of %s" % (kind.__name__, state), want, got)
-        for state, want, got in covered(program, path, version):
-            expect(version, "row of %s" % state, want, got)
-        for what, want, got in low_world(run, text):
+        for what, want, got in [*(("row of " + state, *rest) for state, *rest in covered(program, path, version)), *low_world(run, text)]:
             expect(version, what, want, got)
     print("%d asked of tables, %d wrong" % (asked, wrong))
     sys.exit(1 if wrong else 0)
