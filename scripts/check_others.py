@@ -93,7 +93,10 @@ def attributes(work, _):
 
 def one_backup(work, _):
     """Two calls at once that keep the old files in one folder of another file system."""
-    target = "/dev/shm/anvilwater-%d" % os.getpid()
+    memory = "/dev/shm"
+    if not os.path.isdir(memory) or os.stat(memory).st_dev == os.stat(work).st_dev:
+        return
+    target = os.path.join(memory, "anvilwater-%d" % os.getpid())
     worlds, markers = ([os.path.join(work, name + letter) for letter in "ab"] for name in ("world", "marker"))
     for world in worlds:
         write_world(world, small_world())
