@@ -12,6 +12,7 @@ import zlib
 from check_ends import OLD, forked, region_of
 from check_hindrances import always, waited
 from kept_worlds import small_world, write_world
+from make_samples import BYTE, BYTES, INT, Tag, compound, compounds, named
 from stored_chunks import ZLIB, write
 from world_calls import backup, begun, call, contents, ended, others, refused, shots
 
@@ -160,12 +161,15 @@ def limits(work, _):
     world = os.path.join(work, "world")
     write_world(world, small_world())
     write(world, "region/r.60001.0.mca", b"")
+    write(world, "region/r.-60000.60000.mca", b"")
     yield "far", refused("r.60001.0.mca is farther out than the program goes; nothing is done"), call(world)[::2]
     os.unlink(os.path.join(region_of(world), "r.60001.0.mca"))
-    for number in range(1020):
+    for number in range(1019):
         write(world, "region/r.%d.9.mca" % number, b"")
     line = "%s has 1025 region files, and the program takes 1024; nothing is done" % region_of(world)
     yield "many", refused(line), call(world)[::2]
+    os.unlink(os.path.join(region_of(world), "r.0.9.mca"))
+    yield "as many and as far as it takes", 0, call(world, what="same")[0]
 
 
 def no_locks(work, _):
@@ -209,11 +213,10 @@ def heights_of_tables(work, _):
     yield "a table of its height", 0, call(world, "--table", table)[0]
 
 
-def chunk_of(version, lowest, sections):
-    """A chunk as it begins, with a Byte for each section."""
-    ints = b"".join(b"\x03" + len(name).to_bytes(2, "big") + name + value.to_bytes(4, "big", signed=True)
-                    for name, value in ((b"DataVersion", version), (b"yPos", lowest)))
-    return ZLIB, zlib.compress(b"\x0a\0\0" + ints + b"".join(b"\x01\0\x01Y" + number.to_bytes(1, "big", signed=True) for number in sections) + b"\0")
+def chunk_of(version, lowest, sections, **others):
+    """A chunk of a version, with its lowest section and the numbers of those that it has."""
+    return ZLIB, zlib.compress(named("", compound(DataVersion=Tag(INT, version), yPos=Tag(INT, lowest),
+                                                  sections=compounds([{"Y": Tag(BYTE, number)} for number in sections]), **others)))
 
 
 def tables(work, _):
@@ -233,7 +236,9 @@ def tables(work, _):
     overworld, low = range(-5, 21), range(-1, 17)
     for what, chunks, name, low_world in (
             ("1.18", [(2860, -4, overworld)], "java-1.18.toml", False), ("1.18.2", [(2975, -4, overworld)], "java-1.18.toml", False),
-            ("1.19", [(3105, -4, overworld)], "java-1.19.toml", False), ("1.20.2", [(3578, -4, overworld)], "java-1.20.toml", False),
+            ("before 1.19", [(3104, -4, overworld)], "java-1.18.toml", False), ("1.19", [(3105, -4, overworld)], "java-1.19.toml", False),
+            ("1.19.4", [(3337, -4, overworld)], "java-1.19.toml", False), ("1.20", [(3463, -4, overworld)], "java-1.20.toml", False),
+            ("before 1.18", [(2859, -4, overworld)], "java-1.18.toml", False), ("1.20.2", [(3578, -4, overworld)], "java-1.20.toml", False),
             ("1.20.3", [(3698, -4, overworld)], "java-1.20.3.toml", False), ("1.20.6", [(3839, -4, overworld)], "java-1.20.3.toml", False),
             ("1.21", [(3953, -4, overworld)], "java-1.21.toml", False), ("one behind", [(9999, -4, overworld)], "java-1.21.toml", False),
             ("old and new", [(2975, -4, overworld), (3700, -4, overworld)], "java-1.20.3.toml", False),
@@ -250,7 +255,7 @@ def tables(work, _):
     low_line = "the world's lowest section is -8, and the table's -4: " + by
     high_line = "the world has the section %d, which is above the game's own height: " + by
     for what, chunks, line in (("a low world", [(3700, -8, range(-8, 4))], low_line), ("a high Nether", [(3700, 0, range(18))], high_line % 17),
-                               ("a high world", [(3700, -4, range(-4, 28))], high_line % 27),
+                               ("a high world", [(3700, -4, range(-4, 22))], high_line % 21),
                                ("two heights", [(3700, -4, range(4)), (3700, -8, range(4))], low_line)):
         world = os.path.join(work, what)
         write_world(world, {(0, 0): {(x, 0): chunk_of(*chunk) for x, chunk in enumerate(chunks)}})
@@ -258,8 +263,6 @@ def tables(work, _):
     for lowest in -4, -8:
         write(work, "lowest", b"version = 3\nmin_section = %d\nsections = 28\n" % lowest)
         yield "two heights and a table of one", 0, call(os.path.join(work, "two heights"), "--table", os.path.join(work, "lowest"), program=program)[0]
-    world, bytes_of_a_section = os.path.join(work, "an array"), b"\1\0\1Y\x50\x99"
-    kind, chunk = chunk_of(3700, 0, range(16))
-    array = b"\x07\0\x04data" + len(bytes_of_a_section).to_bytes(4, "big") + bytes_of_a_section + b"\0"
-    write_world(world, {(0, 0): {(0, 0): (kind, zlib.compress(zlib.decompress(chunk)[:-1] + array))}})
+    world = os.path.join(work, "an array")
+    write_world(world, {(0, 0): {(0, 0): chunk_of(3700, 0, range(16), data=Tag(BYTES, b"\1\0\1Y\x50\x99"))}})
     yield "bytes of an array that are as a section's", 0, call(world, program=program)[0]
