@@ -1,4 +1,5 @@
-//! Tests of the lowest crates by their public calls: places and faults, packed entries, regions, and lists of scheduled ticks.
+//! Tests of the lowest crates by their public calls: places and faults, packed entries, regions and their files, and lists of scheduled
+//! ticks.
 #![tactic(auto)]
 
 #[cfg(test)]
@@ -7,6 +8,8 @@ mod expecting;
 mod pack;
 #[cfg(test)]
 mod region;
+#[cfg(test)]
+mod region_files;
 #[cfg(test)]
 mod ticks;
 #[cfg(test)]

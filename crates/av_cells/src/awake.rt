@@ -1,5 +1,5 @@
 //! One set of a block, with its waking.
-ghost use Rattle.std.specs.Prelude.{◌≡◌, ◌≤◌, ◌<◌, ◌+◌, ℕ, [], IsTrue, length, take, drop};
+ghost use Rattle.std.specs.Prelude.{◌≡◌, ◌≤◌, ◌<◌, ◌+◌, ℕ, [], IsTrue, length};
 ghost use Rattle.arrayvec.specs.ArrayVec.{array_vec_len};
 ghost use Rattle.av_rules.specs.Kinds.{kind_count};
 ghost use Rattle.av_cells.specs.Kinds.{kinds_of};

@@ -27,10 +27,10 @@ pub(crate) enum Counted {
 fn left_out(fault: Fault) -> Result<Counted, AllocError>
     ensures { IfOk result (λ counted. (fault ≢ OutOfMemory) × (counted ≡ Counted.LeftOut)) }
 {
-    if fault.number() == 1 {
-        return Err(AllocError);
+    match fault {
+        Fault::OutOfMemory => Err(AllocError),
+        _ => Ok(Counted::LeftOut),
     }
-    Ok(Counted::LeftOut)
 }
 
 /// The blocks of a payload, whose states are numbered alone. A payload has at most 1,044,475 bytes.

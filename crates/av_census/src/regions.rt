@@ -7,7 +7,7 @@ ghost use Rattle.av_census.specs.Counting.{AreFew, HasRoom, IsAdded, IsCountOf, 
 
 use crate::places::{Counted, counted_at};
 use crate::tally::{Tally, add_all};
-use av_region::Region;
+use av_region::{CHUNKS, Region};
 use av_region_files::RegionFile;
 use av_types::{Height, RegionPos};
 use std::alloc::{AllocError, Global};
@@ -62,7 +62,7 @@ fn tally_region(
     ensures { IfOk result (TalliesUpTo height pos region.now.bytes.now 1024 tally.old tally.new) }
 {
     let mut left_out = 0;
-    for index in 0..1024 {
+    for index in 0..CHUNKS {
         let more = tally_place(alloc, tally, region, pos, index, height)?;
         left_out += more;
     }

@@ -2,13 +2,7 @@
 ghost use Rattle.std.specs.Prelude.{◌≡◌, ◌≤◌, ◌↔◌, IsTrue, option_map};
 ghost use Rattle.av_changes.specs.Changes.{IsChangeCount, IsSameAt, AreChangedBelow, ends_in_header, readable};
 
-use av_region::Region;
-
-/// How many bytes a whole header has.
-const HEADER: usize = 8192;
-
-/// How many places for chunks a region has.
-const PLACES: usize = 1024;
+use av_region::{CHUNKS, HEADER, Region};
 
 /// Whether a file ends within its header.
 fn ends_in_header(file: &[u8]) -> bool
@@ -51,7 +45,7 @@ fn changed_places(old: &Region<'_>, new: &Region<'_>) -> usize
     ensures { AreChangedBelow old.now.bytes.now new.now.bytes.now 1024 result }
 {
     let mut changed = 0;
-    for place in 0..PLACES {
+    for place in 0..CHUNKS {
         if !is_same_at(old, new, place) {
             changed += 1;
         }

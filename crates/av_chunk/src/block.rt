@@ -1,5 +1,5 @@
 //! One block of a region file.
-ghost use Rattle.std.specs.Prelude.{◌≡◌, ◌≤◌, ◌<◌, IfOk, IfErr, IsSome, option_map, length, slice_get, Some, true};
+ghost use Rattle.std.specs.Prelude.{◌≡◌, ◌≤◌, ◌<◌, IfOk, IfErr, option_map, length, slice_get, Some, true};
 ghost use Rattle.av_types.specs.Places.{is_block_of};
 ghost use Rattle.av_state.specs.States.{state_of};
 ghost use Rattle.av_state.specs.Table.{states};

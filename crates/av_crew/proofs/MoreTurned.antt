@@ -1,29 +1,16 @@
 -- One more entry turned.
-use Rattle.std.proofs.Common.{◌≡◌, ℕ, suc, ◌+◌, ◌<◌, List, [], ◌∷◌, ◌++◌, length, get_or, take, true, refl, sym, ap, ◌∙◌, add-one, arith}
+use Rattle.std.proofs.Common.{◌≡◌, ℕ, ◌+◌, ◌<◌, List, [], ◌∷◌, ◌++◌, length, get_or, take, true, refl, sym, ap, ◌∙◌, add-one}
 use Rattle.std.proofs.lemmas.Option.{slice_get-get_or}
 use Rattle.av_types.specs.declared.tick.Entry.{Entry}
 use Rattle.av_types.specs.declared.tick.Made.{Made}
 use Rattle.av_cells.specs.declared.kind.Kind.{Kind}
 use Rattle.av_cells.specs.World.{World, Lists, listed_if, listed_all}
 use Rattle.av_play.specs.declared.event.Placed.{Placed}
-use Rattle.av_play.specs.Play.{turn_of, made_by, labelled, entries_of, world_after, made_after}
+use Rattle.av_play.specs.Play.{turn_of, made_by, entries_of, world_after, made_after}
+use Rattle.av_play.proofs.Labelling.{entries_of_append, entries_of_labelled}
 use Rattle.av_play.proofs.Lists.{take_one_more}
 use Rattle.av_play.proofs.Trace.{world_push, made_push}
 use Rattle.av_crew.specs.Work.{AreTurned}
-
-pub labelled_push : (maker a : ℕ) (es : List Entry) (e : Entry) → labelled maker a (es ++ e ∷ []) ≡ labelled maker a es ++ record { maker = maker; number = a + length es; entry = e } ∷ []
-labelled_push maker a [] e = let g : a ≡ a + 0 = omega arith in ap (λ (n : ℕ). record { maker = maker; number = n; entry = e } ∷ []) g
-labelled_push maker a (x ∷ xs) e =
-    let g : suc a + length xs ≡ a + suc (length xs) = omega arith in
-    ap (λ l. record { maker = maker; number = a; entry = x } ∷ l) (labelled_push maker (suc a) xs e ∙ ap (λ (n : ℕ). labelled maker (suc a) xs ++ record { maker = maker; number = n; entry = e } ∷ []) g)
-
-pub entries_of_labelled : (maker n : ℕ) (es : List Entry) → entries_of (labelled maker n es) ≡ es
-entries_of_labelled maker n [] = refl
-entries_of_labelled maker n (e ∷ es) = ap (λ l. e ∷ l) (entries_of_labelled maker (suc n) es)
-
-pub entries_of_append : (xs ys : List Made) → entries_of (xs ++ ys) ≡ entries_of xs ++ entries_of ys
-entries_of_append [] ys = refl
-entries_of_append (x ∷ xs) ys = ap (λ l. x.entry ∷ l) (entries_of_append xs ys)
 
 listed_append : (xs ys : List Entry) (l : Lists) → listed_all l (xs ++ ys) ≡ listed_all (listed_all l xs) ys
 listed_append [] ys l = refl

@@ -3,9 +3,7 @@ ghost use Rattle.std.specs.Prelude.{◌≡◌, ◌<◌, ◌≤◌, true, false, 
 ghost use Rattle.av_types.specs.declared.fault.Fault.TheVariants.{BadCount};
 ghost use Rattle.av_crew.specs.Counts.{is_count_of_workers};
 
-use av_types::Fault;
-
-const MOST_WORKERS: u32 = 8;
+use av_types::{Fault, MOST_WORKERS};
 
 /// How many workers there are: 1 to 8.
 #[derive(Clone, Copy, Debug, PartialEq, Eq)]

@@ -51,16 +51,16 @@ fn can_pass<C: Cells>(cells: &C, kinds: &Kinds, pos: Pos) -> bool
 
 /// What is known of a block.
 #[derive(Clone, Copy)]
-pub struct Seen {
+pub(crate) struct Seen {
     /// Whether a walk may pass it.
-    pub passes: bool,
+    pub(crate) passes: bool,
     /// Whether it has a walk of no steps to a drop.
-    pub drops: bool,
+    pub(crate) drops: bool,
 }
 
 /// Reads a block, and the one below it if a walk may pass it.
 #[tactic(auto, unfolding(av_cells::specs::Rule::can_drop))]
-pub fn look<C: Cells>(cells: &C, kinds: &Kinds, pos: Pos) -> Seen
+pub(crate) fn look<C: Cells>(cells: &C, kinds: &Kinds, pos: Pos) -> Seen
     requires inner { IsInner pos }
     requires kinds { HasKinds (kind_count kinds.now) (C.world cells.now) }
     ensures { IsSeen (kinds_of kinds.now) (C.world cells.now) pos result }
@@ -74,7 +74,7 @@ pub fn look<C: Cells>(cells: &C, kinds: &Kinds, pos: Pos) -> Seen
 
 /// What is known of the blocks of the board.
 #[derive(Clone, Copy)]
-pub struct Around {
+pub(crate) struct Around {
     /// The places of the blocks that were read.
     known: Board,
     /// Those of them that a walk may pass.
@@ -85,7 +85,7 @@ pub struct Around {
 
 impl Around {
     /// Nothing is known.
-    pub fn new() -> Self
+    pub(crate) fn new() -> Self
         ensures { (k : ℕ → Kind) (w : World) (p : Pos) → AreSeen k w p result }
     {
         Around {
@@ -114,7 +114,7 @@ impl Around {
     }
 
     /// Reads the blocks at some places, where nothing is known.
-    pub fn read<C: Cells>(&mut self, cells: &C, kinds: &Kinds, middle: Pos, places: Board)
+    pub(crate) fn read<C: Cells>(&mut self, cells: &C, kinds: &Kinds, middle: Pos, places: Board)
         requires near { IsNearOrigin middle }
         requires kinds { HasKinds (kind_count kinds.now) (C.world cells.now) }
         requires seen { AreSeen (kinds_of kinds.now) (C.world cells.now) middle self.old }
@@ -130,14 +130,14 @@ impl Around {
     }
 
     /// Those of some places, all of which were read, that a walk may pass.
-    pub fn passed(self, places: Board) -> Board
+    pub(crate) fn passed(self, places: Board) -> Board
         ensures { (i : ℕ) → is_on result i ≡ (is_on places i && is_on self.passes i) }
     {
         places.among(self.passes)
     }
 
     /// Whether one of some places, all of which were read, has a walk of no steps to a drop.
-    pub fn drops_at(self, places: Board) -> bool
+    pub(crate) fn drops_at(self, places: Board) -> bool
         ensures some { result ≡ true → SharePlace places self.drops }
         ensures none { result ≡ false → (i : ℕ) → is_on places i ≡ true
             → is_on self.drops i ≡ false }

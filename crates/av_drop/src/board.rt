@@ -4,20 +4,20 @@ ghost use Rattle.av_drop.specs.Board.{is_on, HasMark, AreBeside};
 
 /// Some places of the board.
 #[derive(Clone, Copy)]
-pub struct Board {
+pub(crate) struct Board {
     bits: u128,
 }
 
 impl Board {
     /// No place.
-    pub fn empty() -> Self
+    pub(crate) fn empty() -> Self
         ensures { (i : ℕ) → is_on result i ≡ false }
     {
         Board { bits: 0 }
     }
 
     /// Whether there is no place.
-    pub fn is_empty(self) -> bool
+    pub(crate) fn is_empty(self) -> bool
         ensures none { result ≡ true → (i : ℕ) → is_on self i ≡ false }
         ensures some { result ≡ false → HasMark self }
     {
@@ -25,7 +25,7 @@ impl Board {
     }
 
     /// The first place of some.
-    pub fn first(self) -> u32
+    pub(crate) fn first(self) -> u32
         requires { HasMark self }
         ensures bound { result < 128 }
         ensures marked { is_on self result ≡ true }
@@ -34,7 +34,7 @@ impl Board {
     }
 
     /// These places and one more.
-    pub fn with(self, place: u32) -> Self
+    pub(crate) fn with(self, place: u32) -> Self
         requires { place < 128 }
         ensures here { is_on result place ≡ true }
         ensures others { (i : ℕ) → nat_eq i place ≡ false → is_on result i ≡ is_on self i }
@@ -45,7 +45,7 @@ impl Board {
     }
 
     /// These places and one more, where it is meant.
-    pub fn with_if(self, place: u32, meant: bool) -> Self
+    pub(crate) fn with_if(self, place: u32, meant: bool) -> Self
         requires { place < 128 }
         ensures here { is_on self place ≡ false → is_on result place ≡ meant }
         ensures others { (i : ℕ) → nat_eq i place ≡ false → is_on result i ≡ is_on self i }
@@ -54,7 +54,7 @@ impl Board {
     }
 
     /// These places without one of them.
-    pub fn without(self, place: u32) -> Self
+    pub(crate) fn without(self, place: u32) -> Self
         requires bound { place < 128 }
         requires there { is_on self place ≡ true }
         ensures here { is_on result place ≡ false }
@@ -68,7 +68,7 @@ impl Board {
     }
 
     /// Those of these places that are not among others.
-    pub fn apart_from(self, others: Board) -> Self
+    pub(crate) fn apart_from(self, others: Board) -> Self
         ensures { (i : ℕ) → i < 128 → is_on result i ≡ (is_on self i && not (is_on others i)) }
     {
         Board {
@@ -77,7 +77,7 @@ impl Board {
     }
 
     /// The places that are among these and others.
-    pub fn among(self, others: Board) -> Self
+    pub(crate) fn among(self, others: Board) -> Self
         ensures { (i : ℕ) → is_on result i ≡ (is_on self i && is_on others i) }
     {
         Board {
@@ -86,7 +86,7 @@ impl Board {
     }
 
     /// The places beside these.
-    pub fn beside(self) -> Self
+    pub(crate) fn beside(self) -> Self
         ensures { AreBeside self result }
     {
         let along_z = self.bits >> 11 | self.bits << 11;

@@ -27,7 +27,7 @@ fn side_place(direction: Direction) -> u32
 }
 
 /// The front of no steps from a side, where a walk may pass that.
-pub fn first_front(direction: Direction, passes: bool) -> Board
+pub(crate) fn first_front(direction: Direction, passes: bool) -> Board
     ensures { (i : ℕ) → is_on result i ≡ (nat_eq i (side_place direction) && passes) }
 {
     Board::empty().with_if(side_place(direction), passes)
@@ -35,13 +35,13 @@ pub fn first_front(direction: Direction, passes: bool) -> Board
 
 /// A front, and whether a block of it drops.
 #[derive(Clone, Copy)]
-pub struct Next {
-    pub front: Board,
-    pub drops: bool,
+pub(crate) struct Next {
+    pub(crate) front: Board,
+    pub(crate) drops: bool,
 }
 
 /// Goes one step on from the blocks of a front. Blocks beside it are read where nothing is known of them.
-pub fn advance<C: Cells>(
+pub(crate) fn advance<C: Cells>(
     cells: &C,
     kinds: &Kinds,
     middle: Pos,

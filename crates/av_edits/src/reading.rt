@@ -1,5 +1,5 @@
 //! The edits of a text.
-ghost use Rattle.std.specs.Prelude.{slice_get, ◌≡◌, ◌≢◌, ◌⊎◌, ◌++◌, ◌+◌, ◌<◌, ◌*◌, ◌&&◌, IsTrue, IfOk, OnOk, IfErr, OnErr, Some, None, true, false, nat_lt, map, length};
+ghost use Rattle.std.specs.Prelude.{slice_get, ◌≡◌, ◌≢◌, ◌++◌, ◌+◌, ◌<◌, ◌&&◌, IfOk, OnOk, IfErr, Some, None, true, false, nat_lt, map, length};
 ghost use Rattle.std.specs.Str.Lines.{strip_carriage_return};
 ghost use Rattle.std.specs.List.{flat_map};
 ghost use Rattle.av_types.specs.declared.fault.Fault.TheVariants.{OutOfMemory, TooManyStates};
@@ -22,7 +22,7 @@ fn without_return(line: &[u8]) -> &[u8]
     ensures { result.now ≡ strip_carriage_return line.now }
 {
     let length = line.len();
-    if 0 < length && line[length - 1] == 13 {
+    if 0 < length && line[length - 1] == b'\r' {
         &line[..length - 1]
     } else {
         line

@@ -7,9 +7,10 @@ use Rattle.av_types.specs.declared.place.Height.{Height}
 use Rattle.av_types.specs.Places.{same_pos}
 use Rattle.av_types.proofs.SamePlaces.{same_pos_is, same_pos-refl}
 use Rattle.av_flood.specs.Light.{Terrain, sides, below, above, north, south, west, east, IsAdjacent, cost, HasLight, IsLight}
-use Rattle.av_flood.specs.Board.{is_on, IsSettled}
+use Rattle.av_flood.specs.declared.board.Flood.{Flood}
+use Rattle.av_flood.specs.Board.{is_on, light_of, raw_of, IsSettled}
 use Rattle.av_flood.specs.Blocks.{IsNear}
-use Rattle.av_flood.specs.Flooding.{Matters, Levels, Waits, Has, IsNoted, IsMarked, IsSoundAt, IsFlooding, IsPushed, IsPopped, IsNone, IsGrown, IsBrought, IsOffered, WaitsIfEmitting, IsStarted}
+use Rattle.av_flood.specs.Flooding.{Matters, Levels, Waits, Has, IsNoted, IsMarked, IsSoundAt, IsFlooding, IsPushed, IsPopped, IsNone, IsGrown, IsBrought, IsOffered, CanOffer, HasOffered, WaitsIfEmitting, IsStarted}
 use Rattle.std.proofs.lemmas.Bool.{false≢true, cases_lt}
 use Rattle.std.proofs.lemmas.Bool.Decides.{eqb_tells}
 use Rattle.av_flood.proofs.Queues.{IsPushed-kept, IsPushed-only, IsPushed-there, IsPopped-back}
@@ -375,3 +376,34 @@ IsFlooding-lit t c n lit lit' todo same h =
 -- after a settling all light is at least of this level
 pub bright_settled : (lit lit' : Pos → ℕ) (p : Pos) (n : ℕ) → IsSettled lit lit' p n → ((q : Pos) → 0 < lit q → n ≤ lit q) → (q : Pos) → 0 < lit' q → n ≤ lit' q
 bright_settled lit lit' p n set bright q s = ⊎_elim (λ i. let e = i.1 in omega arith) (λ i. let b = bright q (let z : 0 < lit q = omega arith in z) in omega arith) (settled_cases lit lit' p n set q)
+
+-- nothing came
+pub HasOffered-none : (t : Terrain) (n : ℕ) (f : Flood) (todo : Levels) → IsMarked t f.chunk n (raw_of f) todo → HasOffered t n f f todo todo
+HasOffered-none t n f todo marked = record { same = λ q. refl; marked = marked; grown = IsGrown-none t f.chunk n todo; others = refl }
+
+-- light came once, and then again
+pub HasOffered-trans : (t : Terrain) (n : ℕ) (old mid new : Flood) (was between now : Levels) → mid.chunk ≡ old.chunk → HasOffered t n old mid was between → HasOffered t n mid new between now → HasOffered t n old new was now
+HasOffered-trans t n old mid new was between now chunk first second =
+    record {
+      same = λ q. second.same q ∙ first.same q;
+      marked = subst (λ k. IsMarked t k n (raw_of new) now) chunk second.marked;
+      grown = IsGrown-trans t old.chunk n was between now first.grown (subst (λ k. IsGrown t k n between now) chunk second.grown);
+      others = second.others ∙ first.others;
+    }
+
+-- more can come
+pub CanOffer-more : (t : Terrain) (h : Height) (n : ℕ) (old new : Flood) (was now : Levels) (p : Pos) → new.chunk ≡ old.chunk → new.height ≡ old.height → HasOffered t n old new was now → CanOffer t h n old was p → CanOffer t h n new now p
+CanOffer-more t h n old new was now p chunk height came can =
+    record {
+      level = can.level;
+      height = height ∙ can.height;
+      comes = can.comes;
+      bright = λ q s. subst (λ m. n ≤ m) (sym (came.same q)) (can.bright q (subst (λ m. 0 < m) (came.same q) s));
+      marked = subst (λ k. IsMarked t k n (raw_of new) now) (sym chunk) came.marked;
+    }
+
+-- what was offered from a board that has the same light
+pub IsOffered-later : (t : Terrain) (n : ℕ) (old mid : Flood) (was between now end : Levels) (q : Pos) → mid.chunk ≡ old.chunk → HasOffered t n old mid was between → IsGrown t old.chunk n now end → IsOffered t mid.chunk n (light_of mid) now q → IsOffered t old.chunk n (light_of old) end q
+IsOffered-later t n old mid was between now end q chunk came grown offered =
+    IsOffered-grown t old.chunk n (light_of old) now end q grown
+    (IsOffered-same t old.chunk n (light_of mid) (light_of old) now q (λ p. sym (came.same p)) (subst (λ k. IsOffered t k n (light_of mid) now q) chunk offered))

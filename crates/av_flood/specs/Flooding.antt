@@ -2,9 +2,10 @@
 use Rattle.std.specs.Prelude.{ℤ, ◌≡◌, ℕ, ◌+◌, ◌≤◌, ◌<◌, pos, ◌+ℤ◌, ◌*ℤ◌, ◌≤ℤ◌, List, [], ◌∷◌, IsTrue, Contains, ◌⊎◌, ◌++◌, ◌≢◌, map, length, slice_index_or}
 use Rattle.av_flood.specs.declared.buckets.Buckets.{Buckets}
 use Rattle.av_flood.specs.declared.board.Flood.{Flood}
-use Rattle.av_flood.specs.Board.{raw_of}
+use Rattle.av_flood.specs.Board.{light_of, raw_of}
 use Rattle.av_types.specs.declared.place.Pos.{Pos}
 use Rattle.av_types.specs.declared.place.ChunkPos.{ChunkPos}
+use Rattle.av_types.specs.declared.place.Height.{Height}
 use Rattle.av_flood.specs.Light.{Terrain, IsAdjacent, cost, HasLight}
 
 -- a coordinate is at most n from the chunk's sixteen
@@ -103,6 +104,21 @@ todo_of b n = slice_index_or (map (λ v. v.items) b.levels.items) n []
 -- so many wait in a level
 abbrev pub count_in : Buckets → ℕ → ℕ
 count_in b n = length (todo_of b n)
+
+-- a block has light of level n, which is to come to those beside it: no block that has its light has less
+pub record CanOffer (t : Terrain) (tall : Height) (n : ℕ) (f : Flood) (todo : Levels) (from : Pos) : Type 0 where
+  pub level : n < 16
+  pub height : f.height ≡ tall
+  pub comes : HasLight t from n
+  pub bright : (q : Pos) → 0 < light_of f q → n ≤ light_of f q
+  pub marked : IsMarked t f.chunk n (raw_of f) todo
+
+-- while light of level n came to blocks none was settled, and only below n more wait
+pub record HasOffered (t : Terrain) (n : ℕ) (old new : Flood) (was now : Levels) : Type 0 where
+  pub same : (q : Pos) → light_of new q ≡ light_of old q
+  pub marked : IsMarked t old.chunk n (raw_of new) now
+  pub grown : IsGrown t old.chunk n was now
+  pub others : now n ≡ was n
 
 -- if it emits light that may come to the chunk it waits for it
 pub record WaitsIfEmitting (t : Terrain) (c : ChunkPos) (todo : Levels) (p : Pos) : Type 0 where

@@ -1,5 +1,5 @@
 //! Blocks that wait for light, by its level.
-ghost use Rattle.std.specs.Prelude.{◌≡◌, ◌<◌, ◌+◌, ◌≢◌, ℕ, vec_len, OnOk, MatchOption, IfOk, length, [], ◌++◌, ◌∷◌, Contains};
+ghost use Rattle.std.specs.Prelude.{◌≡◌, ◌<◌, ℕ, vec_len, OnOk, MatchOption, IfOk, []};
 ghost use Rattle.av_types.specs.declared.place.Pos.{Pos};
 
 use av_types::Pos;
@@ -7,8 +7,8 @@ use std::alloc::{AllocError, Global};
 
 /// The blocks that wait for light of each level, from 0 to 15.
 #[derive(Drop)]
-pub struct Buckets {
-    pub levels: Vec<Vec<Pos>>,
+pub(crate) struct Buckets {
+    pub(crate) levels: Vec<Vec<Pos>>,
     ghost sixteen: { vec_len levels ≡ 16 },
 }
 
@@ -16,7 +16,7 @@ impl Buckets {
     ghost use Rattle.av_flood.specs.Flooding.{todo_of, IsPushed, IsPopped, IsNone};
 
     /// None waits.
-    pub fn new(alloc: Global) -> Result<Buckets, AllocError>
+    pub(crate) fn new(alloc: Global) -> Result<Buckets, AllocError>
         ensures { IfOk result (λ b. (n : ℕ) → todo_of b n ≡ []) }
     {
         let mut levels = Vec::new(alloc);
@@ -39,7 +39,7 @@ impl Buckets {
     }
 
     /// Lists in which none waits, over the memory of others if some are given.
-    pub fn empty(alloc: Global, used: Option<Buckets>) -> Result<Buckets, AllocError>
+    pub(crate) fn empty(alloc: Global, used: Option<Buckets>) -> Result<Buckets, AllocError>
         ensures { IfOk result (λ b. (n : ℕ) → todo_of b n ≡ []) }
     {
         let Some(used) = used else {
@@ -49,7 +49,7 @@ impl Buckets {
     }
 
     /// Adds a block.
-    pub fn push(&mut self, level: u8, pos: Pos) -> Result<(), AllocError>
+    pub(crate) fn push(&mut self, level: u8, pos: Pos) -> Result<(), AllocError>
         requires { level < 16 }
         ensures { OnOk result (IsPushed (todo_of self.old) (todo_of self.new) level pos) }
     {
@@ -59,7 +59,7 @@ impl Buckets {
     }
 
     /// Takes a block out.
-    pub fn pop(&mut self, level: u8) -> Option<Pos>
+    pub(crate) fn pop(&mut self, level: u8) -> Option<Pos>
         requires { level < 16 }
         ensures { MatchOption result (IsNone (todo_of self.old) (todo_of self.new) level)
             (IsPopped (todo_of self.old) (todo_of self.new) level) }

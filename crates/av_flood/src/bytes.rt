@@ -1,5 +1,5 @@
 //! Bytes of a board and half bytes of light.
-ghost use Rattle.std.specs.Prelude.{◌≡◌, ◌≤◌, ◌<◌, ◌+◌, ◌-◌, ◌*◌, ◌/◌, ◌%◌, ℕ, true, false, vec_len, length, All, IfOk, OnOk, slice_index, slice_index_or};
+ghost use Rattle.std.specs.Prelude.{◌≡◌, ◌≤◌, ◌<◌, ◌+◌, ◌-◌, ◌*◌, ◌/◌, ◌%◌, ℕ, true, false, vec_len, length, IfOk, OnOk, slice_index, slice_index_or};
 ghost use Rattle.av_flood.specs.Offsets.{away, apart};
 ghost use Rattle.av_flood.specs.Quiet.{IsQuiet, IsFenced, AreDark};
 ghost use Rattle.av_flood.specs.Board.{HasLightSoFar};

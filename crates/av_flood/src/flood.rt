@@ -6,7 +6,7 @@ ghost use Rattle.av_flood.specs.Light.{IsAdjacent, HasLight, IsLight};
 ghost use Rattle.av_flood.specs.Board.{light_of, raw_of, IsPlace};
 ghost use Rattle.av_flood.specs.Spots.{IsSpot};
 ghost use Rattle.av_flood.specs.Blocks.{IsFarFromEnds, MayBeLoaded, AreKnown};
-ghost use Rattle.av_flood.specs.Flooding.{todo_of, Matters, IsFresh, IsMarked, IsGrown, IsBrought, IsOffered, IsFlooding};
+ghost use Rattle.av_flood.specs.Flooding.{todo_of, Matters, IsFresh, IsMarked, IsGrown, IsBrought, IsOffered, IsFlooding, CanOffer, HasOffered};
 
 use crate::blocks::Blocks;
 use crate::board::Flood;
@@ -60,24 +60,16 @@ fn offer<B: Blocks>(
     level: u8,
     buckets: &mut Buckets,
 ) -> Result<(), AllocError>
-    requires level { level < 16 }
-    requires height { flood.old.height ≡ B.tall blocks.now }
+    requires can { CanOffer (B.terrain blocks.now) (B.tall blocks.now) level flood.old
+        (todo_of buckets.old) from }
     requires spot { IsSpot flood.old.chunk flood.old.height spot }
     requires beside { IsAdjacent from spot.pos }
-    requires comes { HasLight (B.terrain blocks.now) from level }
-    requires bright { (q : Pos) → 0 < light_of flood.old q → level ≤ light_of flood.old q }
-    requires marked { IsMarked (B.terrain blocks.now) flood.old.chunk level (raw_of flood.old)
-        (todo_of buckets.old) }
     ensures chunk { flood.new.chunk ≡ flood.old.chunk }
     ensures height { flood.new.height ≡ flood.old.height }
-    ensures same { OnOk result ((q : Pos) → light_of flood.new q ≡ light_of flood.old q) }
-    ensures marked { OnOk result (IsMarked (B.terrain blocks.now) flood.old.chunk level
-        (raw_of flood.new) (todo_of buckets.new)) }
-    ensures grown { OnOk result (IsGrown (B.terrain blocks.now) flood.old.chunk level
+    ensures came { OnOk result (HasOffered (B.terrain blocks.now) level flood.old flood.new
         (todo_of buckets.old) (todo_of buckets.new)) }
     ensures offered { OnOk result (IsOffered (B.terrain blocks.now) flood.old.chunk level
         (light_of flood.old) (todo_of buckets.new) spot.pos) }
-    ensures others { OnOk result (todo_of buckets.new level ≡ todo_of buckets.old level) }
 {
     let seen = flood.byte(spot);
     // Each block takes at least 1, so one compare tells most blocks beside one from those of which to look up more.
@@ -100,28 +92,20 @@ fn offer_both<B: Blocks>(
     level: u8,
     buckets: &mut Buckets,
 ) -> Result<(), AllocError>
-    requires level { level < 16 }
-    requires height { flood.old.height ≡ B.tall blocks.now }
+    requires can { CanOffer (B.terrain blocks.now) (B.tall blocks.now) level flood.old
+        (todo_of buckets.old) from }
     requires first { IsSpot flood.old.chunk flood.old.height first }
     requires second { IsSpot flood.old.chunk flood.old.height second }
     requires first_beside { IsAdjacent from first.pos }
     requires second_beside { IsAdjacent from second.pos }
-    requires comes { HasLight (B.terrain blocks.now) from level }
-    requires bright { (q : Pos) → 0 < light_of flood.old q → level ≤ light_of flood.old q }
-    requires marked { IsMarked (B.terrain blocks.now) flood.old.chunk level (raw_of flood.old)
-        (todo_of buckets.old) }
     ensures chunk { flood.new.chunk ≡ flood.old.chunk }
     ensures height { flood.new.height ≡ flood.old.height }
-    ensures same { OnOk result ((q : Pos) → light_of flood.new q ≡ light_of flood.old q) }
-    ensures marked { OnOk result (IsMarked (B.terrain blocks.now) flood.old.chunk level
-        (raw_of flood.new) (todo_of buckets.new)) }
-    ensures grown { OnOk result (IsGrown (B.terrain blocks.now) flood.old.chunk level
+    ensures came { OnOk result (HasOffered (B.terrain blocks.now) level flood.old flood.new
         (todo_of buckets.old) (todo_of buckets.new)) }
     ensures first { OnOk result (IsOffered (B.terrain blocks.now) flood.old.chunk level
         (light_of flood.old) (todo_of buckets.new) first.pos) }
     ensures second { OnOk result (IsOffered (B.terrain blocks.now) flood.old.chunk level
         (light_of flood.old) (todo_of buckets.new) second.pos) }
-    ensures others { OnOk result (todo_of buckets.new level ≡ todo_of buckets.old level) }
 {
     offer(flood, blocks, from, first, level, buckets)?;
     offer(flood, blocks, from, second, level, buckets)?;
@@ -136,25 +120,17 @@ fn spread<B: Blocks>(
     level: u8,
     buckets: &mut Buckets,
 ) -> Result<(), AllocError>
-    requires level { level < 16 }
-    requires height { flood.old.height ≡ B.tall blocks.now }
+    requires can { CanOffer (B.terrain blocks.now) (B.tall blocks.now) level flood.old
+        (todo_of buckets.old) spot.pos }
     requires inner { IsFarFromEnds spot.pos }
     requires place { IsPlace flood.old.chunk flood.old.height spot.pos spot.index }
-    requires comes { HasLight (B.terrain blocks.now) spot.pos level }
-    requires bright { (q : Pos) → 0 < light_of flood.old q → level ≤ light_of flood.old q }
-    requires marked { IsMarked (B.terrain blocks.now) flood.old.chunk level (raw_of flood.old)
-        (todo_of buckets.old) }
     ensures chunk { flood.new.chunk ≡ flood.old.chunk }
     ensures height { flood.new.height ≡ flood.old.height }
-    ensures same { OnOk result ((q : Pos) → light_of flood.new q ≡ light_of flood.old q) }
-    ensures marked { OnOk result (IsMarked (B.terrain blocks.now) flood.old.chunk level
-        (raw_of flood.new) (todo_of buckets.new)) }
-    ensures grown { OnOk result (IsGrown (B.terrain blocks.now) flood.old.chunk level
+    ensures came { OnOk result (HasOffered (B.terrain blocks.now) level flood.old flood.new
         (todo_of buckets.old) (todo_of buckets.new)) }
     ensures offered { OnOk result ((q : Pos) → IsAdjacent spot.pos q
         → IsOffered (B.terrain blocks.now) flood.old.chunk level (light_of flood.old)
         (todo_of buckets.new) q) }
-    ensures others { OnOk result (todo_of buckets.new level ≡ todo_of buckets.old level) }
 {
     if level < 2 {
         return Ok(());

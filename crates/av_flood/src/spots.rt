@@ -10,17 +10,17 @@ use av_types::Pos;
 /// A block, and where its byte stands; or a block beside one at the board's end, and where a byte stands that says that no
 /// light is of use.
 #[derive(Clone, Copy)]
-pub struct Spot {
-    pub pos: Pos,
-    pub index: usize,
+pub(crate) struct Spot {
+    pub(crate) pos: Pos,
+    pub(crate) index: usize,
 }
 
 /// How many blocks a block of the board is from its west, north and lower end.
 #[derive(Clone, Copy)]
-pub struct Steps {
-    pub x: u32,
-    pub z: u32,
-    pub y: u32,
+pub(crate) struct Steps {
+    pub(crate) x: u32,
+    pub(crate) z: u32,
+    pub(crate) y: u32,
 }
 
 impl Steps {

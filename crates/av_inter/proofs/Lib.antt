@@ -2,7 +2,6 @@ mod Cutting
 mod Ending
 mod Holding
 mod Homing
-mod Labels
 mod LookUps
 mod Mending
 mod OneTurn

@@ -35,7 +35,7 @@ use Rattle.av_inter.specs.Out.{Out}
 use Rattle.av_inter.specs.Whole.{read, whole}
 use Rattle.av_inter.specs.Lawful.{HasOut, is_home, is_ended, IsBlank, IsOut, listed, are_new, IsCore}
 use Rattle.av_inter.specs.Turned.{Turns}
-use Rattle.av_inter.proofs.Labels.{entries_of_append, entries_of_labelled}
+use Rattle.av_play.proofs.Labelling.{entries_of_append, entries_of_labelled}
 use Rattle.av_inter.proofs.LookUps.{AreOff, read_off, read_own, read_other, which}
 
 pub among_or : (q : Pos) (xs ys : List Entry) → is_among q (xs ++ ys) ≡ cond (is_among q xs) true (is_among q ys)

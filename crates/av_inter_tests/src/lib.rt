@@ -11,3 +11,5 @@ mod machine_tests;
 mod parts;
 #[cfg(test)]
 mod plan_tests;
+#[cfg(test)]
+mod turn_tests;

@@ -43,10 +43,10 @@ pub(crate) struct Scene<'a> {
 fn unread(fault: Fault) -> Result<Patch, AllocError>
     ensures { IfOk result (λ patch. (fault ≢ OutOfMemory) × (patch ≡ Unread)) }
 {
-    if fault.number() == 1 {
-        return Err(AllocError);
+    match fault {
+        Fault::OutOfMemory => Err(AllocError),
+        _ => Ok(Patch::Unread),
     }
-    Ok(Patch::Unread)
 }
 
 impl Scene<'_> {

@@ -70,7 +70,7 @@ fn are_distinct_by_order(alloc: Global, tags: &[Named]) -> Result<bool, AllocErr
 }
 
 /// Whether no name is there twice.
-pub fn are_distinct(alloc: Global, tags: &[Named]) -> Result<bool, AllocError>
+pub(crate) fn are_distinct(alloc: Global, tags: &[Named]) -> Result<bool, AllocError>
     ensures { IfOk result (λ b. b ≡ are_distinct (named_views tags.now)) }
 {
     if tags.len() <= FEW {

@@ -10,7 +10,7 @@ use std::alloc::{AllocError, Global};
 /// So many bytes, and those after them.
 #[inline]
 #[tactic(auto, unfolding(crate::specs::Reading::front_at))]
-pub fn front(bytes: &[u8], count: usize) -> Result<(&[u8], &[u8]), Fault>
+pub(crate) fn front(bytes: &[u8], count: usize) -> Result<(&[u8], &[u8]), Fault>
     ensures { Gives (λ p. (p.0.now, p.1.now)) result (front_at count bytes.now) }
 {
     if bytes.len() < count {
@@ -22,7 +22,7 @@ pub fn front(bytes: &[u8], count: usize) -> Result<(&[u8], &[u8]), Fault>
 /// A type's number.
 #[inline]
 #[tactic(auto, unfolding(crate::specs::Reading::type_at))]
-pub fn tag_type(bytes: &[u8]) -> Result<(TagType, &[u8]), Fault>
+pub(crate) fn tag_type(bytes: &[u8]) -> Result<(TagType, &[u8]), Fault>
     ensures { Gives (λ p. (p.0, p.1.now)) result (type_at bytes.now) }
 {
     let Some((number, rest)) = bytes.split_first() else {
@@ -37,7 +37,7 @@ pub fn tag_type(bytes: &[u8]) -> Result<(TagType, &[u8]), Fault>
 /// A text's length.
 #[inline]
 #[tactic(auto, unfolding(crate::specs::Reading::number_at, crate::specs::Reading::front_at))]
-pub fn text_length(bytes: &[u8]) -> Result<(u16, &[u8]), Fault>
+pub(crate) fn text_length(bytes: &[u8]) -> Result<(u16, &[u8]), Fault>
     ensures { Gives (λ p. (p.0, p.1.now)) result (number_at w16 bytes.now) }
 {
     match bytes.split_first_chunk::<2>() {
@@ -49,7 +49,7 @@ pub fn text_length(bytes: &[u8]) -> Result<(u16, &[u8]), Fault>
 /// An Int, or the length of a List or an array.
 #[inline]
 #[tactic(auto, unfolding(crate::specs::Reading::signed_at, crate::specs::Reading::number_at, crate::specs::Reading::front_at))]
-pub fn int(bytes: &[u8]) -> Result<(i32, &[u8]), Fault>
+pub(crate) fn int(bytes: &[u8]) -> Result<(i32, &[u8]), Fault>
     ensures { Gives (λ p. (p.0, p.1.now)) result (signed_at w32 bytes.now) }
 {
     match bytes.split_first_chunk::<4>() {
@@ -61,7 +61,7 @@ pub fn int(bytes: &[u8]) -> Result<(i32, &[u8]), Fault>
 /// A text's bytes, after their length.
 #[inline]
 #[tactic(auto, unfolding(crate::specs::Reading::text_at))]
-pub fn text(alloc: Global, bytes: &[u8]) -> Result<(Vec<u8>, &[u8]), Fault>
+pub(crate) fn text(alloc: Global, bytes: &[u8]) -> Result<(Vec<u8>, &[u8]), Fault>
     ensures { Gives (λ p. (p.0.items, p.1.now)) result (text_at bytes.now) }
 {
     let (length, rest) = text_length(bytes)?;
@@ -72,7 +72,7 @@ pub fn text(alloc: Global, bytes: &[u8]) -> Result<(Vec<u8>, &[u8]), Fault>
 /// An array's length.
 #[inline]
 #[tactic(auto, unfolding(crate::specs::Reading::length_at))]
-pub fn array_length(bytes: &[u8]) -> Result<(usize, &[u8]), Fault>
+pub(crate) fn array_length(bytes: &[u8]) -> Result<(usize, &[u8]), Fault>
     ensures read { Gives (λ p. (p.0, p.1.now)) result (length_at bytes.now) }
     ensures bound { IfOk result (λ p. p.0 < 2 ^ 31) }
 {
@@ -86,7 +86,7 @@ pub fn array_length(bytes: &[u8]) -> Result<(usize, &[u8]), Fault>
 /// A List's length. A negative one is that of an empty List.
 #[inline]
 #[tactic(auto, unfolding(crate::specs::Reading::list_length_at))]
-pub fn list_length(bytes: &[u8]) -> Result<(usize, &[u8]), Fault>
+pub(crate) fn list_length(bytes: &[u8]) -> Result<(usize, &[u8]), Fault>
     ensures { Gives (λ p. (p.0, p.1.now)) result (list_length_at bytes.now) }
 {
     let (length, rest) = int(bytes)?;
@@ -100,7 +100,7 @@ pub fn list_length(bytes: &[u8]) -> Result<(usize, &[u8]), Fault>
 /// An array's bytes, after their number.
 #[inline]
 #[tactic(auto, unfolding(crate::specs::Reading::bytes_at))]
-pub fn byte_array(alloc: Global, bytes: &[u8]) -> Result<(Vec<u8>, &[u8]), Fault>
+pub(crate) fn byte_array(alloc: Global, bytes: &[u8]) -> Result<(Vec<u8>, &[u8]), Fault>
     ensures { Gives (λ p. (p.0.items, p.1.now)) result (bytes_at bytes.now) }
 {
     let (length, rest) = array_length(bytes)?;
@@ -111,7 +111,7 @@ pub fn byte_array(alloc: Global, bytes: &[u8]) -> Result<(Vec<u8>, &[u8]), Fault
 /// The number of a Byte.
 #[inline]
 #[tactic(auto, unfolding(crate::specs::Reading::signed_at, crate::specs::Reading::number_at, crate::specs::Reading::front_at))]
-pub fn byte(bytes: &[u8]) -> Result<(i8, &[u8]), Fault>
+pub(crate) fn byte(bytes: &[u8]) -> Result<(i8, &[u8]), Fault>
     ensures { Gives (λ p. (p.0, p.1.now)) result (signed_at w8 bytes.now) }
 {
     match bytes.split_first_chunk::<1>() {
@@ -123,7 +123,7 @@ pub fn byte(bytes: &[u8]) -> Result<(i8, &[u8]), Fault>
 /// The number of a Short.
 #[inline]
 #[tactic(auto, unfolding(crate::specs::Reading::signed_at, crate::specs::Reading::number_at, crate::specs::Reading::front_at))]
-pub fn short(bytes: &[u8]) -> Result<(i16, &[u8]), Fault>
+pub(crate) fn short(bytes: &[u8]) -> Result<(i16, &[u8]), Fault>
     ensures { Gives (λ p. (p.0, p.1.now)) result (signed_at w16 bytes.now) }
 {
     match bytes.split_first_chunk::<2>() {
@@ -135,7 +135,7 @@ pub fn short(bytes: &[u8]) -> Result<(i16, &[u8]), Fault>
 /// The number of a Long.
 #[inline]
 #[tactic(auto, unfolding(crate::specs::Reading::signed_at, crate::specs::Reading::number_at, crate::specs::Reading::front_at))]
-pub fn long(bytes: &[u8]) -> Result<(i64, &[u8]), Fault>
+pub(crate) fn long(bytes: &[u8]) -> Result<(i64, &[u8]), Fault>
     ensures { Gives (λ p. (p.0, p.1.now)) result (signed_at w64 bytes.now) }
 {
     match bytes.split_first_chunk::<8>() {
@@ -147,7 +147,7 @@ pub fn long(bytes: &[u8]) -> Result<(i64, &[u8]), Fault>
 /// The number of a Float.
 #[inline]
 #[tactic(auto, unfolding(crate::specs::Reading::number_at, crate::specs::Reading::front_at))]
-pub fn float(bytes: &[u8]) -> Result<(u32, &[u8]), Fault>
+pub(crate) fn float(bytes: &[u8]) -> Result<(u32, &[u8]), Fault>
     ensures { Gives (λ p. (p.0, p.1.now)) result (number_at w32 bytes.now) }
 {
     match bytes.split_first_chunk::<4>() {
@@ -159,7 +159,7 @@ pub fn float(bytes: &[u8]) -> Result<(u32, &[u8]), Fault>
 /// The number of a Double.
 #[inline]
 #[tactic(auto, unfolding(crate::specs::Reading::number_at, crate::specs::Reading::front_at))]
-pub fn double(bytes: &[u8]) -> Result<(u64, &[u8]), Fault>
+pub(crate) fn double(bytes: &[u8]) -> Result<(u64, &[u8]), Fault>
     ensures { Gives (λ p. (p.0, p.1.now)) result (number_at w64 bytes.now) }
 {
     match bytes.split_first_chunk::<8>() {
@@ -181,7 +181,7 @@ fn ints(alloc: Global, bytes: &[u8]) -> Result<Vec<i32>, AllocError>
 
 /// The numbers of an Int Array, after their count.
 #[tactic(auto, unfolding(crate::specs::Reading::numbers_at))]
-pub fn int_array(alloc: Global, bytes: &[u8]) -> Result<(Vec<i32>, &[u8]), Fault>
+pub(crate) fn int_array(alloc: Global, bytes: &[u8]) -> Result<(Vec<i32>, &[u8]), Fault>
     ensures { Gives (λ p. (p.0.items, p.1.now)) result (numbers_at w32 bytes.now) }
 {
     let (length, rest) = array_length(bytes)?;
@@ -202,7 +202,7 @@ fn longs(alloc: Global, bytes: &[u8]) -> Result<Vec<i64>, AllocError>
 
 /// The numbers of a Long Array, after their count.
 #[tactic(auto, unfolding(crate::specs::Reading::numbers_at))]
-pub fn long_array(alloc: Global, bytes: &[u8]) -> Result<(Vec<i64>, &[u8]), Fault>
+pub(crate) fn long_array(alloc: Global, bytes: &[u8]) -> Result<(Vec<i64>, &[u8]), Fault>
     ensures { Gives (λ p. (p.0.items, p.1.now)) result (numbers_at w64 bytes.now) }
 {
     let (length, rest) = array_length(bytes)?;

@@ -1,5 +1,5 @@
 //! Tags read from their bytes.
-ghost use Rattle.std.specs.Prelude.{◌≡◌, IfErr, IfOk, length};
+ghost use Rattle.std.specs.Prelude.{IfErr, IfOk, length};
 ghost use Rattle.av_tags.specs.View.{document, view, views, named_view, named_views};
 ghost use Rattle.av_nbt.specs.Spelling.{SpellsDocument};
 ghost use Rattle.av_nbt.specs.Laws.{OneTag, OneDocument};

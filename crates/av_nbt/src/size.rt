@@ -1,6 +1,6 @@
 //! How many bytes are written of a document: the room that is asked for before it is written. A number above the greatest
 //! `usize` counts as that.
-ghost use Rattle.std.specs.Prelude.{◌≡◌, ◌*◌, length};
+ghost use Rattle.std.specs.Prelude.{◌≡◌, length};
 ghost use Rattle.av_tags.specs.Nbt.{items_of, members_of};
 ghost use Rattle.av_tags.specs.View.{document, view, views, named_view, named_views};
 ghost use Rattle.av_nbt.specs.Writing.{written, written_items, written_members, written_named, written_document};

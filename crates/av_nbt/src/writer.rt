@@ -1,10 +1,9 @@
 //! Tags written as bytes.
-ghost use Rattle.std.specs.Prelude.{◌≡◌, ◌<◌, ◌^◌, ◌∷◌, ◌++◌, [], length, IfErr, IfOk};
+ghost use Rattle.std.specs.Prelude.{◌≡◌, ◌<◌, ◌^◌, ◌++◌, [], length, IfErr, IfOk};
 ghost use Rattle.std.specs.List.{flat_map};
 ghost use Rattle.std.specs.Int.{w32, w64, to_be_bytes};
 ghost use Rattle.av_types.specs.declared.fault.Fault.TheVariants.{OutOfMemory};
-ghost use Rattle.av_tags.specs.Nbt.{list, items_of, members_of, tag_type_of};
-ghost use Rattle.av_tags.specs.TagTypes.{type_number};
+ghost use Rattle.av_tags.specs.Nbt.{list, items_of, members_of};
 ghost use Rattle.av_tags.specs.View.{document, view, views, named_view, named_views};
 ghost use Rattle.av_nbt.specs.Laws.{WrittenSpells, WrittenReadsBack};
 ghost use Rattle.av_nbt.specs.Appending.{Writes};

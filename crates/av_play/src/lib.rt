@@ -1,7 +1,9 @@
-//! Every interleaving of the parts of a tick gives the tick of one thread.
+//! One entry of a tick turned, and why every interleaving of the parts of a tick gives the tick of one thread.
 #![tactic(auto)]
 
 pub mod event;
 pub mod laws;
+pub mod turning;
 
 pub use event::{Event, Placed, Stage};
+pub use turning::turn_one;

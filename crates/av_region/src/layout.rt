@@ -1,5 +1,8 @@
 //! Sizes and numbers of a region file (<https://minecraft.wiki/w/Region_file_format>).
 
+/// The indices of a region's chunks, each of which has a location and a timestamp.
+pub const CHUNKS: usize = 1024;
+
 /// The bytes of a sector.
 pub(crate) const SECTOR: usize = 4096;
 
@@ -7,7 +10,7 @@ pub(crate) const SECTOR: usize = 4096;
 pub(crate) const LOCATIONS: usize = 4096;
 
 /// The bytes of a region's header: 1,024 locations and 1,024 timestamps, of 4 bytes each.
-pub(crate) const HEADER: usize = 8192;
+pub const HEADER: usize = 8192;
 
 /// The bytes of a chunk before its payload: the length field and the type.
 pub(crate) const CHUNK_HEADER: usize = 5;

@@ -8,5 +8,6 @@ pub mod reading;
 pub mod writing;
 
 pub use laws::written_holds;
+pub use layout::{CHUNKS, HEADER};
 pub use reading::Region;
 pub use writing::write;

@@ -4,7 +4,7 @@ ghost use Rattle.std.specs.Option.{IsSomeAnd};
 ghost use Rattle.std.specs.Result.{IsOkAnd};
 ghost use Rattle.av_types.specs.declared.fault.Fault.{Fault};
 ghost use Rattle.av_types.specs.declared.fault.Fault.TheVariants.{ShortHeader};
-ghost use Rattle.av_region.specs.Region.{IsShort, number_at, location_of, stamp_of, IsAbsent, Holds, IsChunkFault};
+ghost use Rattle.av_region.specs.Region.{IsShort, number_at, stamp_of, IsAbsent, Holds, IsChunkFault};
 
 use crate::layout::{CHUNK_HEADER, EXTERNAL, HEADER, LOCATIONS, SECTOR, UNCOMPRESSED};
 use av_types::Fault;

@@ -4,5 +4,5 @@
 pub mod files;
 pub mod names;
 
-pub use files::RegionFile;
+pub use files::{RegionFile, are_in_limits};
 pub use names::region_name;

@@ -10,17 +10,14 @@ use av_reports::edit_trouble::{EditTrouble, edit_cause};
 use av_reports::failure::{Failure, Reason};
 use av_reports::manner::{Manner, Progress};
 use av_survey::{Finding, survey};
-use av_types::Fault;
+use av_types::{Fault, MOST_TICKS, MOST_WORKERS};
 use av_words::STANDARD_INPUT;
 use std::io::{self, Input};
 use std::rt::Files;
 
-/// The most ticks that are run.
-const MOST_TICKS: u32 = 1_000_000;
-
 /// The count that is out of its limits, where it is not that of the files.
 fn count_cause(request: Request<'_>) -> Option<Reason> {
-    if request.workers < 1 || 8 < request.workers {
+    if request.workers < 1 || MOST_WORKERS < request.workers {
         Some(Reason::Workers(request.workers))
     } else if request.ticks > MOST_TICKS {
         Some(Reason::Ticks(request.ticks))

@@ -9,6 +9,7 @@ use av_folders::LockFiles;
 use av_region_files::RegionFile;
 use av_reports::failure::Failure;
 use av_reports::manner::Manner;
+use av_types::MOST_WORKERS;
 use av_words::RunWords;
 use std::io::{Input, Write};
 use std::thread::{self, Threads};
@@ -37,16 +38,13 @@ pub struct Request<'a> {
     pub again: bool,
 }
 
-/// The most workers of a run that are taken unasked.
-const MOST_WORKERS: usize = 8;
-
 /// How many processors there are, up to the most workers, or 1 where that can't be told.
 fn processors<R: Threads>(rt: &R) -> u32
     ensures least { 1 ≤ result }
     ensures most { result ≤ 8 }
 {
     match thread::available_parallelism(rt) {
-        Ok(processors) => processors.get().min(MOST_WORKERS) as u32,
+        Ok(processors) => processors.get().min(MOST_WORKERS as usize) as u32,
         Err(_) => 1,
     }
 }

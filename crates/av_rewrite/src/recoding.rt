@@ -3,11 +3,9 @@ ghost use Rattle.std.specs.Prelude.{◌≤◌, IfOk, map, option_map};
 ghost use Rattle.av_rewrite.specs.Regions.{AreMadeOf, AreStamps, IsMadeOf, IsRecoded, IsRegionMadeOf};
 
 use av_nbt::{decode, encode};
-use av_region::{Region, write};
+use av_region::{CHUNKS, Region, write};
 use av_types::{Fault, RegionPos};
 use std::alloc::Global;
-
-const CHUNKS: usize = 1024;
 
 /// A payload, decoded and encoded again.
 fn recode_payload(alloc: Global, payload: &[u8]) -> Result<Vec<u8>, Fault>

@@ -12,13 +12,11 @@ ghost use Rattle.av_rewrite.specs.Rewriting.{AreSlots, IsRewritten, IsSlotRead, 
 use crate::recoding::stamps_of;
 use av_chunk::{Chunk, ChunkLight, ChunkRest, Reading};
 use av_nbt::{decode, encode};
-use av_region::{Region, write};
+use av_region::{CHUNKS, Region, write};
 use av_rules::{Kinds, Rules};
 use av_state::StateTable;
-use av_types::{ChunkPos, Fault, Height, RegionPos};
+use av_types::{Fault, Height, RegionPos};
 use std::alloc::Global;
-
-const CHUNKS: usize = 1024;
 
 /// The region that is read and written.
 const REGION: RegionPos = RegionPos { x: 0, z: 0 };

@@ -23,7 +23,7 @@ use std::thread::Threads;
 
 /// The files that a world with its rest is written as after so many ticks, with its light. The gate is told of both before
 /// they are made.
-pub fn written<G: Gate>(
+pub(crate) fn written<G: Gate>(
     rt: &(impl Threads + Sync),
     alloc: Global,
     world: &World,

@@ -1,8 +1,8 @@
 //! Input that is refused, and files that are cut.
-use crate::given::{Given, at, file_after, flat, run_edits, run_files, run_region, table_with};
+use crate::given::{Given, at, file_after, flat, run_region, table_with};
 use av_image_tests::flat::{flat_region, push_chunk, push_pad, region};
 use av_run::RegionFile;
-use av_types::{ChunkPos, RegionPos};
+use av_types::ChunkPos;
 use std::alloc::Global;
 use std::process::Abort;
 use std::sync::Wait;

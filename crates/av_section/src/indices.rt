@@ -1,5 +1,5 @@
 //! The indices of a section's places into its palette.
-ghost use Rattle.std.specs.Prelude.{◌≡◌, ◌<◌, ◌≤◌, ◌^◌, ◌+◌, ◌⊎◌, ◌≢◌, ℕ, nat_eq, ◌-◌, IsTrue, Some, None, is_some, true, false, map, option_map, length, slice_index, slice_index_or, All, AllPairs, Contains, IfOk, IfErr, IfSome, IfNone, OnOk};
+ghost use Rattle.std.specs.Prelude.{◌≡◌, ◌<◌, ◌≤◌, ◌^◌, ◌⊎◌, ℕ, ◌-◌, IsTrue, Some, None, is_some, true, false, map, option_map, length, slice_index, slice_index_or, All, Contains, IfOk, IfErr, IfSome, IfNone, OnOk};
 ghost use Rattle.std.specs.List.Sorted.{IsStrictlyIncreasing};
 ghost use Rattle.std.specs.Option.{option_copied};
 ghost use Rattle.av_tags.specs.Shape.{each};

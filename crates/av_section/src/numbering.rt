@@ -1,7 +1,6 @@
 //! The states of a palette, numbered.
-ghost use Rattle.std.specs.Prelude.{◌≡◌, ◌≢◌, ◌≤◌, map, length, is_some, All, AllPairs, Contains, IfOk, IfErr};
+ghost use Rattle.std.specs.Prelude.{◌≡◌, map, length, is_some, IfOk, IfErr};
 ghost use Rattle.std.specs.List.{list_all};
-ghost use Rattle.av_types.specs.declared.fault.Fault.TheVariants.{OutOfMemory};
 ghost use Rattle.av_state.specs.BlockState.{meant};
 ghost use Rattle.av_state.specs.States.{state_of};
 ghost use Rattle.av_state.specs.Table.{states};

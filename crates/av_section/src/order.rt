@@ -1,5 +1,5 @@
 //! The order of a written palette: that of the first places of its numbers.
-ghost use Rattle.std.specs.Prelude.{◌≡◌, ◌≢◌, ◌<◌, ◌≤◌, nat_eq, length, IfOk, IfErr, All, AllPairs, slice_index};
+ghost use Rattle.std.specs.Prelude.{◌≡◌, ◌≢◌, ◌<◌, ◌≤◌, length, IfOk, All, AllPairs, slice_index};
 ghost use Rattle.av_section.specs.Distinct.{with_number};
 ghost use Rattle.av_section.specs.WrittenPalette.{KnowsIndices, IsWritten};
 

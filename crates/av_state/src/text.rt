@@ -1,8 +1,8 @@
 //! Names and properties whose texts stand elsewhere, as in a file's tags: a table is asked by them without a copy.
-ghost use Rattle.std.specs.Prelude.{◌≡◌, IfSome, option_map, length, true};
+ghost use Rattle.std.specs.Prelude.{◌≡◌, option_map, true};
 ghost use Rattle.std.specs.List.{list_all};
 ghost use Rattle.std.specs.Cmp.Lexicographic.{pointwise, slice_cmp};
-ghost use Rattle.av_state.specs.BlockState.{is_short_property, starts_above, keys_rise, is_storable, value_of, level_of};
+ghost use Rattle.av_state.specs.BlockState.{is_short_property, starts_above, keys_rise, is_storable, value_of};
 ghost use Rattle.av_state.specs.Order.{property_cmp};
 ghost use Rattle.av_state.specs.StateList.{same_property};
 ghost use Rattle.av_state.specs.Texts.{property_told, properties_told, state_told};

@@ -3,7 +3,7 @@ ghost use Rattle.std.specs.Prelude.{◌≤◌, ◌↔◌, ◌-◌, IsTrue};
 ghost use Rattle.av_region.specs.Region.{IsAbsent};
 ghost use Rattle.av_survey.specs.Counting.{HasChunks, AreChunksBelow, IsChunkTotal};
 
-use av_region::Region;
+use av_region::{CHUNKS, Region};
 use av_region_files::RegionFile;
 
 /// Whether a region has no chunk at an index.
@@ -23,7 +23,7 @@ fn chunks_of(region: &Region<'_>) -> u64
     ensures bound { result ≤ 1024 }
 {
     let mut chunks = 0;
-    for index in 0..1024 {
+    for index in 0..CHUNKS {
         if !is_absent(region, index) {
             chunks += 1;
         }

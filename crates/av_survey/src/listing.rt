@@ -1,29 +1,13 @@
 //! A list of files, judged before any of them is looked at.
-ghost use Rattle.std.specs.Prelude.{◌≡◌, ◌≢◌, IfOk, IfErr, IsPermutation, IsTrue, ◌↔◌};
-ghost use Rattle.std.specs.List.{All, list_any};
+ghost use Rattle.std.specs.Prelude.{◌≡◌, ◌≢◌, IfOk, IfErr, IsPermutation};
+ghost use Rattle.std.specs.List.{list_any};
 ghost use Rattle.av_types.specs.declared.fault.Fault.TheVariants.{OutOfMemory};
-ghost use Rattle.av_types.specs.Places.{IsInLimits};
 ghost use Rattle.av_survey.specs.Listing.{IsListInOrder, IsListFault, in_order, share_a_region};
 ghost use Rattle.av_region_files.specs.Regions.{same_region};
 
-use av_region_files::RegionFile;
-use av_types::{Fault, RegionPos};
+use av_region_files::{RegionFile, are_in_limits};
+use av_types::{Fault, MOST_FILES, RegionPos};
 use std::alloc::AllocError;
-
-/// The most files that are taken.
-const MOST_FILES: usize = 1024;
-
-/// Whether all regions are within the limits.
-fn are_in_limits(files: &[RegionFile]) -> bool
-    ensures { IsTrue result ↔ All (λ f. IsInLimits f.pos) files.now }
-{
-    for file in files {
-        if !file.pos.is_in_limits() {
-            return false;
-        }
-    }
-    true
-}
 
 /// Whether two positions are those of one region.
 fn is_same(a: RegionPos, b: RegionPos) -> bool

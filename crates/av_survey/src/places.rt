@@ -14,10 +14,10 @@ use std::alloc::{AllocError, Global};
 fn found(fault: Fault) -> Result<Option<Fault>, AllocError>
     ensures { IfOk result (λ o. (fault ≢ OutOfMemory) × (o ≡ Some fault)) }
 {
-    if fault.number() == 1 {
-        return Err(AllocError);
+    match fault {
+        Fault::OutOfMemory => Err(AllocError),
+        fault => Ok(Some(fault)),
     }
-    Ok(Some(fault))
 }
 
 /// The first fault of a payload, whose states are numbered alone. A payload has at most 1,044,475 bytes.

@@ -9,7 +9,7 @@ ghost use Rattle.av_survey.specs.Survey.{FindsInAll, FindsInFile, FindsUpTo, IsS
 use crate::finding::Finding;
 use crate::listing::judged;
 use crate::places::fault_at;
-use av_region::Region;
+use av_region::{CHUNKS, Region};
 use av_region_files::RegionFile;
 use av_types::{Fault, Height, RegionPos};
 use std::alloc::{AllocError, Global};
@@ -25,7 +25,7 @@ fn survey_places(
     ensures { IfOk result (λ found. FindsUpTo height pos region.now.bytes.now 1024 found.items) }
 {
     let mut found = Vec::new(alloc);
-    for index in 0..1024 {
+    for index in 0..CHUNKS {
         let fault = fault_at(alloc, region, pos, index, height)?;
         Finding::note(&mut found, pos, pos.chunk_at(index), fault)?;
     }

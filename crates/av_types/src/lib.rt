@@ -3,11 +3,13 @@
 
 pub mod fault;
 pub mod laws;
+pub mod limits;
 pub mod place;
 pub mod tick;
 pub mod water;
 
 pub use fault::Fault;
+pub use limits::{MOST_FILES, MOST_TICKS, MOST_WORKERS};
 pub use place::{ChunkPos, Height, Place, Pos, RegionPos, SectionPos};
 pub use tick::{Entry, Made};
 pub use water::{Direction, Wet};

@@ -3,8 +3,8 @@
 //! A section is 16 blocks a side, a chunk is a column of sections, and a region is 32 by 32 chunks
 //! (<https://minecraft.wiki/w/Chunk_format>, <https://minecraft.wiki/w/Region_file_format>).
 //! Each conversion divides with rounding down.
-ghost use Rattle.std.specs.Prelude.{◌≡◌, ◌<◌, ◌≤◌, ◌+◌, ◌*◌, ◌≤ℤ◌, ◌<ℤ◌, ◌+ℤ◌, ◌*ℤ◌, pos, negsuc, ℕ, IsTrue, ◌↔◌};
-ghost use Rattle.av_types.specs.Division.{divided, remainder};
+ghost use Rattle.std.specs.Prelude.{◌≡◌, ◌<◌, ◌≤◌, ◌+◌, ◌*◌, ◌≤ℤ◌, ◌+ℤ◌, ◌*ℤ◌, pos, negsuc, IsTrue, ◌↔◌};
+ghost use Rattle.av_types.specs.Division.{remainder};
 
 /// The position of a block, in blocks: `x` grows to the east, `y` upwards, `z` to the south
 /// (<https://minecraft.wiki/w/Coordinates>).

@@ -1,5 +1,5 @@
 //! The turn of a block.
-ghost use Rattle.std.specs.Prelude.{◌≡◌, ◌<◌, ◌+◌, ◌≤◌, ℕ, [], IsTrue};
+ghost use Rattle.std.specs.Prelude.{◌≡◌, ◌<◌, ◌≤◌, ℕ, [], IsTrue};
 ghost use Rattle.av_rules.specs.Kinds.{kind_count};
 ghost use Rattle.av_types.specs.declared.place.Pos.{Pos};
 ghost use Rattle.av_cells.specs.Kinds.{kinds_of};

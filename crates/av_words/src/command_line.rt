@@ -1,10 +1,10 @@
 //! The words of the command line, read by `clap`.
-ghost use Rattle.std.specs.Prelude.{◌≡◌, IfErr, IfNone, IfOk, IfSome, List, Option, Some, codes, false, map, ℕ, ℤ};
+ghost use Rattle.std.specs.Prelude.{◌≡◌, IfErr, IfNone, IfOk, IfSome, List, Option, Some, codes, false, map};
 ghost use Rattle.std.specs.Borrow.{Bor};
 ghost use Rattle.clap.specs.declared.builder.command.Command.TheViews.{out-Command};
 ghost use Rattle.clap.specs.Words.{app_of, found_of, kind_of, rows_of, subcommand_rows_of, Row};
 ghost use Rattle.av_words.specs.declared.command_line.commands.Words.{Words};
-ghost use Rattle.av_words.specs.CommandLine.{HasCount, HasFlag, HasNumber, HasRunValues, HasText, HasTexts, HasValues, IsReadFrom, IsWordsRefusal, LacksBlock, LacksCheck, LacksMap, LacksRun, LacksStates, MayHaveCount, MayHaveText};
+ghost use Rattle.av_words.specs.CommandLine.{HasRunValues, HasTexts, HasValues, IsReadFrom, IsWordsRefusal, LacksBlock, LacksCheck, LacksMap, LacksRun, LacksStates};
 ghost use Rattle.av_words.specs.CommandLine.{anvilwater, bare_app, block_app, check_app, map_app, name_of, run_app, states_app, with_counts, with_files, with_flags};
 
 use crate::arguments::{

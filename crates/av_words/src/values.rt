@@ -1,5 +1,5 @@
 //! The values of arguments, as `clap` read them.
-ghost use Rattle.std.specs.Prelude.{◌≡◌, IfNone, IfOk, IfSome, List, Option, ℕ, ℤ};
+ghost use Rattle.std.specs.Prelude.{IfNone, IfOk, IfSome, List, Option, ℕ, ℤ};
 ghost use Rattle.std.specs.Borrow.{Bor};
 ghost use Rattle.clap.specs.Words.{found_of, rows_of};
 ghost use Rattle.av_words.specs.CommandLine.{HasCount, HasFlag, HasNumber, HasText, HasTexts, MayHaveCount, MayHaveText};

@@ -1,5 +1,5 @@
 //! A chunk's parts, put together.
-ghost use Rattle.std.specs.Prelude.{◌≡◌, ◌<◌, List, length};
+ghost use Rattle.std.specs.Prelude.{◌<◌, List};
 ghost use Rattle.av_tags.specs.Nbt.{Document};
 ghost use Rattle.av_state.specs.BlockState.{BlockState};
 ghost use Rattle.av_chunk.specs.Reading.{IsReading};

@@ -3,7 +3,7 @@ ghost use Rattle.std.specs.Prelude.{◌≡◌, ◌<◌, [], Ok};
 ghost use Rattle.av_tags.specs.Place.{tag_of};
 ghost use Rattle.av_tags.specs.Shape.{compound_of, compounds_of};
 ghost use Rattle.av_tags.specs.View.{view, views, named_views};
-ghost use Rattle.av_document.specs.Chunk.{section_number, is_other, is_bad_list, sections_of, is_full_name, is_bad_chunk, is_elsewhere};
+ghost use Rattle.av_document.specs.Chunk.{is_other, is_bad_list, sections_of, is_full_name, is_bad_chunk, is_elsewhere};
 ghost use Rattle.av_chunk.specs.Working.{has_other, are_bad_items, admitted, checked_number, flag_of};
 
 use crate::reading::tags::{byte_at, int_at, items_at, text_at};

@@ -1,8 +1,7 @@
 //! The scheduled fluid ticks of a chunk.
 ghost use Rattle.std.specs.Prelude.{◌≡◌, false, IfOk, IfErr};
-ghost use Rattle.std.specs.Option.{option_copied};
 ghost use Rattle.av_tags.specs.View.{views, named_views};
-ghost use Rattle.av_document.specs.Ticks.{lies_in, fluid_of, is_water_name, numbers_of, water_entry, is_bad_tick};
+ghost use Rattle.av_document.specs.Ticks.{lies_in, is_water_name, numbers_of, water_entry, is_bad_tick};
 ghost use Rattle.av_chunk.specs.Working.{has_other};
 ghost use Rattle.av_chunk.specs.Rest.{opened};
 ghost use Rattle.av_chunk.specs.TicksRead.{AreTicks, AreBadTicks};

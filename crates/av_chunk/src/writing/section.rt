@@ -1,5 +1,5 @@
 //! One section of a chunk, written.
-ghost use Rattle.std.specs.Prelude.{◌≡◌, ◌<◌, length, [], ◌∷◌, ◌++◌, codes, option_map, IfOk};
+ghost use Rattle.std.specs.Prelude.{◌≡◌, ◌<◌, length, [], ◌++◌, option_map, IfOk};
 ghost use Rattle.std.specs.Option.{option_copied};
 ghost use Rattle.av_tags.specs.Nbt.{byte};
 ghost use Rattle.av_tags.specs.View.{view, named_views};

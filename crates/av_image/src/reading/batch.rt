@@ -3,11 +3,8 @@ ghost use Rattle.std.specs.Prelude.{◌≡◌, ◌+◌, ◌<◌, ◌≤◌, ◌^
 ghost use Rattle.std.proofs.Props.{props};
 ghost use Rattle.av_types.specs.Places.{IsInLimits};
 
-use av_region::Region;
+use av_region::{CHUNKS, Region};
 use av_types::{Height, RegionPos};
-
-/// How many places a region has.
-pub(crate) const PLACES: usize = 1024;
 
 /// How many bytes the payloads of a batch have together at most. What is made of them stands at once, and a document can take
 /// some sixty times the bytes of its payload. A single payload has fewer.
@@ -84,7 +81,7 @@ pub(crate) fn extent_from(region: &Region<'_>, first: usize) -> Extent
         payloads: 0,
         bytes: 0,
     };
-    for index in first..PLACES {
+    for index in first..CHUNKS {
         let Some(bytes) = payload_bytes(region, index) else {
             break;
         };

@@ -1,5 +1,5 @@
 //! Region files, read as a world and a rest by several threads.
-ghost use Rattle.std.specs.Prelude.{◌≡◌, ◌≢◌, IfOk, IfErr, IsTrue, ◌↔◌, false, map, List};
+ghost use Rattle.std.specs.Prelude.{◌≡◌, ◌≢◌, IfOk, IfErr, false, map, List};
 ghost use Rattle.std.specs.List.{All};
 ghost use Rattle.av_types.specs.declared.fault.Fault.TheVariants.{OutOfMemory};
 ghost use Rattle.av_types.specs.Places.{IsInLimits};
@@ -20,25 +20,13 @@ ghost use Rattle.av_image.specs.Loading.{placed_order, region_before, comes_afte
 use crate::reading::regions::{ReadRegion, read_regions};
 use crate::reading::splits::{LoadedChunk, split_regions, world_of};
 use crate::rest::Rest;
-use av_region_files::RegionFile;
+use av_region_files::{RegionFile, are_in_limits};
 use av_rules::Rules;
 use av_state::StateTable;
 use av_types::{Fault, Height, RegionPos};
 use av_world::World;
 use std::alloc::{AllocError, Global};
 use std::thread::Threads;
-
-/// Whether all regions are within the limits.
-fn are_in_limits(files: &[RegionFile]) -> bool
-    ensures { IsTrue result ↔ All (λ f. IsInLimits f.pos) files.now }
-{
-    for file in files {
-        if !file.pos.is_in_limits() {
-            return false;
-        }
-    }
-    true
-}
 
 /// The files by (z, x) of their regions.
 fn files_in_order(files: Vec<RegionFile>) -> Result<Vec<RegionFile>, AllocError>

@@ -17,7 +17,7 @@ use std::alloc::Global;
 
 /// What a region has at an index.
 #[derive(Drop)]
-pub enum Place {
+pub(crate) enum Place {
     /// No chunk.
     Absent,
     /// The payload of a chunk that is not full.

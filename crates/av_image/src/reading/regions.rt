@@ -13,10 +13,10 @@ ghost use Rattle.av_image.specs.Placed.{ArePlacesRead, IsRegionRead, AreRegionsR
 ghost use Rattle.av_image.specs.Ways.{GoesOn, Stops};
 
 use crate::reading::ahead::{read_ahead, take_at};
-use crate::reading::batch::{Batch, PLACES, extent_from};
+use crate::reading::batch::{Batch, extent_from};
 use crate::reading::places::{Place, read_place};
 use av_chunk::Reading;
-use av_region::Region;
+use av_region::{CHUNKS, Region};
 use av_region_files::RegionFile;
 use av_state::StateTable;
 use av_types::{Fault, Height, RegionPos};
@@ -25,10 +25,10 @@ use std::thread::Threads;
 
 /// A region that was read.
 #[derive(Drop)]
-pub struct ReadRegion {
-    pub pos: RegionPos,
-    pub stamps: Vec<u32>,
-    pub places: Vec<Place>,
+pub(crate) struct ReadRegion {
+    pub(crate) pos: RegionPos,
+    pub(crate) stamps: Vec<u32>,
+    pub(crate) places: Vec<Place>,
 }
 
 /// All timestamps of a region.
@@ -37,7 +37,7 @@ pub(crate) fn read_stamps(alloc: Global, region: &Region<'_>) -> Result<Vec<u32>
     ensures small { IfOk result (λ stamps. All (λ n. n < 2 ^ 32) stamps.items) }
 {
     let mut stamps = Vec::new(alloc);
-    for index in 0..1024 {
+    for index in 0..CHUNKS {
         stamps.push(region.stamp(index))?;
     }
     Ok(stamps)
@@ -95,7 +95,7 @@ fn read_places(
 {
     let mut places = Vec::new(alloc);
     let mut first = 0;
-    while first < PLACES {
+    while first < CHUNKS {
         let batch = Batch {
             region: *region,
             pos,

@@ -16,9 +16,9 @@ use std::alloc::{AllocError, Global};
 
 /// A loaded chunk and its place.
 #[derive(Drop)]
-pub struct LoadedChunk {
-    pub at: ChunkPos,
-    pub chunk: Chunk,
+pub(crate) struct LoadedChunk {
+    pub(crate) at: ChunkPos,
+    pub(crate) chunk: Chunk,
 }
 
 /// What stays of a place. A chunk goes to those that were found.

@@ -8,6 +8,7 @@ use crate::rest::{RegionRest, Slot};
 use crate::writing::job::RegionJob;
 use crate::writing::payloads::{Payload, loaded_payload, place_payload};
 use av_dealt::{Dealt, Maker, gathered, taken};
+use av_region::CHUNKS;
 use rayon::current_num_threads;
 use rayon::prelude::*;
 use std::alloc::{AllocError, Global};
@@ -28,7 +29,7 @@ impl<'a> Maker for RegionJob<'a> {
     ghost is_of = { IsMade };
 
     fn places(&self) -> usize {
-        1024
+        CHUNKS
     }
 
     fn bench(&self) {}
@@ -91,8 +92,8 @@ fn in_order<'a>(
     requires placed { AreInPlace (IsMade job.now) places.items }
     ensures { IfOk result (λ ps. map (option_map payload_items) ps.items ≡ job_payloads job.now) }
 {
-    let mut payloads = Vec::with_capacity(alloc, 1024)?;
-    for index in 0..1024 {
+    let mut payloads = Vec::with_capacity(alloc, CHUNKS)?;
+    for index in 0..CHUNKS {
         let payload = payload_at(alloc, job, index, places[index].take())?;
         payloads.push(payload)?;
     }

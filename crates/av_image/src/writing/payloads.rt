@@ -22,7 +22,7 @@ use std::convert::AsSlice;
 
 /// What is written for a chunk.
 #[derive(Drop)]
-pub enum Payload<'a> {
+pub(crate) enum Payload<'a> {
     /// The payload of a chunk that is not full, as it was read.
     Kept(&'a [u8]),
     /// The payload of a loaded chunk.

@@ -38,22 +38,23 @@ spread-requires-clause-place g c =
     subst (λ k. IsPlace k c.settle_at.new.self.height c.spot-spot.result.pos c.spot-spot.result.index) (sym c.settle_at.ensures.chunk)
     (subst (λ h. IsPlace c.loop-pos.flood.chunk h c.spot-spot.result.pos c.spot-spot.result.index) (sym c.settle_at.ensures.height) place)
 
-pub spread-requires-clause-comes : goal.spread-requires-clause-comes
-spread-requires-clause-comes g c =
-    let sound = next_sound _ _ _ _ _ _ _ (c.in-Some.ensures {u = tt}) c.loop-pos.invariant.flooding in
-    subst (λ p. HasLight (g.B.Blocks.terrain c.args.blocks.now) p c.args.level) (sym c.spot-spot.ensures.pos) sound.comes
-
-pub spread-requires-clause-bright : goal.spread-requires-clause-bright
-spread-requires-clause-bright g c =
-    bright_settled (light_of c.loop-pos.flood) (light_of c.settle_at.new.self) c.spot-spot.result.pos c.args.level
-    (settled_light (raw_of c.loop-pos.flood) (raw_of c.settle_at.new.self) c.spot-spot.result.pos c.args.level c.settle_at.ensures.bytes) c.loop-pos.invariant.flooding.bright
-
-pub spread-requires-clause-marked : goal.spread-requires-clause-marked
-spread-requires-clause-marked g c =
+pub spread-requires-clause-can : goal.spread-requires-clause-can
+spread-requires-clause-can g c =
     let t = g.B.Blocks.terrain c.args.blocks.now in
+    let f = c.loop-pos.flood in
+    let inv = c.loop-pos.invariant in
+    let p = c.spot-spot.result.pos in
+    let sound = next_sound _ _ _ _ _ _ _ (c.in-Some.ensures {u = tt}) inv.flooding in
     let popped = subst (IsPopped (todo_of c.loop-pos.buckets) (todo_of c.pop.new.self) c.args.level) (sym c.spot-spot.ensures.pos) (c.in-Some.ensures {u = tt}) in
-    subst (λ k. IsMarked t k c.args.level (raw_of c.settle_at.new.self) (todo_of c.pop.new.self)) (sym c.settle_at.ensures.chunk)
-    (IsMarked-settled t c.loop-pos.flood.chunk c.args.level (raw_of c.loop-pos.flood) (raw_of c.settle_at.new.self) _ _ c.spot-spot.result.pos c.requires.low popped c.settle_at.ensures.bytes c.loop-pos.invariant.marked)
+    record {
+      level = c.requires.high;
+      height = c.settle_at.ensures.height ∙ inv.height ∙ c.requires.height;
+      comes = subst (λ q. HasLight t q c.args.level) (sym c.spot-spot.ensures.pos) sound.comes;
+      bright = bright_settled (light_of f) (light_of c.settle_at.new.self) p c.args.level
+          (settled_light (raw_of f) (raw_of c.settle_at.new.self) p c.args.level c.settle_at.ensures.bytes) inv.flooding.bright;
+      marked = subst (λ k. IsMarked t k c.args.level (raw_of c.settle_at.new.self) (todo_of c.pop.new.self)) (sym c.settle_at.ensures.chunk)
+          (IsMarked-settled t f.chunk c.args.level (raw_of f) (raw_of c.settle_at.new.self) _ _ p c.requires.low popped c.settle_at.ensures.bytes inv.marked);
+    }
 
 pub loop-pos-preserved-in-Continue-1 : goal.loop-pos-preserved-in-Continue-1
 loop-pos-preserved-in-Continue-1 g c =
@@ -67,14 +68,14 @@ loop-pos-preserved-in-Continue-1 g c =
     let dark : light_of f p ≡ 0 = lit_raw (raw_of f p) ∙ omega (arith, is, c.if-byte-lt128.true) in
     let popped = subst (IsPopped (todo_of c.loop-pos.buckets) (todo_of c.pop.new.self) c.args.level) (sym c.spot-spot.ensures.pos) (c.in-Some.ensures {u = tt}) in
     let chunk = c.settle_at.ensures.chunk in
-    let grown = subst (λ k. IsGrown t k c.args.level (todo_of c.pop.new.self) (todo_of c.spread.new.buckets)) chunk spread.grown in
+    let grown = subst (λ k. IsGrown t k c.args.level (todo_of c.pop.new.self) (todo_of c.spread.new.buckets)) chunk spread.came.grown in
     let offered = λ (q : Pos) (a : IsAdjacent p q). subst (λ k. IsOffered t k c.args.level (light_of c.settle_at.new.self) (todo_of c.spread.new.buckets) q) chunk (spread.offered q a) in
     record {
       chunk = spread.chunk ∙ chunk ∙ inv.chunk;
       height = spread.height ∙ c.settle_at.ensures.height ∙ inv.height;
-      marked = subst (λ k. IsMarked t k c.args.level (raw_of c.spread.new.flood) (todo_of c.spread.new.buckets)) (sym spread.chunk) spread.marked;
+      marked = subst (λ k. IsMarked t k c.args.level (raw_of c.spread.new.flood) (todo_of c.spread.new.buckets)) (sym spread.chunk) spread.came.marked;
       flooding = subst (λ k. IsFlooding t k c.args.level (light_of c.spread.new.flood) (todo_of c.spread.new.buckets)) (sym (spread.chunk ∙ chunk))
-          (IsFlooding-lit _ _ _ (light_of c.settle_at.new.self) (light_of c.spread.new.flood) _ spread.same
+          (IsFlooding-lit _ _ _ (light_of c.settle_at.new.self) (light_of c.spread.new.flood) _ spread.came.same
           (IsFlooding-settled _ _ _ (light_of f) (light_of c.settle_at.new.self) _ _ _ _ c.requires.low popped dark grown offered
           (settled_light (raw_of f) (raw_of c.settle_at.new.self) p c.args.level c.settle_at.ensures.bytes) inv.flooding));
     }

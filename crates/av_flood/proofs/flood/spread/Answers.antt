@@ -1,8 +1,8 @@
 use Rattle.std.proofs.Common.{arith, sym, subst, ◌∙◌}
 use Rattle.av_types.specs.declared.place.Pos.{Pos}
 use Rattle.av_flood.specs.Board.{light_of}
-use Rattle.av_flood.specs.Flooding.{IsGrown, IsOffered, todo_of}
-use Rattle.av_flood.proofs.Floods.{IsGrown-trans, IsOffered-grown, IsOffered-same, IsOffered-all}
+use Rattle.av_flood.specs.Flooding.{HasOffered, IsGrown, IsOffered, todo_of}
+use Rattle.av_flood.proofs.Floods.{CanOffer-more, HasOffered-trans, IsGrown-none, IsGrown-trans, IsOffered-grown, IsOffered-later, IsOffered-all}
 use Rattle.av_flood.proofs.flood.spread.Goals as goal
 
 pub offer_both-requires-clause-first_beside : goal.offer_both-requires-clause-first_beside
@@ -23,22 +23,26 @@ offer_both-requires-3-clause-first_beside g c = (4, omega arith, sym c.spot_west
 pub offer_both-requires-3-clause-second_beside : goal.offer_both-requires-3-clause-second_beside
 offer_both-requires-3-clause-second_beside g c = (5, omega arith, sym c.spot_east-east.ensures.pos)
 
-pub returns-clause-same : goal.returns-clause-same
-returns-clause-same g c =
-    let one = c.in_ok-offer_both.ensures {u = tt} in
-    let two = c.in_ok-offer_both-2.ensures {u = tt} in
-    let three = c.in_ok-offer_both-3.ensures {u = tt} in
-    λ q. three.same q ∙ two.same q ∙ one.same q
+pub offer_both-requires-clause-can : goal.offer_both-requires-clause-can
+offer_both-requires-clause-can g c = c.requires.can
 
-pub returns-clause-grown : goal.returns-clause-grown
-returns-clause-grown g c =
+pub offer_both-requires-2-clause-can : goal.offer_both-requires-2-clause-can
+offer_both-requires-2-clause-can g c =
+    let one = c.in_ok-offer_both.ensures {u = tt} in
+    CanOffer-more _ _ _ _ _ _ _ _ one.chunk one.height one.came c.requires.can
+
+pub offer_both-requires-3-clause-can : goal.offer_both-requires-3-clause-can
+offer_both-requires-3-clause-can g c =
+    let one = c.in_ok-offer_both.ensures {u = tt} in
+    let two = c.in_ok-offer_both-2.ensures {u = tt} in
+    CanOffer-more _ _ _ _ _ _ _ _ two.chunk two.height two.came (CanOffer-more _ _ _ _ _ _ _ _ one.chunk one.height one.came c.requires.can)
+
+pub returns-clause-came : goal.returns-clause-came
+returns-clause-came g c =
     let one = c.in_ok-offer_both.ensures {u = tt} in
     let two = c.in_ok-offer_both-2.ensures {u = tt} in
     let three = c.in_ok-offer_both-3.ensures {u = tt} in
-    let t = g.B.Blocks.terrain c.args.blocks.now in
-    let second = subst (λ k. IsGrown t k c.args.level (todo_of c.offer_both.new.buckets) (todo_of c.offer_both-2.new.buckets)) one.chunk two.grown in
-    let third = subst (λ k. IsGrown t k c.args.level (todo_of c.offer_both-2.new.buckets) (todo_of c.offer_both-3.new.buckets)) (two.chunk ∙ one.chunk) three.grown in
-    IsGrown-trans _ _ _ _ _ _ one.grown (IsGrown-trans _ _ _ _ _ _ second third)
+    HasOffered-trans _ _ _ _ _ _ _ _ (two.chunk ∙ one.chunk) (HasOffered-trans _ _ _ _ _ _ _ _ one.chunk one.came two.came) three.came
 
 pub returns-clause-offered : goal.returns-clause-offered
 returns-clause-offered g c =
@@ -48,16 +52,18 @@ returns-clause-offered g c =
     let t = g.B.Blocks.terrain c.args.blocks.now in
     let f = c.args.flood.now in
     let n = c.args.level in
-    let second = subst (λ k. IsGrown t k n (todo_of c.offer_both.new.buckets) (todo_of c.offer_both-2.new.buckets)) one.chunk two.grown in
-    let third = subst (λ k. IsGrown t k n (todo_of c.offer_both-2.new.buckets) (todo_of c.offer_both-3.new.buckets)) (two.chunk ∙ one.chunk) three.grown in
+    let start = todo_of c.args.buckets.now in
+    let first = todo_of c.offer_both.new.buckets in
+    let second = todo_of c.offer_both-2.new.buckets in
     let end = todo_of c.offer_both-3.new.buckets in
-    let after_one = λ (q : Pos) (o : IsOffered t f.chunk n (light_of f) (todo_of c.offer_both.new.buckets) q). IsOffered-grown t f.chunk n (light_of f) _ end q third (IsOffered-grown t f.chunk n (light_of f) _ _ q second o) in
-    let after_two = λ (q : Pos) (o : IsOffered t c.offer_both.new.flood.chunk n (light_of c.offer_both.new.flood) (todo_of c.offer_both-2.new.buckets) q).
-    IsOffered-grown t f.chunk n (light_of f) _ end q third (IsOffered-same t f.chunk n (light_of c.offer_both.new.flood) (light_of f) _ q (λ p. sym (one.same p))
-    (subst (λ k. IsOffered t k n (light_of c.offer_both.new.flood) (todo_of c.offer_both-2.new.buckets) q) one.chunk o)) in
+    let second_grown = subst (λ k. IsGrown t k n first second) one.chunk two.came.grown in
+    let third_grown = subst (λ k. IsGrown t k n second end) (two.chunk ∙ one.chunk) three.came.grown in
+    let both : HasOffered t n f c.offer_both-2.new.flood start second = HasOffered-trans _ _ _ _ _ _ _ _ one.chunk one.came two.came in
+    let after_one = λ (q : Pos) (o : IsOffered t f.chunk n (light_of f) first q). IsOffered-grown t f.chunk n (light_of f) first end q (IsGrown-trans _ _ _ _ _ _ second_grown third_grown) o in
+    let after_two = λ (q : Pos) (o : IsOffered t c.offer_both.new.flood.chunk n (light_of c.offer_both.new.flood) second q).
+    IsOffered-later t n f c.offer_both.new.flood start first second end q one.chunk one.came third_grown o in
     let after_three = λ (q : Pos) (o : IsOffered t c.offer_both-2.new.flood.chunk n (light_of c.offer_both-2.new.flood) end q).
-    IsOffered-same t f.chunk n (light_of c.offer_both-2.new.flood) (light_of f) end q (λ p. sym (two.same p ∙ one.same p))
-    (subst (λ k. IsOffered t k n (light_of c.offer_both-2.new.flood) end q) (two.chunk ∙ one.chunk) o) in
+    IsOffered-later t n f c.offer_both-2.new.flood start second end end q (two.chunk ∙ one.chunk) both (IsGrown-none t f.chunk n end) o in
     IsOffered-all t f.chunk n (light_of f) end c.args.spot.pos
     (subst (IsOffered t f.chunk n (light_of f) end) c.spot_below-below.ensures.pos (after_one c.spot_below-below.result.pos one.first))
     (subst (IsOffered t f.chunk n (light_of f) end) c.spot_above-above.ensures.pos (after_one c.spot_above-above.result.pos one.second))

@@ -1,7 +1,7 @@
 use Rattle.std.proofs.Common.{arith}
 use Rattle.std.proofs.lemmas.Grind.{common_steps}
-use Rattle.av_crew.proofs.MoreTurned.{labelled_push}
-use Rattle.av_crew.proofs.turns.put_aside.Goals as goal
+use Rattle.av_play.proofs.Labelling.{labelled_push}
+use Rattle.av_play.proofs.turning.put_aside.Goals as goal
 
 pub loop-entry-preserved : goal.loop-entry-preserved
 loop-entry-preserved c =

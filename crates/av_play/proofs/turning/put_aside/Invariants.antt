@@ -1,6 +1,6 @@
 use Rattle.std.proofs.Common.{◌≡◌, ◌≤◌, ◌+◌, ◌++◌, ◌-◌, take, vec_len, vec_capacity}
 use Rattle.av_play.specs.Play.{labelled}
-use Rattle.av_crew.proofs.turns.put_aside.Given as goal
+use Rattle.av_play.proofs.turning.put_aside.Given as goal
 
 abbrev pub invariant-loop-entry : goal.invariant-loop-entry
 invariant-loop-entry l =
