@@ -33,10 +33,11 @@ pub data IsUnreadFolder (folder : List ℕ) (e : Fault) : Type 0 where
   listing : IsDevice folder e → IsUnreadFolder folder e
   file : (region : RegionPos) → IsDevice (region_name_of region) e → IsUnreadFolder folder e
 
--- a folder tells its name, what was done about a run that was cut off, the counts, and whether its files have their places
-abbrev pub folder_account : Option (List ℕ) → Option Repair → ℕ → ℕ → Bool → Account
-folder_account folder repair failures handed placed =
-    record { folder = folder; repair = repair; failures = failures; handed = handed; placed = placed; kept = None }
+-- a folder tells its name, what was done about a run that was cut off, the counts, whether its files have their places, and whether all is
+-- told of them
+abbrev pub folder_account : Option (List ℕ) → Option Repair → ℕ → ℕ → Bool → Bool → Account
+folder_account folder repair failures handed placed closed =
+    record { folder = folder; repair = repair; failures = failures; handed = handed; placed = placed; closed = closed; kept = None }
 
 -- region files as they are read: in the byte order of their names, each name once
 abbrev pub AreInNameOrder : List RegionPos → Type 0

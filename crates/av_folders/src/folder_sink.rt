@@ -105,6 +105,7 @@ pub struct FolderSink<'a, R> {
     failures: u64,
     handed: u64,
     is_placed: bool,
+    is_closed: bool,
     failed: Option<FailedFile>,
 }
 
@@ -159,6 +160,7 @@ impl<'a, R: LockFiles + AllocGlobal + Clone + Drop> FolderSink<'a, R> {
             failures: 0,
             handed: 0,
             is_placed: false,
+            is_closed: false,
             failed: None,
         }
     }
@@ -195,7 +197,7 @@ impl<'a, R: LockFiles + AllocGlobal + Clone + Drop> FolderSink<'a, R> {
 }
 
 impl<'a, R: LockFiles + AllocGlobal + Clone + Drop> Sink for FolderSink<'a, R> {
-    ghost account = { λ s. folder_account (option_map string_bytes s.folder) s.repaired s.failures s.handed s.is_placed };
+    ghost account = { λ s. folder_account (option_map string_bytes s.folder) s.repaired s.failures s.handed s.is_placed s.is_closed };
 
     fn failures(&self) -> u64 {
         self.failures
@@ -262,7 +264,10 @@ impl<'a, R: LockFiles + AllocGlobal + Clone + Drop> OutputFolder for FolderSink<
 
     fn close(&mut self) -> Result<(), SinkFailed> {
         match self.close_placed() {
-            Ok(()) => Ok(()),
+            Ok(()) => {
+                self.is_closed = true;
+                Ok(())
+            }
             Err(refused) => {
                 self.failed = failed_step(self.rt.alloc(), &self.folder, refused);
                 Err(SinkFailed)

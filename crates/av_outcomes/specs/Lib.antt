@@ -1,3 +1,4 @@
 pub mod Handing
 pub mod Telling
 pub mod Closing
+pub mod Steps

@@ -1,6 +1,6 @@
 //! The folder of a run: what is said of it when it is found, and when it is left.
-ghost use Rattle.std.specs.Prelude.{◌≡◌, ◌⊎◌};
-ghost use Rattle.av_outcomes.specs.Closing.{goes_on};
+ghost use Rattle.std.specs.Prelude.{◌≡◌};
+ghost use Rattle.av_outcomes.specs.Closing.{IsLeft, goes_on};
 
 use av_folders::failing::failure_of_folder;
 use av_folders::note_removed;
@@ -38,14 +38,13 @@ pub fn close<S: OutputFolder, E: Write>(
     manner: Manner,
     err: &mut E,
 ) -> u8
-    ensures status { (result ≡ status) ⊎ (result ≡ FAULT) }
-    ensures same { S.account sink.new ≡ S.account sink.old }
+    ensures { IsLeft (S.account sink.old) (S.account sink.new) status result }
 {
     if status != 0 {
         return status;
     }
     match sink.close() {
-        Ok(()) => status,
+        Ok(()) => 0,
         Err(_) => report_folder(alloc, folder, sink, manner, err),
     }
 }

@@ -25,6 +25,11 @@ fn is_told(done: u32, all: u32, most: u32) -> bool
 struct Told(Step);
 
 impl fmt::Display for Told {
+    ghost use Rattle.std.specs.Prelude.{Some};
+    ghost use Rattle.av_outcomes.specs.Steps.{step_text};
+
+    ghost output = { λ t. Some (step_text t.0) };
+
     fn fmt<W: fmt::Write>(&self, f: &mut fmt::Formatter<W>) -> fmt::Result {
         match self.0 {
             Step::Loaded { chunks } => write!(f, "{chunks} chunks loaded"),

@@ -20,13 +20,13 @@ use Rattle.av_requests.specs.Refusals.{IsRefusalStatus}
 use Rattle.av_requests.specs.Requests.{IsRequestOf}
 use Rattle.av_requests.specs.Skipping.{IsSkipped}
 use Rattle.av_queries.specs.StatesCommand.{HasListed}
-use Rattle.av_outcomes.specs.Closing.{goes_on}
+use Rattle.av_outcomes.specs.Closing.{IsLeft, goes_on}
 
 -- The same of `run` in its folder, which was opened: what its files leave there, once it was looked for a run that was cut off; all is well only where
 -- the folder is closed then. One that was finished first is all that is done. Or nothing and 1, where that can't be done.
 pub data HasRunOpened (q : Request) (old new : Account) (before after : Option (List ℕ)) (status : ℕ) : Type 0 where
-  ran_on : (r : Repair) (st : ℕ) → goes_on q.again r ≡ true → HasRunRegions q (with_repair r old) new before after st → (status ≡ st) ⊎ (status ≡ 1)
-      → HasRunOpened q old new before after status
+  ran_on : (r : Repair) (st : ℕ) (ran : Account) → goes_on q.again r ≡ true → HasRunRegions q (with_repair r old) ran before after st
+      → IsLeft ran new st status → HasRunOpened q old new before after status
   finished : (r : Repair) → goes_on q.again r ≡ false → new ≡ with_repair r old → after ≡ before → status ≡ 0 → HasRunOpened q old new before after status
   unrepaired : new ≡ old → after ≡ before → status ≡ 1 → HasRunOpened q old new before after status
 

@@ -1,6 +1,6 @@
 //! What takes written files.
 ghost use Rattle.std.specs.Prelude.{◌≡◌, ◌<◌, ◌^◌, ◌-◌, [], ◌∷◌, IfOk, None, OnOk, OnErr};
-ghost use Rattle.av_sink.specs.Account.{Account, file_named, in_folder, with_failure, with_files, with_places, with_repair};
+ghost use Rattle.av_sink.specs.Account.{Account, file_named, in_folder, with_end, with_failure, with_files, with_places, with_repair};
 
 use crate::saving::Teller;
 use std::alloc::AllocError;
@@ -77,7 +77,8 @@ pub trait OutputFolder: Sink {
 
     /// Notes that all is told of files that took their places.
     fn close(&mut self) -> Result<(), SinkFailed>
-        ensures { Self.account self.new ≡ Self.account self.old };
+        ensures ok { OnOk result (Self.account self.new ≡ with_end (Self.account self.old)) }
+        ensures err { OnErr result (Self.account self.new ≡ Self.account self.old) };
 
     /// What failed last, where that is known.
     fn last_failed(&mut self) -> Option<FailedFile>
