@@ -13,8 +13,8 @@ import tempfile
 
 sys.dont_write_bytecode = True
 from check_memory import ENDED, answer_of, answers
-from make_samples import BYTE, BYTES, COMPOUND, DOUBLE, FLOAT, INT, INTS, LIST, LONG, LONGS, SHORT, TEXT
 from preloads import built_library
+from written_regions import BYTE, BYTES, COMPOUND, DOUBLE, FLOAT, INT, INTS, LIST, LONG, LONGS, SHORT, TEXT
 
 # What BENCH answers of a document that spells nothing.
 NO_DOCUMENT = ("", "Error: fault 10: BadNbt", 1)

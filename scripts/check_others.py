@@ -12,9 +12,9 @@ import zlib
 from check_ends import OLD, forked, region_of
 from check_hindrances import always, waited
 from kept_worlds import small_world, write_world
-from make_samples import BYTE, BYTES, INT, Tag, compound, compounds, named
 from stored_chunks import ZLIB, write
 from world_calls import backup, begun, call, contents, ended, others, refused, shots
+from written_regions import BYTE, BYTES, INT, Tag, compound, compounds, named
 
 
 def journals_of_others(work, _):

@@ -15,7 +15,7 @@ import sys
 import tempfile
 
 sys.dont_write_bytecode = True
-import make_samples
+import written_regions
 from flat_runs import chunk, said
 
 MOST = 100 * 10**6
@@ -33,7 +33,7 @@ def list_of_lists(count):
 def many_states():
     """The bytes of a loaded chunk that has twelve states beside air and stone."""
     wool = {(x, 70, 0): "minecraft:wool_%d" % x for x in range(12)}
-    return make_samples.named("", chunk(0, 0, wool, (), {}))
+    return written_regions.named("", chunk(0, 0, wool, (), {}))
 
 
 def record(payload):

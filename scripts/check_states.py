@@ -15,8 +15,9 @@ import tempfile
 
 sys.dont_write_bytecode = True
 import make_samples
+import written_regions
 from flat_runs import chunk, flat, section_tags
-from make_samples import BYTE, BYTES, INT, LIST, TEXT, Tag, compound, compounds
+from written_regions import BYTE, BYTES, INT, LIST, TEXT, Tag, compound, compounds
 
 AIR, STONE, LAMP = "minecraft:air", "minecraft:stone", "minecraft:redstone_lamp"
 PLACES, SECTIONS = 4096, 24
@@ -96,15 +97,15 @@ def chunk_of_sections(x, z, sections):
 
 def section_of_entries(y, entries, indices):
     """A section whose palette is written as it is, entries that are there twice or unused too."""
-    states = make_samples.COMPOUND
-    tags = {"palette": Tag(LIST, (states, entries)), "data": Tag(make_samples.LONGS, make_samples.pack(indices, 4))}
+    states = written_regions.COMPOUND
+    tags = {"palette": Tag(LIST, (states, entries)), "data": Tag(written_regions.LONGS, written_regions.pack(indices, 4))}
     return {"Y": Tag(BYTE, y), "block_states": Tag(states, tags)}
 
 
 def entry(name, **properties):
     tags = {"Name": Tag(TEXT, name)}
     if properties:
-        tags["Properties"] = Tag(make_samples.COMPOUND, {key: Tag(TEXT, value) for key, value in properties.items()})
+        tags["Properties"] = Tag(written_regions.COMPOUND, {key: Tag(TEXT, value) for key, value in properties.items()})
     return tags
 
 
@@ -120,7 +121,7 @@ def plain():
     counts = world(blocks.values(), 2)
     yield "blocks with and without rows", files, True, 0, lines(counts), ""
     yield "the same without a table", files, False, 0, lines(counts, False), ""
-    apart = {"r.0.0.mca": flat(blocks, ((0, 0),)), "r.-1.2.mca": make_samples.region_bytes({(-32, 64): chunk(-32, 64, {}, (), {})})}
+    apart = {"r.0.0.mca": flat(blocks, ((0, 0),)), "r.-1.2.mca": written_regions.region_bytes({(-32, 64): chunk(-32, 64, {}, (), {})})}
     first = [text for (x, _, _), text in blocks.items() if x < 16]
     yield "chunks of two regions", apart, True, 0, lines(world(first, 2)), ""
     yield "an empty folder", {}, True, 0, [], "in has no region files\n"
@@ -133,10 +134,10 @@ def forms():
                entry("mod:x", z="1", a="2"), entry("mod:unused"), entry("mod:x", a="2", z="1")]
     indices = [0] * 4000 + [1] * 40 + [2] * 30 + [3] * 20 + [5] * 6
     counts = {AIR: 23 * PLACES + 4000, "minecraft:water[level=8]": 40, "minecraft:water[level=0]": 30, "mod:x[a=2,z=1]": 26}
-    files = {"r.0.0.mca": make_samples.region_bytes({(0, 0): chunk_of_sections(0, 0, [section_of_entries(3, entries, indices)])})}
+    files = {"r.0.0.mca": written_regions.region_bytes({(0, 0): chunk_of_sections(0, 0, [section_of_entries(3, entries, indices)])})}
     yield "forms of states", files, True, 0, lines(counts), ""
     unseen = [section_tags(y, {place: "mod:x" for place in range(PLACES)}) for y in (-5, -4, 19, 20)]
-    files = {"r.0.0.mca": make_samples.region_bytes({(0, 0): chunk_of_sections(0, 0, unseen)})}
+    files = {"r.0.0.mca": written_regions.region_bytes({(0, 0): chunk_of_sections(0, 0, unseen)})}
     yield "sections out of the height", files, True, 0, lines({AIR: 22 * PLACES, "mod:x": 2 * PLACES}), ""
 
 
@@ -144,7 +145,7 @@ def damaged():
     """Chunks that are not full, chunks with a fault, and files that are cut short."""
     good, kept = chunk(1, 0, {}, (), {}), make_samples.unfinished_tags(3, 0)
     strange = compound(xPos=Tag(INT, 2), zPos=Tag(INT, 0), Status=Tag(TEXT, "full"), sections=Tag(BYTES, b""))
-    data = bytearray(make_samples.region_bytes({(0, 0): good, (1, 0): good, (2, 0): strange, (3, 0): kept}))
+    data = bytearray(written_regions.region_bytes({(0, 0): good, (1, 0): good, (2, 0): strange, (3, 0): kept}))
     files = {"r.0.0.mca": bytes(data)}
     # the chunk at (0, 0) says that it is (1, 0), and the one at (2, 0) has no sections
     yield "chunks with faults", files, True, 1, lines(world((), 1)), left_out(2)
@@ -166,11 +167,11 @@ def many():
             cells = [own[place % 1000] for place in range(PLACES)]
             counts.update(cells)
             palette = [entry(name) for name in own]
-            longs = make_samples.pack([place % 1000 for place in range(PLACES)], 10)
-            tags = {"palette": Tag(LIST, (make_samples.COMPOUND, palette)), "data": Tag(make_samples.LONGS, longs)}
-            sections.append({"Y": Tag(BYTE, part - 4), "block_states": Tag(make_samples.COMPOUND, tags)})
+            longs = written_regions.pack([place % 1000 for place in range(PLACES)], 10)
+            tags = {"palette": Tag(LIST, (written_regions.COMPOUND, palette)), "data": Tag(written_regions.LONGS, longs)}
+            sections.append({"Y": Tag(BYTE, part - 4), "block_states": Tag(written_regions.COMPOUND, tags)})
         chunks[x, 0] = chunk_of_sections(x, 0, sections)
-    yield "72,000 states", {"r.0.0.mca": make_samples.region_bytes(chunks)}, True, 0, lines(counts), ""
+    yield "72,000 states", {"r.0.0.mca": written_regions.region_bytes(chunks)}, True, 0, lines(counts), ""
 
 
 # ---------------------------------------------------------------- asking

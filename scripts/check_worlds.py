@@ -12,8 +12,9 @@ import sys
 
 sys.dont_write_bytecode = True
 import make_samples
+import written_regions
 from flat_runs import ROUND, ROWS, SIDES, SLAB, SLABS, WATER, Run, chunk, edit, flat, many_chunks, state_tags, tick_tags
-from make_samples import BYTE, BYTES, INT, LIST, LONGS, Tag, compound, compounds
+from written_regions import BYTE, BYTES, INT, LIST, LONGS, Tag, compound, compounds
 
 # ---------------------------------------------------------------- examples
 
@@ -147,12 +148,12 @@ def soaked(run):
 def kept(run):
     """A chunk that is not full, with a source and an entry at the edge of a loaded one."""
     beside = chunk(1, 0, {(16, 64, 8): WATER}, [(16, 64, 8, 1)], {})
-    beside.value["Status"] = Tag(make_samples.TEXT, "features")
-    world = make_samples.region_bytes({(0, 0): chunk(0, 0, {}, (), {}), (1, 0): beside})
+    beside.value["Status"] = Tag(written_regions.TEXT, "features")
+    world = written_regions.region_bytes({(0, 0): chunk(0, 0, {}, (), {}), (1, 0): beside})
     after = run(world, edit(1, 14, 64, 8, WATER), 11)
     spread = {at: level for at, level in board(14, 64, 8).items() if at[0] < 16 and level < 3}
     yield "water flows along a kept chunk", ("chunks 1 turns 6", spread | {(16, 64, 8): 0}), (after.line, after.wet())
-    yield "which stays as it is", make_samples.named("", beside), after.payloads[1]
+    yield "which stays as it is", written_regions.named("", beside), after.payloads[1]
     yield "and takes no edit", "fault 22: EditOutside 1", run(world, edit(1, 16, 64, 8, "minecraft:stone"), 1).fault
 
 
@@ -196,11 +197,11 @@ def refusals(run):
     last = 8192 + 4 + int.from_bytes(data[8192:8196], "big")
     yield "cut before the data's end", "fault 06: TruncatedChunk", run(data[:last - 1]).fault
     yield "cut in the padding", run(data).data, run(data[:last]).data
-    pad = 1_044_476 - 1 - len(make_samples.named("", make_samples.Tag(make_samples.COMPOUND, dict(large(0).value))))
-    full = make_samples.region_bytes({(0, 0): large(pad)})
+    pad = 1_044_476 - 1 - len(written_regions.named("", written_regions.Tag(written_regions.COMPOUND, dict(large(0).value))))
+    full = written_regions.region_bytes({(0, 0): large(pad)})
     yield "a chunk as large as can be", 1_044_476, int.from_bytes(full[8192:8196], "big")
     yield "is too large when it is written", ("fault 24: ChunkTooLarge 0 0", None), (lambda r: (r.fault, r.data))(run(full))
-    kept = make_samples.region_bytes({(3, 1): make_samples.unfinished_tags(3, 1)})
+    kept = written_regions.region_bytes({(3, 1): make_samples.unfinished_tags(3, 1)})
     same = run(kept, "", 3)
     yield "a chunk that is kept", ("chunks 0 turns 0", kept), (same.line, same.data)
 
@@ -252,18 +253,18 @@ def crowded(count, ticks=()):
     sections = []
     for start in range(0, count, 4096):
         some = names[start:start + 4096]
-        palette = Tag(LIST, (make_samples.COMPOUND, [state_tags(name) for name in some]))
-        data = Tag(LONGS, make_samples.pack([place % len(some) for place in range(4096)], 12))
-        states = Tag(make_samples.COMPOUND, {"palette": palette, "data": data})
+        palette = Tag(LIST, (written_regions.COMPOUND, [state_tags(name) for name in some]))
+        data = Tag(LONGS, written_regions.pack([place % len(some) for place in range(4096)], 12))
+        states = Tag(written_regions.COMPOUND, {"palette": palette, "data": data})
         sections.append({"Y": Tag(BYTE, start // 4096 - 4), "block_states": states})
-    root = compound(xPos=Tag(INT, 0), zPos=Tag(INT, 0), Status=Tag(make_samples.TEXT, "full"),
+    root = compound(xPos=Tag(INT, 0), zPos=Tag(INT, 0), Status=Tag(written_regions.TEXT, "full"),
                     sections=compounds(sections), fluid_ticks=compounds([tick_tags(*tick) for tick in ticks]))
-    return make_samples.region_bytes({(0, 0): root})
+    return written_regions.region_bytes({(0, 0): root})
 
 
 def large(pad):
     """A loaded chunk without sections, and so many bytes."""
-    return compound(xPos=Tag(INT, 0), zPos=Tag(INT, 0), Status=Tag(make_samples.TEXT, "full"), sections=compounds([]),
+    return compound(xPos=Tag(INT, 0), zPos=Tag(INT, 0), Status=Tag(written_regions.TEXT, "full"), sections=compounds([]),
                     pad=Tag(BYTES, bytes(pad)))
 
 

@@ -8,8 +8,8 @@ import sys
 import typing
 
 from flat_runs import TABLE, WATER, chunk, edit, said
-from make_samples import region_bytes
 from preloads import built_library
+from written_regions import region_bytes
 
 # A chunk of each of four regions. A source of water is set in the first three, so that they change with every run.
 CHUNKS = (-1, 0), (0, 0), (0, 32), (96, 96)

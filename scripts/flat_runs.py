@@ -9,7 +9,8 @@ import tempfile
 
 import check_rewrite
 import make_samples
-from make_samples import BYTE, BYTES, INT, LIST, LONGS, Tag, compound, compounds
+import written_regions
+from written_regions import BYTE, BYTES, INT, LIST, LONGS, Tag, compound, compounds
 
 ROWS = """
 [[block]]
@@ -46,10 +47,10 @@ ROUND = [(1, 0, -1), (1, 0, 1), (1, -1, 0), (1, 1, 0)]
 
 def state_tags(text):
     name, _, rest = text.partition("[")
-    tags = {"Name": Tag(make_samples.TEXT, name)}
+    tags = {"Name": Tag(written_regions.TEXT, name)}
     if rest:
         pairs = [pair.split("=") for pair in rest[:-1].split(",")]
-        tags["Properties"] = Tag(make_samples.COMPOUND, {key: Tag(make_samples.TEXT, value) for key, value in pairs})
+        tags["Properties"] = Tag(written_regions.COMPOUND, {key: Tag(written_regions.TEXT, value) for key, value in pairs})
     return tags
 
 
@@ -58,14 +59,14 @@ def section_tags(y, cells):
     palette = list(dict.fromkeys(["minecraft:air", *cells.values()]))
     bits = max(4, (len(palette) - 1).bit_length())
     indices = [palette.index(cells.get(place, "minecraft:air")) for place in range(4096)]
-    tags = {"palette": Tag(LIST, (make_samples.COMPOUND, [state_tags(text) for text in palette]))}
+    tags = {"palette": Tag(LIST, (written_regions.COMPOUND, [state_tags(text) for text in palette]))}
     if len(palette) > 1:
-        tags["data"] = Tag(LONGS, make_samples.pack(indices, bits))
-    return {"Y": Tag(BYTE, y), "block_states": Tag(make_samples.COMPOUND, tags)}
+        tags["data"] = Tag(LONGS, written_regions.pack(indices, bits))
+    return {"Y": Tag(BYTE, y), "block_states": Tag(written_regions.COMPOUND, tags)}
 
 
 def tick_tags(x, y, z, due):
-    tags = {"i": Tag(make_samples.TEXT, "minecraft:water")}
+    tags = {"i": Tag(written_regions.TEXT, "minecraft:water")}
     return {**tags, **{name: Tag(INT, value) for name, value in zip("xyztp", (x, y, z, due, 0))}}
 
 
@@ -76,14 +77,14 @@ def chunk(x, z, blocks, ticks, more):
     sections = {}
     for (bx, by, bz), text in cells.items():
         sections.setdefault(by >> 4, {})[256 * (by & 15) + 16 * (bz & 15) + (bx & 15)] = text
-    return compound(xPos=Tag(INT, x), zPos=Tag(INT, z), Status=Tag(make_samples.TEXT, "full"),
+    return compound(xPos=Tag(INT, x), zPos=Tag(INT, z), Status=Tag(written_regions.TEXT, "full"),
                     sections=compounds([section_tags(y, sections[y]) for y in sorted(sections)]),
                     fluid_ticks=compounds([tick_tags(*tick) for tick in ticks]), **more)
 
 
 def flat(blocks=(), chunks=((0, 0),), ticks=(), **more):
     """The region (0, 0) of some flat chunks."""
-    return make_samples.region_bytes({at: chunk(*at, dict(blocks), ticks, more) for at in chunks})
+    return written_regions.region_bytes({at: chunk(*at, dict(blocks), ticks, more) for at in chunks})
 
 
 # What a run of many chunks is given, and its water, its other blocks and its kept payload after 6 ticks.
@@ -107,7 +108,7 @@ def many_chunks():
     wet = {(x + dx, y, z + dz): level for x, y, z in sources for level, dx, dz in ((0, 0, 0), *ROUND)}
     table = "version = 3\nmin_section = 3\nsections = 2\n" + ROWS
     edits = "".join(edit(1, *at, WATER) for at in sources)
-    return ManyChunks(make_samples.region_bytes(chunks), edits, table, wet, others, make_samples.named("", chunks[0, 4]))
+    return ManyChunks(written_regions.region_bytes(chunks), edits, table, wet, others, written_regions.named("", chunks[0, 4]))
 
 
 # ---------------------------------------------------------------- runs

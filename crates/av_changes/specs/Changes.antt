@@ -1,4 +1,4 @@
--- What would change in region files that are there, if others were written in their place.
+-- What would change in region files that are there, if others were written over them.
 use Rattle.std.specs.Prelude.{◌≡◌, ℕ, ◌+◌, Bool, List, [], ◌∷◌, ◌++◌, ◌&&◌, Option, Some, None, codes, cond, length, nat_lt, unwrap_or, string_bytes, string_cmp, IsPermutation, IsSortedBy}
 use Rattle.std.specs.Fmt.{decimal}
 use Rattle.std.specs.Ordering.{is_lt}
@@ -7,16 +7,16 @@ use Rattle.av_region_files.specs.Names.{region_name_of}
 use Rattle.av_region_files.specs.declared.files.RegionFile.{RegionFile}
 use Rattle.av_changes.specs.declared.change.Change.{Change}
 
--- two files have the same payload at a place, or no chunk there
-pub data IsSameAt (old new : List ℕ) (place : ℕ) : Type 0 where
-  neither : IsAbsent old place → IsAbsent new place → IsSameAt old new place
-  both : (payload : List ℕ) → Holds old place payload → Holds new place payload → IsSameAt old new place
+-- two files have the same payload at an index, or no chunk there
+pub data IsSameAt (old new : List ℕ) (index : ℕ) : Type 0 where
+  neither : IsAbsent old index → IsAbsent new index → IsSameAt old new index
+  both : (payload : List ℕ) → Holds old index payload → Holds new index payload → IsSameAt old new index
 
--- how many of the places below one have other chunks: other payloads, or a chunk in one file alone, or one with a fault
+-- how many of the indices below one have other chunks: other payloads, or a chunk in one file alone, or one with a fault
 pub data AreChangedBelow (old new : List ℕ) : ℕ → ℕ → Type 0 where
   start : AreChangedBelow old new 0 0
-  same : (place n : ℕ) → AreChangedBelow old new place n → IsSameAt old new place → AreChangedBelow old new (place + 1) n
-  other : (place n : ℕ) → AreChangedBelow old new place n → (IsSameAt old new place → ⊥) → AreChangedBelow old new (place + 1) (n + 1)
+  same : (index n : ℕ) → AreChangedBelow old new index n → IsSameAt old new index → AreChangedBelow old new (index + 1) n
+  other : (index n : ℕ) → AreChangedBelow old new index n → (IsSameAt old new index → ⊥) → AreChangedBelow old new (index + 1) (n + 1)
 
 -- a file that ends within its header counts as one without chunks
 abbrev pub ends_in_header : List ℕ → Bool
@@ -25,7 +25,7 @@ ends_in_header file = nat_lt 0 (length file) && nat_lt (length file) 8192
 abbrev pub readable : List ℕ → List ℕ
 readable file = cond (ends_in_header file) [] file
 
--- how many of a region's 1,024 places have other chunks
+-- how many of a region's 1,024 indices have other chunks
 abbrev pub IsChangeCount : List ℕ → List ℕ → ℕ → Type 0
 IsChangeCount old new n = AreChangedBelow (readable old) (readable new) 1024 n
 

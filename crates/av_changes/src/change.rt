@@ -13,7 +13,7 @@ use std::alloc::{AllocError, Global};
 pub struct Change {
     /// Its name.
     pub name: String,
-    /// How many places of its region would have other chunks.
+    /// How many indices of its region would have other chunks.
     pub chunks: usize,
 }
 

@@ -26,40 +26,40 @@ fn is_same_payload(old: Option<&[u8]>, new: Option<&[u8]>) -> bool
     old == new
 }
 
-/// Whether two files have the same payload at a place, or no chunk there.
-fn is_same_at(old: &Region<'_>, new: &Region<'_>, place: usize) -> bool
-    requires { place ≤ 1023 }
-    ensures { IsTrue result ↔ IsSameAt old.now.bytes.now new.now.bytes.now place }
+/// Whether two files have the same payload at an index, or no chunk there.
+fn is_same_at(old: &Region<'_>, new: &Region<'_>, index: usize) -> bool
+    requires { index ≤ 1023 }
+    ensures { IsTrue result ↔ IsSameAt old.now.bytes.now new.now.bytes.now index }
 {
-    let Ok(old) = old.payload(place) else {
+    let Ok(old) = old.payload(index) else {
         return false;
     };
-    let Ok(new) = new.payload(place) else {
+    let Ok(new) = new.payload(index) else {
         return false;
     };
     is_same_payload(old, new)
 }
 
-/// How many places have other chunks in two files.
-fn changed_places(old: &Region<'_>, new: &Region<'_>) -> usize
+/// How many indices have other chunks in two files.
+fn changed_indices(old: &Region<'_>, new: &Region<'_>) -> usize
     ensures { AreChangedBelow old.now.bytes.now new.now.bytes.now 1024 result }
 {
     let mut changed = 0;
-    for place in 0..CHUNKS {
-        if !is_same_at(old, new, place) {
+    for index in 0..CHUNKS {
+        if !is_same_at(old, new, index) {
             changed += 1;
         }
     }
     changed
 }
 
-/// How many of the 1,024 places of a region have other chunks in two files: other payloads, or a chunk in one of them alone, or one
+/// How many of the 1,024 indices of a region have other chunks in two files: other payloads, or a chunk in one of them alone, or one
 /// that has a fault. Timestamps and where chunks stand don't count. A file that ends within its header counts as one without chunks.
 pub fn changed_chunks(old: &[u8], new: &[u8]) -> usize
     ensures { IsChangeCount old.now new.now result }
 {
     match (Region::read(readable(old)), Region::read(readable(new))) {
-        (Ok(old), Ok(new)) => changed_places(&old, &new),
+        (Ok(old), Ok(new)) => changed_indices(&old, &new),
         _ => 0,
     }
 }

@@ -1,4 +1,4 @@
-//! What would change in region files that are there, if others were written in their place.
+//! What would change in region files that are there, if others were written over them.
 #![tactic(auto)]
 
 pub mod change;

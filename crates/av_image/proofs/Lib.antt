@@ -8,6 +8,7 @@ pub mod Sorting
 pub mod Rises
 pub mod Denoted
 pub mod Loads
+pub mod FileLists
 pub mod OneChunk
 pub mod Written
 pub mod Ready

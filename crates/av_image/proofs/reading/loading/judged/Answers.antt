@@ -6,7 +6,7 @@ use Rattle.av_files.specs.FirstFault.{AllInLimits}
 use Rattle.av_region_files.specs.declared.files.RegionFile.{RegionFile}
 use Rattle.av_image.specs.Loading.{range, repeated}
 use Rattle.av_image.specs.Views.{file_in}
-use Rattle.av_image.proofs.Loads.{all_limits, limits_all, limits_ordered, rises_apart, rises_not}
+use Rattle.av_image.proofs.FileLists.{all_limits, limits_all, limits_ordered, rises_apart, rises_not}
 use Rattle.av_image.proofs.reading.loading.judged.Goals as goal
 
 positions : (fs : List RegionFile) → map (λ f. f.pos) (map file_in fs) ≡ map (λ f. f.pos) fs
