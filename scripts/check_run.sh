@@ -93,6 +93,7 @@ mkdir "$work/changed"
 cp "$top"/samples/r.*.mca "$work/changed"
 "$program" run --in "$top/samples" --out "$work/changed" --edits "$edits" --ticks 20 --progress 2> "$work/told" > /dev/null
 expect "$(changes "$top/samples" "$work/whole" | sed 's/would change/changed/')" "$(grep ' chunks changed$' "$work/told")" "what a run has changed"
+expect "1 of 20 ticks run" "$(grep ' ticks run$' "$work/told" | head -n 1)" "its first tick"
 expect "20 of 20 ticks run" "$(grep ' ticks run$' "$work/told" | tail -n 1)" "its last tick"
 expect "2 of 2 files written" "$(grep ' files written$' "$work/told" | tail -n 1)" "its last file"
 same whole changed
