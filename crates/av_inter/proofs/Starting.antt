@@ -11,7 +11,6 @@ use Rattle.av_types.specs.declared.tick.Entry.{Entry}
 use Rattle.av_ticks.specs.Entries.{is_pending}
 use Rattle.av_cells.specs.Rule.{HasKinds}
 use Rattle.av_cells.specs.World as cells
-use Rattle.av_cells.specs.World.{Lists}
 use Rattle.av_cells.specs.Grid.{Grid, Filling, cells_of, is_here, number_in, pending_in, among, only}
 use Rattle.av_cells.proofs.GridBlocks.{among_has, has_among}
 use Rattle.av_world.specs.Parcels.{with_aside, aside_lists}

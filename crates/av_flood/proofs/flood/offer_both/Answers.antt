@@ -1,5 +1,4 @@
 use Rattle.std.proofs.Common.{subst}
-use Rattle.av_flood.specs.Board.{light_of}
 use Rattle.av_flood.specs.Flooding.{IsGrown, todo_of}
 use Rattle.av_flood.proofs.Floods.{CanOffer-more, HasOffered-trans, IsGrown-none, IsOffered-grown, IsOffered-later}
 use Rattle.av_flood.proofs.flood.offer_both.Goals as goal

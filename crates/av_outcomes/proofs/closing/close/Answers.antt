@@ -1,4 +1,4 @@
-use Rattle.std.proofs.Common.{◌≡◌, ◌∙◌, ℕ, refl, sym, subst}
+use Rattle.std.proofs.Common.{◌∙◌, ℕ, refl, sym, subst}
 use Rattle.av_outcomes.specs.Closing.{IsLeft, ended, failed, not_ended}
 use Rattle.av_outcomes.proofs.closing.close.Goals as goal
 

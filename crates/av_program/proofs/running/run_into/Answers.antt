@@ -1,4 +1,4 @@
-use Rattle.std.proofs.Common.{refl, Result, Err}
+use Rattle.std.proofs.Common.{refl, Err}
 use Rattle.std.proofs.lemmas.Result.{err_from_is_err_and}
 use Rattle.av_program.specs.RunCommand.{HasRunInto, ran, refused, stopped}
 use Rattle.av_program.proofs.running.run_into.Goals as goal

@@ -2,7 +2,6 @@ use Rattle.std.proofs.Common.{ap, ◌∙◌}
 use Rattle.av_cells.specs.Kinds.{kinds_of}
 use Rattle.av_cells.specs.Rule.{can_pass, can_drop}
 use Rattle.av_drop.specs.Board.{spot}
-use Rattle.av_drop.specs.declared.board.Board.{Board}
 use Rattle.av_drop.proofs.Marks.{marked_one, kept_off}
 use Rattle.av_drop.proofs.around.Around.read_at.Goals as goal
 
