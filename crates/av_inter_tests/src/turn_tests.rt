@@ -51,12 +51,15 @@ fn made_by_both(
     if kinds.count() < 11 {
         return Err(Fault::BadTable);
     }
-    if !world.loaded(first.entry.pos) || !world.loaded(second.entry.pos) {
-        return Err(Fault::EditOutside(0));
-    }
     let mut added = ArrayVec::new();
     let mut made = Vec::new(alloc);
+    if !world.loaded(first.entry.pos) {
+        return Err(Fault::EditOutside(0));
+    }
     turn_one(world, kinds, 6, first, &mut added, &mut made)?;
+    if !world.loaded(second.entry.pos) {
+        return Err(Fault::EditOutside(0));
+    }
     turn_one(world, kinds, 6, second, &mut added, &mut made)?;
     Ok(made)
 }
