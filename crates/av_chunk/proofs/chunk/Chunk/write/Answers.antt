@@ -1,4 +1,4 @@
-use Rattle.std.proofs.Common.{sym, ◌∙◌, ap, subst}
+use Rattle.std.proofs.Common.{◌≡◌, sym, ◌∙◌, ap, subst}
 use Rattle.av_tags.specs.Nbt.{Document, members_of}
 use Rattle.av_tags.specs.View.{view, views, named_views}
 use Rattle.av_nbt.specs.Writing.{IsWellFormed}
