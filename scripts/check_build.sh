@@ -53,7 +53,7 @@ cp "$top/scripts/prove.py" "$lab/tree/scripts/"
 printf 'low:\nleft: low\nright: low\nhigh: left right\n' > "$lab/tree/crates.txt"
 touch "$lab/tree/HANDLES"
 for crate in low left right high; do mkdir -p "$lab/tree/crates/$crate/src"; done
-echo "fn main() {}" > "$lab/tree/crates/left/src/main.rt"
+seq 30 | sed 's/.*/fn turn&() {}/' > "$lab/tree/crates/left/src/main.rt"
 cat > "$lab/bin/rt" <<'LINES'
 #!/bin/sh
 name=$(basename "$PWD")
@@ -72,7 +72,7 @@ prove() {
 }
 
 expect "four crates side by side" "status 0" "$(prove)"
-expect "each is built once, and the smaller by one process" "lib --jobs 1: right lib: left lib: low" "$(sort "$lab/built" | xargs)"
+expect "each is built once, and the large one by two processes" "lib --jobs 1: low lib --jobs 1: right lib --jobs 2: left" "$(sort "$lab/built" | xargs)"
 expect "the last one in its own folder" 1 "$(find "$lab/tree/crates/high/out" -name built | wc -l)"
 expect "what was built is kept" 3 "$(find "$lab"/tree/crates/low/out "$lab"/tree/crates/left/out "$lab"/tree/crates/right/out -name built | wc -l)"
 printf '#!/bin/sh\necho "no proof here"\nexit 1\n' > "$lab/bin/rt"

@@ -5,9 +5,9 @@
 
 Each job is an `rt lib`, in a copy of the tree of its own, since two of them in one tree wait for each other where they stand on the
 same crates. What a job has built goes to the tree itself, and from there to the copies that need it, so that no crate is proved twice.
-A crate is begun when those that it stands on are proved, first the one that most is left to prove above. That one is proved by as many
-processes as rt chooses, and those beside it by one each, or by more where processors would have nothing to do. COMMAND is run in the
-crate's own folder when all are proved; without one, `rt check`.
+A crate is begun when those that it stands on are proved, first the one that most is left to prove above. That one is proved by two
+processes where it has many functions, since each reads all that stands below, and those beside it by one each; by more where processors
+would have nothing to do. COMMAND is run in the crate's own folder when all are proved; without one, `rt check`.
 
 Lines on standard error say which crates are being proved, how many are done and about how long it will still take. Status: that of
 the command; 1 where a check failed before, which then tells what it printed; 2 where other words are needed.
@@ -31,6 +31,8 @@ TOP = pathlib.Path(__file__).resolve().parent.parent
 MEMORY_OF_A_JOB = 3 << 30
 # With so many functions below, a function takes twice the time of one that has none below.
 FUNCTIONS_BELOW = 300
+# So many functions are worth a second process.
+MANY_FUNCTIONS = 30
 
 
 def crates():
@@ -126,14 +128,13 @@ class Trees:
         hand_on(built(TOP, name), built(tree, name), shutil.copy2)
 
     def check(self, name, processes):
-        """Proves a crate in a copy that is free, by so many processes, or as many as rt chooses."""
+        """Proves a crate in a copy that is free, by so many processes."""
         with self.lock:
             tree = self.free.pop()
         self.prepare(tree, name)
-        command = ["rt", "lib"] + (["--jobs", str(processes)] if processes else [])
         started = subprocess.Popen(
-            command, cwd=tree / "crates" / name, stdin=subprocess.DEVNULL, stdout=subprocess.PIPE, stderr=subprocess.STDOUT,
-            start_new_session=True)
+            ["rt", "lib", "--jobs", str(processes)], cwd=tree / "crates" / name, stdin=subprocess.DEVNULL, stdout=subprocess.PIPE,
+            stderr=subprocess.STDOUT, start_new_session=True)
         with self.lock:
             self.running.add(started)
         printed = started.communicate()[0]
@@ -183,7 +184,9 @@ def prove(names, below, jobs, last):
                 begin = ready[:jobs - len(running)]
                 share = jobs // max(1, len(running) + len(begin))
                 for name in begin:
-                    running[pool.submit(trees.check, name, None if height[name] == most else share)] = name
+                    wanted = min(2, jobs) if height[name] == most else 1
+                    processes = max(wanted, share) if functions(name) >= MANY_FUNCTIONS else 1
+                    running[pool.submit(trees.check, name, processes)] = name
                 say(done, size, running.values(), begun)
                 for ended in concurrent.futures.wait(running, return_when=concurrent.futures.FIRST_COMPLETED).done:
                     del running[ended]
