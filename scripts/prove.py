@@ -6,8 +6,8 @@
 Each job is an `rt lib`, in a copy of the tree of its own, since two of them in one tree wait for each other where they stand on the
 same crates. What a job has built goes to the tree itself, and from there to the copies that need it, so that no crate is proved twice.
 A crate is begun when those that it stands on are proved, first the one that most is left to prove above. That one is proved by two
-processes where it has many functions, since each reads all that stands below, and those beside it by one each; by more where processors
-would have nothing to do. COMMAND is run in the crate's own folder when all are proved; without one, `rt check`.
+processes where it has many functions, since each reads all that stands below, and where the memory is enough; those beside it by one each,
+or by more where processors would have nothing to do. COMMAND is run in the crate's own folder when all are proved; without one, `rt check`.
 
 Lines on standard error say which crates are being proved, how many are done and about how long it will still take. Status: that of
 the command; 1 where a check failed before, which then tells what it printed; 2 where other words are needed.
@@ -169,11 +169,17 @@ def say(done, size, running, begun):
     print("%d of %d crates are proved%s%s" % (len(done), len(size), left, names), file=sys.stderr, flush=True)
 
 
+def jobs_by_memory():
+    """How many jobs the memory is enough for."""
+    return os.sysconf("SC_PAGE_SIZE") * os.sysconf("SC_PHYS_PAGES") // MEMORY_OF_A_JOB
+
+
 def prove(names, below, jobs, last):
     """Proves crates, each after those that it stands on, and then answers the last step."""
     size = sizes(names, below)
     height = heights(names, below, size)
     done, running, begun = set(), {}, time.monotonic()
+    most_processes = 2 if 1 < jobs < jobs_by_memory() else 1
     with tempfile.TemporaryDirectory(prefix="anvilwater-") as folder, concurrent.futures.ThreadPoolExecutor(jobs) as pool:
         trees = Trees(folder, below, jobs)
         try:
@@ -184,7 +190,7 @@ def prove(names, below, jobs, last):
                 begin = ready[:jobs - len(running)]
                 share = jobs // max(1, len(running) + len(begin))
                 for name in begin:
-                    wanted = min(2, jobs) if height[name] == most else 1
+                    wanted = most_processes if height[name] == most else 1
                     processes = max(wanted, share) if functions(name) >= MANY_FUNCTIONS else 1
                     running[pool.submit(trees.check, name, processes)] = name
                 say(done, size, running.values(), begun)
@@ -206,8 +212,7 @@ def split_at(words, mark):
 
 def jobs_here():
     """As many jobs as there are processors, where the memory is enough for them."""
-    memory = os.sysconf("SC_PAGE_SIZE") * os.sysconf("SC_PHYS_PAGES")
-    return max(1, min(len(os.sched_getaffinity(0)), memory // MEMORY_OF_A_JOB))
+    return max(1, min(len(os.sched_getaffinity(0)), jobs_by_memory()))
 
 
 def main():
