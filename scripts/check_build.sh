@@ -46,7 +46,7 @@ tree $'echo "error: a reason"\nexit 1'
 expect "a build that fails" "status 3" "$(ask check)"
 expect "and says why" 1 "$(grep -cF 'error: a reason' "$work/err")"
 # Four crates, of which two stand on one and the last on those two: each is built once, where what it stands on was built. The smaller of
-# the two is proved by one process.
+# the two is proved by one process, and with two jobs the larger one too.
 lab=$work/lab
 mkdir -p "$lab/tree/scripts" "$lab/bin"
 cp "$top/scripts/prove.py" "$lab/tree/scripts/"
@@ -67,16 +67,19 @@ chmod +x "$lab/bin/rt"
 # How prove.py ends for the last crate.
 prove() {
   local status=0
-  BUILT=$lab/built PATH="$lab/bin:$PATH" "$lab/tree/scripts/prove.py" high --jobs 2 > "$lab/out" 2> "$lab/err" || status=$?
+  BUILT=$lab/built PATH="$lab/bin:$PATH" "$lab/tree/scripts/prove.py" high --jobs "$1" > "$lab/out" 2> "$lab/err" || status=$?
   echo "status $status"
 }
 
-expect "four crates side by side" "status 0" "$(prove)"
+expect "four crates side by side" "status 0" "$(prove 4)"
 expect "each is built once, and the large one by two processes" "lib --jobs 1: low lib --jobs 1: right lib --jobs 2: left" "$(sort "$lab/built" | xargs)"
+rm "$lab/built"
+expect "two by two" "status 0" "$(prove 2)"
+expect "each by one process" "lib --jobs 1: left lib --jobs 1: low lib --jobs 1: right" "$(sort "$lab/built" | xargs)"
 expect "the last one in its own folder" 1 "$(find "$lab/tree/crates/high/out" -name built | wc -l)"
 expect "what was built is kept" 3 "$(find "$lab"/tree/crates/low/out "$lab"/tree/crates/left/out "$lab"/tree/crates/right/out -name built | wc -l)"
 printf '#!/bin/sh\necho "no proof here"\nexit 1\n' > "$lab/bin/rt"
-expect "a proof that fails" "status 1" "$(prove)"
+expect "a proof that fails" "status 1" "$(prove 4)"
 expect "and which" 1 "$(grep -cF 'the proof of low failed' "$lab/err")"
 expect "and what was said of it" 1 "$(grep -cF 'no proof here' "$lab/err")"
 echo "$asked asked of builds, $wrong wrong"

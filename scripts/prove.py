@@ -5,9 +5,10 @@
 
 Each job is an `rt lib`, in a copy of the tree of its own, since two of them in one tree wait for each other where they stand on the
 same crates. What a job has built goes to the tree itself, and from there to the copies that need it, so that no crate is proved twice.
-A crate is begun when those that it stands on are proved, first the one that most is left to prove above. That one is proved by two
-processes where it has many functions, since each reads all that stands below, and where the memory is enough; those beside it by one each,
-or by more where processors would have nothing to do. COMMAND is run in the crate's own folder when all are proved; without one, `rt check`.
+A crate is begun when those that it stands on are proved, first the one that most is left to prove above. For that one two processors are
+kept, where there are four or more and memory for it, and it is proved by two processes where it has many functions, since each reads all that
+stands below. The crates beside it have one each, or two where processors would have nothing to do. COMMAND is run in the crate's own folder
+when all are proved; without one, `rt check`.
 
 Lines on standard error say which crates are being proved, how many are done and about how long it will still take. Status: that of
 the command; 1 where a check failed before, which then tells what it printed; 2 where other words are needed.
@@ -27,12 +28,15 @@ import threading
 import time
 
 TOP = pathlib.Path(__file__).resolve().parent.parent
-# A check works on two processors for part of its time, so there is one job for each processor, and each is given 3 GB, of which it wants some 2.
+# There is one job for each processor, and each is given 3 GB, of which it wants some 2.
 MEMORY_OF_A_JOB = 3 << 30
-# With so many functions below, a function takes twice the time of one that has none below.
-FUNCTIONS_BELOW = 300
+# A crate by itself takes the time of so many functions, and with so many functions below each takes twice the time of one that has none below.
+FUNCTIONS_OF_A_CRATE = 8
+FUNCTIONS_BELOW = 1000
 # So many functions are worth a second process.
 MANY_FUNCTIONS = 30
+# With so many jobs two are kept for the crate that most waits for: with fewer, they are all needed for the crates beside it.
+MANY_JOBS = 4
 
 
 def crates():
@@ -65,7 +69,8 @@ def functions(name):
 def sizes(names, below):
     """About what the check of each crate takes: its functions, and each the longer the more functions stand below."""
     counts = {name: functions(name) for name in names}
-    return {name: counts[name] * (FUNCTIONS_BELOW + sum(counts[other] for other in closure(name, below) - {name})) for name in names}
+    under = {name: sum(counts[other] for other in closure(name, below) - {name}) for name in names}
+    return {name: (FUNCTIONS_OF_A_CRATE + counts[name]) * (FUNCTIONS_BELOW + under[name]) for name in names}
 
 
 def heights(names, below, size):
@@ -159,10 +164,10 @@ def minutes(seconds):
 
 
 def say(done, size, running, begun):
-    """Tells how far the proofs are, and about how long they will still take."""
-    proved = sum(size[name] for name in done)
+    """Tells how far the proofs are, and about how long they will still take. Of those under way half is taken to be done."""
+    proved = sum(size[name] for name in done) + sum(size[name] for name in running) / 2
     left = ""
-    if proved and len(done) < len(size):
+    if done and len(done) < len(size):
         rest = (sum(size.values()) - proved) * (time.monotonic() - begun) / proved
         left = ", about %s left" % minutes(rest)
     names = "; proving " + ", ".join(sorted(running)) if running else ""
@@ -174,26 +179,34 @@ def jobs_by_memory():
     return os.sysconf("SC_PAGE_SIZE") * os.sysconf("SC_PHYS_PAGES") // MEMORY_OF_A_JOB
 
 
+def shares(ready, idle, urgent, most):
+    """Which crates begin, and how many of the idle processors each has: up to `most` for the urgent one, and for others where some are left."""
+    given = {}
+    for name in ready:
+        spare = idle - sum(given.values())
+        if spare == 0:
+            break
+        given[name] = min(spare, most) if name == urgent or len(ready) == len(given) + 1 else 1
+    return given
+
+
 def prove(names, below, jobs, last):
     """Proves crates, each after those that it stands on, and then answers the last step."""
     size = sizes(names, below)
     height = heights(names, below, size)
     done, running, begun = set(), {}, time.monotonic()
-    most_processes = 2 if 1 < jobs < jobs_by_memory() else 1
+    most = 2 if MANY_JOBS <= jobs < jobs_by_memory() else 1
     with tempfile.TemporaryDirectory(prefix="anvilwater-") as folder, concurrent.futures.ThreadPoolExecutor(jobs) as pool:
         trees = Trees(folder, below, jobs)
         try:
             while len(done) < len(names):
-                ready = [name for name in names - done - set(running.values()) if done.issuperset(below[name])]
-                ready.sort(key=height.get, reverse=True)
-                most = max(height[name] for name in names - done)
-                begin = ready[:jobs - len(running)]
-                share = jobs // max(1, len(running) + len(begin))
-                for name in begin:
-                    wanted = most_processes if height[name] == most else 1
-                    processes = max(wanted, share) if functions(name) >= MANY_FUNCTIONS else 1
-                    running[pool.submit(trees.check, name, processes)] = name
-                say(done, size, running.values(), begun)
+                held = {name: share for name, share in running.values()}
+                ready = sorted((name for name in names - done - set(held) if done.issuperset(below[name])), key=height.get, reverse=True)
+                urgent = max(names - done, key=height.get)
+                for name, share in shares(ready, jobs - sum(held.values()), urgent, most).items():
+                    processes = share if functions(name) >= MANY_FUNCTIONS else 1
+                    running[pool.submit(trees.check, name, processes)] = name, share
+                say(done, size, [name for name, _ in running.values()], begun)
                 for ended in concurrent.futures.wait(running, return_when=concurrent.futures.FIRST_COMPLETED).done:
                     del running[ended]
                     done.add(ended.result())
