@@ -167,6 +167,9 @@ def folders(work, program):
     write_world(valid, game_world())
     yield "a fault", (1, [*TOLD, "fault 20: BadEdit 1"]), \
         call(valid, "--edits", "/dev/stdin", "--ticks", "1", program=program, stdin=piped("1 2 3\n"))[::2]
+    form = "  a line is TICK X Y Z STATE with single spaces, as `1 8 75 8 minecraft:water[level=0]`"
+    told = call(valid, "--edits", edits, "--ticks", "1", "--explain", program=program)[2]
+    yield "a fault that is explained", (["fault 20: BadEdit 1", form], True), ([told[-3], told[-1]], told[-2].endswith("/edits, line 1: 1 2 3"))
     yield "a table", (1, ["fault 19: BadTable"]), call(world, "--table", edits, program=program)[::2]
     yield "another status", (7, ["fault 99: StandIn"]), call(world, what="refuse")[::2]
     yield "a program that dies", refused("the program was ended by signal 9; nothing is done"), call(world, what="die")[::2]

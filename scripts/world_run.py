@@ -1,7 +1,7 @@
 #!/usr/bin/env python3
 """Runs the program over a world as the game keeps it, in place.
 
-    anvilwater-world WORLD [--edits FILE] [--ticks N] [--table FILE] [--workers N] [--backup FOLDER]
+    anvilwater-world WORLD [--edits FILE] [--ticks N] [--table FILE] [--workers N] [--backup FOLDER] [--explain]
 
 WORLD is a world's folder or a dimension's (world, world/DIM-1), whose folder `region` is taken, or a folder of region files
 r.X.Z.mca itself. Its chunks may have any compression. The game must not have the world open, and can't open it meanwhile.
@@ -70,6 +70,8 @@ def words_read(given):
     parser.add_argument("--backup", metavar="FOLDER", help="a new folder for the old files")
     parser.add_argument("--program", metavar="FILE", default=os.path.join(TOP, "anvilwater"), help="another program than ./anvilwater")
     parser.add_argument("--progress", action="store_true", help="says how far it is on standard error, as it does on a terminal")
+    parser.add_argument("--explain", action="store_true",
+                        help="says behind a fault of the program where it is and what can be done, as it does on a terminal")
     words = parser.parse_args(given)
     if words.edits is not None and words.ticks is None:
         parser.error("--edits needs --ticks N, since each edit is set in one of the run's ticks")
@@ -180,7 +182,7 @@ class Program:
     def __init__(self, words, work, table):
         self.path, self.workers = os.path.abspath(words.program), str(words.workers)
         self.table, self.edits = os.path.join(work, "table"), os.path.join(work, "edits")
-        self.strict = ["--strict"] if table.is_strict else []
+        self.flags = ["--strict"] * table.is_strict + ["--explain"] * words.explain
         with open(self.table, "xb") as file:
             file.write(table.text)
         with open(words.edits or os.devnull, "rb") as given, open(self.edits, "xb") as file:
@@ -190,7 +192,7 @@ class Program:
         """What it prints. Its other lines go where those of this command go."""
         # This command holds session.lock itself.
         words = [self.path, "run", "--in", source, "--out", target, "--table", self.table, "--edits", edits, "--ticks", str(ticks),
-                 "--workers", self.workers, "--in-use", *self.strict]
+                 "--workers", self.workers, "--in-use", *self.flags]
         with subprocess.Popen(words, stdin=subprocess.DEVNULL, stdout=subprocess.PIPE, start_new_session=True,
                               preexec_fn=end_with_caller) as process:
             try:
