@@ -9,6 +9,7 @@ again never takes the same ticks twice. The commands that finish such a run, or 
 calls fails, it alone or all behind it too. The calls are stopped by halt.c, which the C compiler makes a library of; where there is no such
 compiler nothing is asked.
 """
+import dataclasses
 import enum
 import errno
 import os
@@ -18,8 +19,8 @@ import tempfile
 from concurrent.futures import ThreadPoolExecutor
 
 sys.dont_write_bytecode = True
-from cut_offs import (CHANGED, FINISHED, FOREIGN, HEAD, JOURNAL, LEFT_ALONE, NEW_JOURNAL, NOTHING_ELSE, REGIONS, TAKEN_AWAY, TOLD, TRIAL, Answer,
-                      World, contents, differing, is_left, part, report, shots)
+from cut_offs import (CHANGED, FINISHED, FOREIGN, JOURNAL, LEFT_ALONE, NEW_JOURNAL, NOTHING_ELSE, REGIONS, TAKEN_AWAY, TOLD, TRIAL, Answer,
+                      World, contents, differing, is_left, journal_of, part, report, shots)
 
 STAND, GO = "rename %s %s" % (NEW_JOURNAL, JOURNAL), "unlink " + JOURNAL
 PLACES = ["rename %s %s" % (part(name), name) for name in CHANGED]
@@ -52,7 +53,7 @@ def whole(world):
     yield "what it changes", CHANGED, differing(world.old, world.new)
     yield "what a second one changes", CHANGED, differing(world.new, world.twice)
     for files in (world.new, world.twice):
-        yield "owners and rights", {name: file[1:] for name, file in world.old.items()}, {name: file[1:] for name, file in files.items()}
+        yield "owners and rights", {name: file.rights() for name, file in world.old.items()}, {name: file.rights() for name, file in files.items()}
     folder = world.laid(world.old)
     path = os.path.join(folder, LEFT_ALONE)
     before = at_rest(path)
@@ -100,7 +101,7 @@ def states_of(world, phase, found):
     """Each region is the old or the new one: all are old before the journal stands, and new once it went."""
     allowed = {Phase.BEGUN: [world.old], Phase.STANDS: [world.old, world.new], Phase.DONE: [world.new]}[phase]
     yield "regions", [], [name for name in REGIONS if found.get(name) not in [files[name] for files in allowed]]
-    lines = {JOURNAL: sorted([*HEAD.splitlines(), *map(str.encode, CHANGED)])} if phase is Phase.STANDS else {}
+    lines = {JOURNAL: sorted(journal_of(CHANGED, world.old).splitlines())} if phase is Phase.STANDS else {}
     yield "the journal", lines, {name: sorted(found[name].content.splitlines()) for name in found if name == JOURNAL}
 
 
@@ -181,7 +182,7 @@ class Stopped:
         folder, _, calls = self.stopped(call, "after")
         found, lost = shots(folder), unsynced(calls)
         phase = self.phase.after(calls)
-        folder = self.world.laid({name: file._replace(content=b"") if name in lost else file for name, file in found.items()})
+        folder = self.world.laid({name: dataclasses.replace(file, content=b"") if name in lost else file for name, file in found.items()})
         yield "check", Answer(0, "", told(folder, phase, found)), self.world.check(folder)
         yield "files after it", [], differing(self.world.old if phase is Phase.BEGUN else self.world.new, shots(folder))
 

@@ -4,11 +4,13 @@
     scripts/check_devices.py PROGRAM           as crates/av_main/out/av_main
 
 Each command that reads or writes a folder finishes the run that its journal tells of, or takes away what one left, unless another call
-is at it; journals of another form, and links, are refused or leave alone what they lead to, and a file that can't take its place is named. Two calls meet at steps of a run, where there
-is a C compiler for halt.c. A device of each size from full to large enough is tried, and one that is read-only, where this may mount some;
-and files of other owners where it runs as root.
+is at it; a file that was written since is not replaced; journals of another form, and links, are refused or leave alone what they lead to,
+and a file that can't take its place is named. Two calls meet at steps of a run, where there is a C compiler for halt.c. A device of each
+size from full to large enough is tried, and one that is read-only, where this may mount some; and files of other owners where it runs as
+root.
 """
 import contextlib
+import dataclasses
 import errno
 import itertools
 import os
@@ -21,14 +23,15 @@ import tempfile
 sys.dont_write_bytecode = True
 import holding
 from cut_offs import (CHANGED, FINISHED, HEAD, JOURNAL, NEW_JOURNAL, NOTHING_ELSE, REGIONS, TAKEN_AWAY, TOLD, TRIAL, Answer, World, contents,
-                      differing, laid, part, report, shots)
+                      differing, journal_of, laid, mark, part, report, shots)
 
 COLOURS = os.path.join(os.path.dirname(os.path.dirname(os.path.abspath(__file__))), "tables", "colours.toml")
 PAGE = 4096
 
 
-def with_journal(world, journal=HEAD + "".join(name + "\n" for name in CHANGED).encode()):
-    """The files of a world in which a run was cut off when this was its journal."""
+def with_journal(world, journal=None):
+    """The files of a world in which a run was cut off when it had its journal, or this one."""
+    journal = journal_of(CHANGED, world.old) if journal is None else journal
     return {**world.old, **{part(name): world.new[name] for name in CHANGED}, JOURNAL: journal}
 
 
@@ -77,7 +80,7 @@ def commands(world):
     folder = world.laid(with_journal(world))
     yield "a run into it", Answer(0, "", [FINISHED % (folder, 3), NOTHING_ELSE]), world.ask(world.words(folder, source=world.laid(world.twice)))
     yield "files after a run into it", [], differing(world.new, shots(folder))
-    fresh = {name: file for name, file in with_journal(world).items() if name not in world.old}
+    fresh = {name: file for name, file in with_journal(world, journal_of(CHANGED, {})).items() if name not in world.old}
     folder = world.laid(fresh)
     yield "check of a folder without old files", Answer(0, "", [FINISHED % (folder, 3)]), world.check(folder)
     yield "its files", [], differing({name: world.new[name] for name in CHANGED}, shots(folder))
@@ -86,8 +89,10 @@ def commands(world):
 def journals(world):
     """Journals of another form are refused, and nothing is touched."""
     names = "level.dat", "../r.0.0.mca", "./r.0.0.mca", part("r.0.0.mca"), "r.00.0.mca", "r.0.0.mca ", "r.0.0.mca\r", "", "\udcff"
-    forms = [b"", b"\n", HEAD[:-1], HEAD + b"r.0.0.mca", b"anvilwater journal 2\nr.0.0.mca\n", b"anvilwater journal 1\r\nr.0.0.mca\r\n",
-             b"r.0.0.mca\n", *(HEAD + b"r.-1.0.mca\n" + name.encode(errors="surrogateescape") + b"\n" for name in names)]
+    one = b"r.0.0.mca\n\n" + mark(world.old["r.0.0.mca"])
+    forms = [b"", b"\n", HEAD[:-1], HEAD + b"r.0.0.mca", HEAD + b"r.0.0.mca\n", HEAD + b"r.0.0.mca\n\n", (HEAD + one)[:-1], HEAD + one + b"-\n", one,
+             b"anvilwater journal 1\nr.0.0.mca\n", b"anvilwater journal 3\n" + one, (HEAD + one).replace(b"\n", b"\r\n"),
+             *(HEAD + b"r.-1.0.mca\n" + name.encode(errors="surrogateescape") + b"\n\n-\n-\n" for name in names)]
     for form in forms:
         for words in (world.check_words, world.words):
             folder = world.laid(with_journal(world, form))
@@ -96,9 +101,42 @@ def journals(world):
             yield "files beside %s" % form, [], differing(was, shots(folder))
 
 
+def written_since(world):
+    """Where a file that is to be replaced was written since the journal was, nothing is done. It can then be kept."""
+    first, last = CHANGED[0], CHANGED[-1]
+    old, new = world.old[first], with_journal(world)
+    gone = {name: file for name, file in new.items() if name != first}
+    came = with_journal(world, journal_of(CHANGED, {name: file for name, file in world.old.items() if name != first}))
+    for what, files in (("a longer file", {**new, first: dataclasses.replace(old, content=old.content + b"more")}),
+                        ("a later file", {**new, first: dataclasses.replace(old, time=old.time + 1)}),
+                        ("an earlier file", {**new, first: dataclasses.replace(old, time=old.time - 10 ** 9)}),
+                        ("the last one", {**new, last: dataclasses.replace(world.old[last], time=0)}),
+                        ("a file that is gone", gone), ("a file that came", came)):
+        for words in (world.check_words, world.words):
+            folder = world.laid(files)
+            yield what, refused(folder), world.ask(words(folder))
+            yield "files beside %s" % what, [], differing(files_of(files), contents(shots(folder)))
+    folder = world.laid({**new, first: dataclasses.replace(old, time=old.time + 1)})
+    line = "  %s: %s was written since; to keep it, remove this journal" % (os.path.join(folder, JOURNAL), first)
+    yield "why", (1, [*refused(folder).errors, line]), world.ask([*world.check_words(folder), "--explain"])[::2]
+    os.unlink(os.path.join(folder, JOURNAL))
+    yield "once the journal is removed", Answer(0, "", [TAKEN_AWAY % (folder, 3)]), world.check(folder)
+    yield "the files then", [], differing(world.old, shots(folder))
+    placed = {**new, first: dataclasses.replace(world.new[first], time=1)}
+    del placed[part(first)]
+    folder = world.laid(placed)
+    yield "a file that has its place", Answer(0, "", [FINISHED % (folder, 3)]), world.check(folder)
+    yield "files beside one that has its place", [], differing(world.new, shots(folder))
+
+
+def files_of(files):
+    """The bytes of files that are laid."""
+    return {name: file if isinstance(file, bytes) else file.content for name, file in files.items()}
+
+
 def links(world):
     """What links lead to is left alone, and a link or no file in the place of the journal is refused."""
-    other = world.laid({"valid": HEAD + b"r.0.0.mca\n", "foreign": b"of somebody else"})
+    other = world.laid({"valid": journal_of(["r.0.0.mca"], world.old), "foreign": b"of somebody else"})
     was = shots(other)
     makers = [("a link to %s" % name, lambda path, name=name: os.symlink(os.path.join(other, name), path)) for name in (*was, "nothing")]
     for (what, make), words in itertools.product([*makers, ("a folder", os.mkdir), ("a pipe", os.mkfifo)], (world.check_words, world.words)):
@@ -185,13 +223,13 @@ def owners(world):
     shutil.copy(world.program, program)
     os.chmod(world.work, 0o755)
     for mode in (0o777, 0o1777):
-        folder = world.laid({name: file._replace(mode=file.mode | 0o004) for name, file in world.old.items()})
+        folder = world.laid({name: dataclasses.replace(file, mode=file.mode | 0o004) for name, file in world.old.items()})
         os.chmod(folder, mode)
         was = shots(folder)
         answer = world.ask([program, *world.words(folder)[1:]], **user)
         if mode == 0o777:
             yield "a run of another user", Answer(0, TOLD, []), answer
-            wanted = {name: world.new[name]._replace(mode=was[name].mode, user=4321, group=4321) for name in CHANGED}
+            wanted = {name: dataclasses.replace(world.new[name], mode=was[name].mode, user=4321, group=4321) for name in CHANGED}
             yield "the files that he wrote", [], differing({**was, **wanted}, shots(folder))
         else:
             yield "a run of one who may replace no file", (1, ""), answer[:2]
@@ -307,7 +345,7 @@ def main():
     if len(sys.argv) not in (2, 3):
         sys.exit(__doc__)
     may_mount = has_own_mounts()
-    checks = [commands, journals, links, held, two_at_once, unmoved, owners]
+    checks = [commands, journals, written_since, links, held, two_at_once, unmoved, owners]
     if may_mount:
         checks.append(full)
     if may_mount or os.geteuid() != 0:

@@ -136,6 +136,13 @@ def check_linked_world(program, work, want):
     expect("what is written to it", want, contents(folder))
 
 
+def journal(folder):
+    """Writes the journal of a run whose new files wait."""
+    marks = [(folder / name).stat() for name in NAMES]
+    lines = ["anvilwater journal 2", *NAMES, "", *("%d %d %d" % (mark.st_size, *divmod(mark.st_mtime_ns, 10 ** 9)) for mark in marks)]
+    (folder / ".anvilwater-journal").write_text("".join(line + "\n" for line in lines))
+
+
 def check_waiting(program, work, want):
     """Where new files are to take their places in a world that the game has open, each command waits for the game."""
     folder = work / "waiting" / "region"
@@ -143,7 +150,7 @@ def check_waiting(program, work, want):
     regions(folder)
     for name in NAMES:
         (folder / (".anvilwater-" + name)).write_bytes(want[name])
-    (folder / ".anvilwater-journal").write_text("anvilwater journal 1\n" + "".join(name + "\n" for name in NAMES))
+    journal(folder)
     before = contents(folder)
     session = folder.parent / "session.lock"
     check = [program, "check", "--in", str(folder), "--explain"]
@@ -158,7 +165,7 @@ def check_waiting(program, work, want):
     line = "%s: a run that was cut off is finished: 2 files took their places" % folder
     expect("the same once it is closed", (0, [line]), (done.returncode, [line for line in done.stderr.splitlines() if "findings" not in line]))
     expect("its files then", want, contents(folder))
-    (folder / ".anvilwater-journal").write_text("anvilwater journal 1\n" + "".join(name + "\n" for name in NAMES))
+    journal(folder)
     with locked(session, fcntl.lockf):
         done = subprocess.run(check, stdin=subprocess.DEVNULL, capture_output=True, text=True)
     expect("a journal whose files have their places", (0, True), (done.returncode, done.stderr.startswith(line + "\n")))

@@ -82,7 +82,7 @@ def runs_of_the_program(world):
     with held(region_of(world)):
         yield "a run of the program", refused("another program works on %s; nothing is done" % region_of(world)), call(world)[::2]
     yield "nothing is another", was, shots(world)
-    write(region_of(world), ".anvilwater-journal", b"anvilwater journal 1\nr.0.1.mca\n")
+    write(region_of(world), ".anvilwater-journal", b"anvilwater journal 2\nr.0.1.mca\n\n-\n")
     was, line = shots(world), "in %s a run of the program was cut off, which `anvilwater check` of it finishes; nothing is done"
     yield "one that was cut off", refused(line % region_of(world)), call(world)[::2]
     yield "nothing is another", was, shots(world)

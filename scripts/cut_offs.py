@@ -1,4 +1,5 @@
 """Runs of a small world in place that halt.c stops or lets fail, for check_cut_off.py and check_devices.py, and what they leave."""
+import dataclasses
 import itertools
 import os
 import signal
@@ -22,18 +23,24 @@ TOLD = "chunks 4 turns 3"
 FOREIGN = {".anvilwater-r.0.0.mca.old": b"of somebody else", ".anvilwater-r.00.0.mca": b"of somebody else", "r.0.0.mca.part": b""}
 
 JOURNAL, NEW_JOURNAL, TRIAL = ".anvilwater-journal", ".anvilwater-journal-new", ".anvilwater-trial"
-HEAD = b"anvilwater journal 1\n"
+HEAD = b"anvilwater journal 2\n"
 FINISHED = "%s: a run that was cut off is finished: %d files took their places"
 TAKEN_AWAY = "%s: %d files that a run left behind when it was cut off are taken away"
 NOTHING_ELSE = "  nothing else is done, so that no tick is run twice: --again runs it anew"
 
 
-class Shot(typing.NamedTuple):
-    """What a name of a folder has: a file's bytes, or where a link leads to, the mode and the owner."""
+@dataclasses.dataclass(frozen=True)
+class Shot:
+    """What a name of a folder has: a file's bytes, or where a link leads to, the mode and the owner. The time at which it was written last
+    makes no difference."""
     content: typing.Union[bytes, str, None]
     mode: int
     user: int
     group: int
+    time: int = dataclasses.field(compare=False)
+
+    def rights(self):
+        return self.mode, self.user, self.group
 
 
 class Answer(typing.NamedTuple):
@@ -46,12 +53,12 @@ class Answer(typing.NamedTuple):
 def shot(path):
     found = os.lstat(path)
     if stat.S_ISLNK(found.st_mode):
-        return Shot(os.readlink(path), 0, found.st_uid, found.st_gid)
+        return Shot(os.readlink(path), 0, found.st_uid, found.st_gid, 0)
     content = None
     if stat.S_ISREG(found.st_mode):
         with open(path, "rb") as file:
             content = file.read()
-    return Shot(content, found.st_mode, found.st_uid, found.st_gid)
+    return Shot(content, found.st_mode, found.st_uid, found.st_gid, found.st_mtime_ns)
 
 
 def shots(folder):
@@ -82,11 +89,22 @@ def laid(folder, files):
             os.chmod(path, file.mode)
             if (file.user, file.group) != (os.geteuid(), os.getegid()):
                 os.chown(path, file.user, file.group)
+            os.utime(path, ns=(file.time, file.time))
     return folder
 
 
 def part(name):
     return ".anvilwater-" + name
+
+
+def mark(file):
+    """The line by which a journal knows a file again, or that none has its name."""
+    return b"-\n" if file is None else b"%d %d %d\n" % (len(file.content), *divmod(file.time, 10 ** 9))
+
+
+def journal_of(names, files):
+    """The journal of a run whose new files have these names, where these files were when it was written."""
+    return HEAD + b"".join(name.encode() + b"\n" for name in names) + b"\n" + b"".join(mark(files.get(name)) for name in names)
 
 
 def is_left(name):

@@ -77,6 +77,8 @@ impl Memory {
 impl Folder for Memory {
     ghost history = { λ s. None };
 
+    ghost mark_of = { λ s bytes. bytes };
+
     fn write_new(&mut self, name: &str, bytes: &[u8], _like: &str) -> io::Result<()> {
         self.spend()?;
         if self.position(name).is_some() {
@@ -105,6 +107,13 @@ impl Folder for Memory {
     }
 
     fn read_text(&self, alloc: Global, name: &str) -> io::Result<Option<String>> {
+        match self.position(name) {
+            Some(_) => Ok(Some(String::from_str(alloc, self.text(name))?)),
+            None => Ok(None),
+        }
+    }
+
+    fn mark(&self, alloc: Global, name: &str) -> io::Result<Option<String>> {
         match self.position(name) {
             Some(_) => Ok(Some(String::from_str(alloc, self.text(name))?)),
             None => Ok(None),
@@ -225,7 +234,7 @@ fn the_text_of_a_journal(rt: HostRuntime) -> Result<(), Fail> {
     expect_equal(
         &rt,
         folder.text(".anvilwater-journal"),
-        "anvilwater journal 1\nr.0.0.mca\nr.-1.2.mca\n",
+        "anvilwater journal 2\nr.0.0.mca\nr.-1.2.mca\n\nold zero\n-\n",
     );
     expect_equal(&rt, folder.text(".anvilwater-r.-1.2.mca"), "new one");
     Ok(())
@@ -234,13 +243,16 @@ fn the_text_of_a_journal(rt: HostRuntime) -> Result<(), Fail> {
 /// A text of another form is refused, and nothing is done.
 #[test]
 fn texts_that_are_no_journal(rt: HostRuntime) -> Result<(), Fail> {
-    let texts: [&[u8]; 6] = [
+    let texts: [&[u8]; 9] = [
         b"",
+        b"anvilwater journal 1\nr.0.0.mca\n",
+        b"anvilwater journal 3\nr.0.0.mca\n\n-\n",
+        b"anvilwater journal 2\nr.0.0.mca\n\n-",
+        b"anvilwater journal 2\n../r.0.0.mca\n\n-\n",
+        b"anvilwater journal 2\nr.00.0.mca\n\n-\n",
         b"anvilwater journal 2\nr.0.0.mca\n",
-        b"anvilwater journal 1\nr.0.0.mca",
-        b"anvilwater journal 1\n../r.0.0.mca\n",
-        b"anvilwater journal 1\nr.00.0.mca\n",
-        b"anvilwater journal 1\n\n",
+        b"anvilwater journal 2\nr.0.0.mca\n\n",
+        b"anvilwater journal 2\nr.0.0.mca\n\n-\n-\n",
     ];
     for text in texts {
         let mut folder = Memory::new(rt.alloc());
@@ -252,6 +264,42 @@ fn texts_that_are_no_journal(rt: HostRuntime) -> Result<(), Fail> {
         expect_equal(&rt, error.kind(), ErrorKind::InvalidData);
         expect_equal(&rt, folder.entries.len(), 2);
     }
+    Ok(())
+}
+
+/// Behind the fifth call the journal has its name, and no file its place. What then is written, or comes, is not replaced, and nothing is done.
+#[test]
+fn what_was_written_since_is_kept(rt: HostRuntime) -> Result<(), Fail> {
+    for (name, text) in [("r.0.0.mca", "newer"), ("r.-1.2.mca", "came")] {
+        let mut folder = cut_off(rt.alloc(), 5)?;
+        let _ = folder.take(name);
+        folder.add(name, text.as_bytes())?;
+        let error = repair(rt.alloc(), &mut folder, &NoTeller)
+            .err()
+            .ok_or("a file that was written since")?;
+        expect_equal(&rt, error.kind(), ErrorKind::InvalidData);
+        expect_equal(&rt, folder.text(name), text);
+        expect_equal(&rt, folder.text(".anvilwater-r.0.0.mca"), "new zero");
+        expect_equal(&rt, folder.text(".anvilwater-r.-1.2.mca"), "new one");
+    }
+    Ok(())
+}
+
+/// One that is gone was written since too. One whose new file took its place may be written: behind the seventh call `r.0.0.mca` has its.
+#[test]
+fn what_has_its_place_may_be_written(rt: HostRuntime) -> Result<(), Fail> {
+    let mut folder = cut_off(rt.alloc(), 5)?;
+    let _ = folder.take("r.0.0.mca");
+    expect_equal(
+        &rt,
+        repair(rt.alloc(), &mut folder, &NoTeller).is_err(),
+        true,
+    );
+    let mut folder = cut_off(rt.alloc(), 7)?;
+    let _ = folder.take("r.0.0.mca");
+    folder.add("r.0.0.mca", b"newer")?;
+    repair(rt.alloc(), &mut folder, &NoTeller)?;
+    has(&rt, &folder, "newer", "new one", 2);
     Ok(())
 }
 

@@ -32,7 +32,7 @@ other_journal = beside_no_journal
 -- what counts in a folder without a journal
 pub plain : (h : Holdings) (j : Option (List (List ℕ))) (m : List ℕ) (file : Option (List ℕ)) → h journal_name ≡ None → IsJournaled h j → file ≡ counted j h m → file ≡ h m
 plain h None m file free is counts = counts
-plain h (Some names) m file free is counts = absurd (none-some _ (sym free ∙ is.0))
+plain h (Some names) m file free is counts = absurd (none-some _ (sym free ∙ is.text))
 
 -- what it stands for is what it holds
 pub plain_stands : (h k : Holdings) → h journal_name ≡ None → StandsFor h k → (m : List ℕ) → is_own m ≡ false → k m ≡ h m

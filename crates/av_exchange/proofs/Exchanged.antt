@@ -64,12 +64,12 @@ listed_region (f ∷ files) m are listed = elim (cases_Bool (bytes_eq m f.name))
 
 -- ---- the new files are written
 
-module _ (h : Holdings) (files : List NamedFile) (are : AreRegions files) where
+module _ (h : Holdings) (files : List NamedFile) (are : AreRegions files) (marks : List (List ℕ)) where
   text : List ℕ
-  text = journal_of (map (λ f. f.name) files)
+  text = journal_of (map (λ f. f.name) files) marks
 
   writing : List Step
-  writing = map staged files ++ (Written new_journal_name (journal_of (map (λ f. f.name) files)) ∷ [])
+  writing = map staged files ++ (Written new_journal_name (journal_of (map (λ f. f.name) files) marks) ∷ [])
 
   staged_beside : (fs : List NamedFile) → AreRegions fs → (more : List Step) → AllByRecursion IsStepBeside more → AllByRecursion IsStepBeside (map staged fs ++ more)
   unfolding AreRegions
@@ -82,18 +82,18 @@ module _ (h : Holdings) (files : List NamedFile) (are : AreRegions files) where
 
   -- when all are, the journal has its name
   begun : Holdings
-  begun = after (after_all h (map staged files ++ (Written new_journal_name (journal_of (map (λ f. f.name) files)) ∷ []))) (Moved new_journal_name journal_name)
+  begun = after (after_all h (map staged files ++ (Written new_journal_name (journal_of (map (λ f. f.name) files) marks) ∷ []))) (Moved new_journal_name journal_name)
 
   beside_is : Holdings
   beside_is = after_all h (map staged files)
 
   as_named : Holdings
-  as_named = with_name (with_name (with_name (after_all h (map staged files)) new_journal_name (Some (journal_of (map (λ f. f.name) files)))) new_journal_name None)
-      journal_name (Some (journal_of (map (λ f. f.name) files)))
+  as_named = with_name (with_name (with_name (after_all h (map staged files)) new_journal_name (Some (journal_of (map (λ f. f.name) files) marks))) new_journal_name None)
+      journal_name (Some (journal_of (map (λ f. f.name) files) marks))
 
   begun_is : begun ≡ as_named
   unfolding begun as_named
-  begun_is = ap (λ (f : Holdings). after f (Moved new_journal_name journal_name)) (after_both h (map staged files) (Written new_journal_name (journal_of (map (λ f. f.name) files)) ∷ []))
+  begun_is = ap (λ (f : Holdings). after f (Moved new_journal_name journal_name)) (after_both h (map staged files) (Written new_journal_name (journal_of (map (λ f. f.name) files) marks) ∷ []))
 
   all_region : (fs : List NamedFile) → AreRegions fs → AllByRecursion IsRegionName (map (λ f. f.name) fs)
   unfolding AreRegions
@@ -102,7 +102,7 @@ module _ (h : Holdings) (files : List NamedFile) (are : AreRegions files) where
 
   named_journaled : IsJournaled as_named (Some (map (λ f. f.name) files))
   unfolding as_named
-  named_journaled = (refl, all_region files are)
+  named_journaled = record { marks = marks; text = refl; regions = all_region files are }
 
   staged_only : (fs : List NamedFile) → AreRegions fs → AllByRecursion IsStepBeside (map staged fs)
   unfolding AreRegions
@@ -156,30 +156,30 @@ module _ (h : Holdings) (files : List NamedFile) (are : AreRegions files) where
   begun_stands k is = record { journal = Some (map (λ f. f.name) files); journaled = begun_journaled; counts = begun_counts k is }
 
   after_begun : (rest : List Step)
-      → after_all h ((map staged files ++ (Written new_journal_name (journal_of (map (λ f. f.name) files)) ∷ [])) ++ (Synced ∷ ((Moved new_journal_name journal_name ∷ []) ++ (Synced ∷ rest))))
+      → after_all h ((map staged files ++ (Written new_journal_name (journal_of (map (λ f. f.name) files) marks) ∷ [])) ++ (Synced ∷ ((Moved new_journal_name journal_name ∷ []) ++ (Synced ∷ rest))))
       ≡ after_all begun rest
   unfolding begun
-  after_begun rest = after_phase h (map staged files ++ (Written new_journal_name (journal_of (map (λ f. f.name) files)) ∷ [])) (Moved new_journal_name journal_name ∷ (Synced ∷ rest))
+  after_begun rest = after_phase h (map staged files ++ (Written new_journal_name (journal_of (map (λ f. f.name) files) marks) ∷ [])) (Moved new_journal_name journal_name ∷ (Synced ∷ rest))
 
 -- ---- the laws
 
 pub leaves_old_or_new : LeavesOldOrNew
 unfolding AreRegions begun writing
-leaves_old_or_new h k files _ free are s (during _ _ left some) =
-    inl (beside_keeps h k left free (some_all IsStepBeside left _ some (writing_beside h files are)) s)
-leaves_old_or_new h k files _ free are s (later _ _ _ (during _ _ left some)) =
+leaves_old_or_new h k files marks _ free are s (during _ _ left some) =
+    inl (beside_keeps h k left free (some_all IsStepBeside left _ some (writing_beside h files are marks)) s)
+leaves_old_or_new h k files marks _ free are s (later _ _ _ (during _ _ left some)) =
     let is = plain_stands h k free s in
-    subst (λ (f : Holdings). StandsFor f k ⊎ StandsFor f (with_all k files)) (sym (after_phase h (writing h files are) left))
+    subst (λ (f : Holdings). StandsFor f k ⊎ StandsFor f (with_all k files)) (sym (after_phase h (writing h files are marks) left))
     (one_or_none (Moved new_journal_name journal_name) left
-    (λ (l : List Step). StandsFor (after_all (after_all h (writing h files are)) l) k ⊎ StandsFor (after_all (after_all h (writing h files are)) l) (with_all k files)) some
-    (inl (beside_keeps h k (writing h files are) free (writing_beside h files are) s))
-    (inr (begun_stands h files are k is)))
-leaves_old_or_new h k files _ free are s (later _ _ _ (later _ _ left cut)) =
+    (λ (l : List Step). StandsFor (after_all (after_all h (writing h files are marks)) l) k ⊎ StandsFor (after_all (after_all h (writing h files are marks)) l) (with_all k files)) some
+    (inl (beside_keeps h k (writing h files are marks) free (writing_beside h files are marks) s))
+    (inr (begun_stands h files are marks k is)))
+leaves_old_or_new h k files marks _ free are s (later _ _ _ (later _ _ left cut)) =
     let is = plain_stands h k free s in
-    let now = begun h files are in
-    let counts = begun_counts h files are k is in
-    let journaled = begun_journaled h files are in
-    inr (subst (λ (f : Holdings). StandsFor f (with_all k files)) (sym (after_begun h files are left))
+    let now = begun h files are marks in
+    let counts = begun_counts h files are marks k is in
+    let journaled = begun_journaled h files are marks in
+    inr (subst (λ (f : Holdings). StandsFor f (with_all k files)) (sym (after_begun h files are marks left))
     (finishing_keeps now (with_all k files) (map (λ f. f.name) files) journaled counts [] left
     (λ more rest. ended_stands now k files journaled counts more rest) cut))
   where
@@ -190,12 +190,12 @@ leaves_old_or_new h k files _ free are s (later _ _ _ (later _ _ left cut)) =
 
 pub leaves_new : LeavesNew
 unfolding AreRegions begun
-leaves_new h k files free are s =
+leaves_new h k files marks free are s =
     let is = plain_stands h k free s in
-    let now = begun h files are in
-    let counts = begun_counts h files are k is in
-    let journaled = begun_journaled h files are in
+    let now = begun h files are marks in
+    let counts = begun_counts h files are marks k is in
+    let journaled = begun_journaled h files are marks in
     subst (λ (f : Holdings). StandsFor f (with_all k files))
-    (sym (after_begun h files are (all_of (finishing (map (λ f. f.name) files)))
+    (sym (after_begun h files are marks (all_of (finishing (map (λ f. f.name) files)))
     ∙ after_finishing now (with_all k files) (map (λ f. f.name) files) journaled counts []))
     (forgotten_stands now (with_all k files) (map (λ f. f.name) files) journaled counts)

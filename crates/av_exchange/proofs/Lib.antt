@@ -3,6 +3,7 @@ pub mod Listing
 pub mod Crash
 pub mod History
 pub mod Stepwise
+pub mod Marked
 pub mod Beside
 pub mod Placed
 pub mod Exchanged

@@ -1,5 +1,5 @@
 -- A journal's text tells which names it lists.
-use Rattle.std.proofs.Common.{◌≡◌, ◌≢◌, ◌∙◌, ◌<◌, ap, ap₂, sym, subst, refl, arith, ℕ, ℤ, pos, negsuc, suc, List, [], ◌∷◌, ◌++◌, codes, drop, get_or, FitsSigned, w32, ◌^◌, Option, Some, None}
+use Rattle.std.proofs.Common.{◌≡◌, ◌≢◌, ◌∙◌, ◌<◌, ap, ap₂, sym, subst, refl, arith, ℕ, ℤ, pos, negsuc, suc, List, [], ◌∷◌, ◌++◌, append_assoc, codes, drop, get_or, FitsSigned, w32, ◌^◌, Option, Some, None}
 use Rattle.std.specs.Int.{IsInRange}
 use Rattle.std.specs.Fmt.{decimal, signed_decimal}
 use Rattle.std.specs.List.{AllByRecursion}
@@ -8,7 +8,7 @@ use Rattle.std.proofs.lemmas.Option.{none-some, same_Some}
 use Rattle.std.proofs.lemmas.Str.Parse.{IsNumeralModel, not_in_digits, numerals_by_value, tells_digits}
 use Rattle.std.proofs.lemmas.Fmt.{digits_decimal}
 use Rattle.std.specs.Prelude.{length, slice_index}
-use Rattle.av_exchange.specs.Names.{IsRegionName, journal_of, name_lines}
+use Rattle.av_exchange.specs.Names.{IsRegionName, journal_of, lines_of}
 use Rattle.av_exchange.specs.Exchange.{IsJournaled}
 use Rattle.av_exchange.specs.Steps.{Holdings}
 
@@ -68,24 +68,32 @@ line_same (c ∷ a) (d ∷ b) x y na nb is =
     let rest = line_same a b x y na.1 nb.1 (tail_same c d _ _ is) in
     (ap₂ (λ (h : ℕ) (t : List ℕ). h ∷ t) (head_same c d _ _ is) rest.0, rest.1)
 
-not_empty : (a x : List ℕ) → [] ≡ a ++ (10 ∷ x) → ⊥
-not_empty [] x is = let bad : length {A = ℕ} [] ≡ length (10 ∷ x) = ap length is in absurd (omega arith)
-not_empty (c ∷ a) x is = let bad : length {A = ℕ} [] ≡ length (c ∷ (a ++ (10 ∷ x))) = ap length is in absurd (omega arith)
+region_some : (name : List ℕ) → IsRegionName name → [] ≡ name → ⊥
+region_some name r is = let first : 0 ≡ 114 = ap (λ (l : List ℕ). get_or l 0 0) (is ∙ r.named) in absurd (omega (arith, first))
 
-lines_same : (ms ns : List (List ℕ)) → AllByRecursion IsRegionName ms → AllByRecursion IsRegionName ns → name_lines ms ≡ name_lines ns → ms ≡ ns
-lines_same [] [] am an is = refl
-lines_same [] (n ∷ ns) am an is = absurd (not_empty n (name_lines ns) is)
-lines_same (m ∷ ms) [] am an is = absurd (not_empty m (name_lines ms) (sym is))
-lines_same (m ∷ ms) (n ∷ ns) am an is =
-    let one = line_same m n _ _ (region_no_end m am.0) (region_no_end n an.0) is in
-    ap₂ (λ (h : List ℕ) (t : List (List ℕ)). h ∷ t) one.0 (lines_same ms ns am.1 an.1 one.1)
+-- a line, and lines behind it
+behind_line : (n : List ℕ) (ns : List (List ℕ)) (x : List ℕ) → lines_of (n ∷ ns) ++ (10 ∷ x) ≡ n ++ (10 ∷ (lines_of ns ++ (10 ∷ x)))
+behind_line n ns x = append_assoc n (10 ∷ lines_of ns) (10 ∷ x)
+
+-- names that are followed by an empty line
+lines_same : (ms ns : List (List ℕ)) (x y : List ℕ) → AllByRecursion IsRegionName ms → AllByRecursion IsRegionName ns
+    → lines_of ms ++ (10 ∷ x) ≡ lines_of ns ++ (10 ∷ y) → ms ≡ ns
+unfolding HasNoEnd
+lines_same [] [] x y am an is = refl
+lines_same [] (n ∷ ns) x y am an is =
+    absurd (region_some n an.0 ((line_same [] n x _ tt (region_no_end n an.0) (is ∙ behind_line n ns y)).0))
+lines_same (m ∷ ms) [] x y am an is =
+    absurd (region_some m am.0 ((line_same [] m y _ tt (region_no_end m am.0) (sym is ∙ behind_line m ms x)).0))
+lines_same (m ∷ ms) (n ∷ ns) x y am an is =
+    let one = line_same m n _ _ (region_no_end m am.0) (region_no_end n an.0) (sym (behind_line m ms x) ∙ (is ∙ behind_line n ns y)) in
+    ap₂ (λ (h : List ℕ) (t : List (List ℕ)). h ∷ t) one.0 (lines_same ms ns x y am.1 an.1 one.1)
 
 -- a journal lists no other names
-pub journal_same : (ms ns : List (List ℕ)) → AllByRecursion IsRegionName ms → AllByRecursion IsRegionName ns → journal_of ms ≡ journal_of ns → ms ≡ ns
-journal_same ms ns am an is = lines_same ms ns am an (ap (drop 21) is)
+pub journal_same : (ms ns xs ys : List (List ℕ)) → AllByRecursion IsRegionName ms → AllByRecursion IsRegionName ns → journal_of ms xs ≡ journal_of ns ys → ms ≡ ns
+journal_same ms ns xs ys am an is = lines_same ms ns (lines_of xs) (lines_of ys) am an (ap (drop 21) is)
 
 pub one_journal : (h : Holdings) (i j : Option (List (List ℕ))) → IsJournaled h i → IsJournaled h j → i ≡ j
 one_journal h None None a b = refl
-one_journal h None (Some ns) a b = absurd (none-some _ (sym a ∙ b.0))
-one_journal h (Some ms) None a b = absurd (none-some _ (sym b ∙ a.0))
-one_journal h (Some ms) (Some ns) a b = ap Some (journal_same ms ns a.1 b.1 (same_Some _ _ (sym a.0 ∙ b.0)))
+one_journal h None (Some ns) a b = absurd (none-some _ (sym a ∙ b.text))
+one_journal h (Some ms) None a b = absurd (none-some _ (sym b ∙ a.text))
+one_journal h (Some ms) (Some ns) a b = ap Some (journal_same ms ns a.marks b.marks a.regions b.regions (same_Some _ _ (sym a.text ∙ b.text)))

@@ -46,10 +46,10 @@ module _ (h k : Holdings) (names : List (List ℕ)) (is : IsJournaled h (Some na
   -- while files take their places
   pub placing_stands : (left : List Step) → AreSomeOf left (map placed names) → StandsFor (after_all h left) k
   placing_stands left some =
-      let are = some_placing names left is.1 some in
+      let are = some_placing names left is.regions some in
       record {
         journal = Some names;
-        journaled = (placing_keeps_journal names h left are ∙ is.0, is.1);
+        journaled = record { marks = is.marks; text = placing_keeps_journal names h left are ∙ is.text; regions = is.regions };
         counts = λ m own. counts m own ∙ sym (placing_keeps_counts names h left m are own);
       }
 
@@ -57,7 +57,7 @@ module _ (h k : Holdings) (names : List (List ℕ)) (is : IsJournaled h (Some na
   all_placed : (m : List ℕ) → is_own m ≡ false → k m ≡ after_all h (map placed names) m
   all_placed m own =
       let now = after_all h (map placed names) in
-      let are = some_placing names (map placed names) is.1 (all_some (map placed names)) in
+      let are = some_placing names (map placed names) is.regions (all_some (map placed names)) in
       counts m own ∙ (sym (placing_keeps_counts names h (map placed names) m are own) ∙ held m)
     where
       now : Holdings
@@ -66,7 +66,7 @@ module _ (h k : Holdings) (names : List (List ℕ)) (is : IsJournaled h (Some na
       held : (m : List ℕ) → counted (Some names) now m ≡ now m
       held m = elim (cases_Bool (is_listed names m)) [
         | inl listed ↦
-            cond-true (is_listed names m) _ _ listed ∙ ap (λ (o : Option (List ℕ)). option_or o (now m)) (all_go h names m is.1 listed)
+            cond-true (is_listed names m) _ _ listed ∙ ap (λ (o : Option (List ℕ)). option_or o (now m)) (all_go h names m is.regions listed)
         | inr other ↦ cond-false (is_listed names m) _ _ other
       ]
 

@@ -6,7 +6,7 @@ use Rattle.std.specs.List.{AllByRecursion}
 use Rattle.av_sink.specs.declared.sink.Repair.{Repair}
 use Rattle.av_exchange.specs.Steps.{AreSomeOf, none, kept, History, IfTold, IsCutOff, ended, during, later, Moved, Removed, Synced, Written, Step, all_of, with_steps}
 use Rattle.av_exchange.specs.Exchange.{IsJournaled, closing, placed, placing, repairing, sweeping}
-use Rattle.av_exchange.specs.Names.{IsRegionName, head_line, journal_name, journal_of, name_lines, new_journal_name}
+use Rattle.av_exchange.specs.Names.{IsRegionName, journal_name, journal_of, lines_of, new_journal_name}
 use Rattle.av_exchange.specs.Outcomes.{HasStopped, IsFinished, IsRepaired, IsSettledInPart, IsSwept, IsSweepStopped, IsUnrepaired, in_part, name_of, stopped, unsynced}
 use Rattle.av_exchange.specs.declared.moves.Move.{Move}
 use Rattle.av_exchange.proofs.Crash.{all_some, none_some}
@@ -54,32 +54,32 @@ all_finished names old mid new first next =
     then_steps old mid new (Synced ∷ (map placed names ++ (Synced ∷ []))) (all_of closing) first next
     ∙ ap (λ (l : List Step). with_steps old (Synced ∷ l)) (append_assoc (map placed names) (Synced ∷ []) (all_of closing))
 
-pub placed_all : (old mid new : Option History) (text : List ℕ) (names moved : List (List ℕ)) → text ≡ journal_of names → moved ≡ names
+pub placed_all : (old mid new : Option History) (text : List ℕ) (names marks moved : List (List ℕ)) → text ≡ journal_of names marks → moved ≡ names
     → mid ≡ with_steps old (Written new_journal_name text ∷ Synced ∷ Moved new_journal_name journal_name ∷ [])
-    → new ≡ with_steps mid (Synced ∷ all_of (map placed moved ∷ [])) → new ≡ with_steps old (all_of (placing names))
-placed_all old mid new text names moved texts same first next =
+    → new ≡ with_steps mid (Synced ∷ all_of (map placed moved ∷ [])) → new ≡ with_steps old (all_of (placing names marks))
+placed_all old mid new text names marks moved texts same first next =
     then_steps old mid new (Written new_journal_name text ∷ Synced ∷ Moved new_journal_name journal_name ∷ []) (Synced ∷ all_of (map placed moved ∷ [])) first next
     ∙ ap₂ (λ (t : List ℕ) (ns : List (List ℕ)). with_steps old (Written new_journal_name t ∷ Synced ∷ Moved new_journal_name journal_name ∷ Synced ∷ all_of (map placed ns ∷ []))) texts same
 
-stopped_settling : (old mid new : Option History) (names : List (List ℕ))
-    → mid ≡ with_steps old (Written new_journal_name (journal_of names) ∷ Synced ∷ Moved new_journal_name journal_name ∷ [])
-    → IsSettledInPart names mid new → HasStopped (placing names) old new
-stopped_settling old mid new names first (unsynced same) = record {
-  left = Written new_journal_name (journal_of names) ∷ Synced ∷ Moved new_journal_name journal_name ∷ [];
+stopped_settling : (old mid new : Option History) (names marks : List (List ℕ))
+    → mid ≡ with_steps old (Written new_journal_name (journal_of names marks) ∷ Synced ∷ Moved new_journal_name journal_name ∷ [])
+    → IsSettledInPart names mid new → HasStopped (placing names marks) old new
+stopped_settling old mid new names marks first (unsynced same) = record {
+  left = Written new_journal_name (journal_of names marks) ∷ Synced ∷ Moved new_journal_name journal_name ∷ [];
   cut_off = later _ _ _ (during _ _ _ (all_some _));
   steps = same ∙ first;
 }
-stopped_settling old mid new names first (in_part left some is) = record {
-  left = Written new_journal_name (journal_of names) ∷ Synced ∷ Moved new_journal_name journal_name ∷ Synced ∷ left;
+stopped_settling old mid new names marks first (in_part left some is) = record {
+  left = Written new_journal_name (journal_of names marks) ∷ Synced ∷ Moved new_journal_name journal_name ∷ Synced ∷ left;
   cut_off = later _ _ _ (later _ _ _ (during _ _ left some));
-  steps = then_steps old mid new (Written new_journal_name (journal_of names) ∷ Synced ∷ Moved new_journal_name journal_name ∷ []) (Synced ∷ left) first is;
+  steps = then_steps old mid new (Written new_journal_name (journal_of names marks) ∷ Synced ∷ Moved new_journal_name journal_name ∷ []) (Synced ∷ left) first is;
 }
 
-pub stopped_placing : (old mid new : Option History) (text : List ℕ) (names moved : List (List ℕ)) → text ≡ journal_of names → moved ≡ names
+pub stopped_placing : (old mid new : Option History) (text : List ℕ) (names marks moved : List (List ℕ)) → text ≡ journal_of names marks → moved ≡ names
     → mid ≡ with_steps old (Written new_journal_name text ∷ Synced ∷ Moved new_journal_name journal_name ∷ [])
-    → IsSettledInPart moved mid new → HasStopped (placing names) old new
-stopped_placing old mid new text names moved texts same first part =
-    stopped_settling old mid new names
+    → IsSettledInPart moved mid new → HasStopped (placing names marks) old new
+stopped_placing old mid new text names marks moved texts same first part =
+    stopped_settling old mid new names marks
     (first ∙ ap (λ (t : List ℕ). with_steps old (Written new_journal_name t ∷ Synced ∷ Moved new_journal_name journal_name ∷ [])) texts)
     (subst (λ (ns : List (List ℕ)). IsSettledInPart ns mid new) same part)
 
@@ -130,10 +130,10 @@ repaired_all old mid new finished removed r fin rem done swept = record {
   removed = rem ∙ swept.count;
 }
 
-pub lines_more : (names : List (List ℕ)) (name : List ℕ) → name_lines (names ++ name ∷ []) ≡ name_lines names ++ (name ++ (10 ∷ []))
-lines_more [] name = refl
-lines_more (n ∷ names) name =
-    ap (λ (l : List ℕ). n ++ (10 ∷ l)) (lines_more names name) ∙ sym (append_assoc n (10 ∷ name_lines names) (name ++ (10 ∷ [])))
+lines_more : (texts : List (List ℕ)) (text : List ℕ) → lines_of (texts ++ text ∷ []) ≡ lines_of texts ++ (text ++ (10 ∷ []))
+lines_more [] text = refl
+lines_more (t ∷ texts) text =
+    ap (λ (l : List ℕ). t ++ (10 ∷ l)) (lines_more texts text) ∙ sym (append_assoc t (10 ∷ lines_of texts) (text ++ (10 ∷ [])))
 
 -- ---- what a folder has under the journal's name
 
@@ -142,23 +142,33 @@ pub told_none : (t : Option History) (text : Option (String Global)) → text �
 told_none None text is told = tt
 told_none (Some t) text is told = told ∙ ap (option_map string_bytes) is
 
-pub told_journal : (t : Option History) (text : Option (String Global)) (s : String Global) (bytes : List ℕ) (names : List (List ℕ)) → text ≡ Some s
-    → bytes ≡ string_bytes s → bytes ≡ journal_of names → AllByRecursion IsRegionName names → IfTold t (λ h. h journal_name ≡ option_map string_bytes text)
+pub told_journal : (t : Option History) (text : Option (String Global)) (s : String Global) (bytes : List ℕ) (names marks : List (List ℕ)) → text ≡ Some s
+    → bytes ≡ string_bytes s → bytes ≡ journal_of names marks → AllByRecursion IsRegionName names → IfTold t (λ h. h journal_name ≡ option_map string_bytes text)
     → IfTold t (λ h. IsJournaled h (Some names))
-told_journal None text s bytes names is same journal all told = tt
-told_journal (Some t) text s bytes names is same journal all told = (told ∙ (ap (option_map string_bytes) is ∙ ap Some (sym same ∙ journal)), all)
+told_journal None text s bytes names marks is same journal all told = tt
+told_journal (Some t) text s bytes names marks is same journal all told = record {
+  marks = marks;
+  text = told ∙ (ap (option_map string_bytes) is ∙ ap Some (sym same ∙ journal));
+  regions = all;
+}
 
--- one line more of a journal
-pub text_more : (names : List (String Global)) (i : ℕ) (m : String Global) (old mid new : List ℕ) → i < length names → m ≡ get_or names i m
-    → old ≡ head_line ++ name_lines (map string_bytes (take i names)) → mid ≡ old ++ string_bytes m → new ≡ mid ++ (10 ∷ [])
-    → new ≡ head_line ++ name_lines (map string_bytes (take (i + 1) names))
-text_more names i m old mid new lt is before named closed =
-    let lines = name_lines (map string_bytes (take i names)) in
-    closed ∙ (ap (λ (t : List ℕ). t ++ (10 ∷ [])) (named ∙ ap (λ (t : List ℕ). t ++ string_bytes m) before)
-    ∙ (append_assoc (head_line ++ lines) (string_bytes m) (10 ∷ [])
-    ∙ (append_assoc head_line lines (string_bytes m ++ (10 ∷ []))
-    ∙ ap (λ (l : List ℕ). head_line ++ l)
-    (sym (lines_more (map string_bytes (take i names)) (string_bytes m)) ∙ ap name_lines (sym (one_more string_bytes names i m lt is))))))
+-- one line more behind a text
+pub text_more : (text : List ℕ) (lines : List (String Global)) (i : ℕ) (m : String Global) (old mid new : List ℕ) → i < length lines → m ≡ get_or lines i m
+    → old ≡ text ++ lines_of (map string_bytes (take i lines)) → mid ≡ old ++ string_bytes m → new ≡ mid ++ (10 ∷ [])
+    → new ≡ text ++ lines_of (map string_bytes (take (i + 1) lines))
+text_more text lines i m old mid new lt is before put closed =
+    let first = lines_of (map string_bytes (take i lines)) in
+    closed ∙ (ap (λ (t : List ℕ). t ++ (10 ∷ [])) (put ∙ ap (λ (t : List ℕ). t ++ string_bytes m) before)
+    ∙ (append_assoc (text ++ first) (string_bytes m) (10 ∷ [])
+    ∙ (append_assoc text first (string_bytes m ++ (10 ∷ []))
+    ∙ ap (λ (l : List ℕ). text ++ l)
+    (sym (lines_more (map string_bytes (take i lines)) (string_bytes m)) ∙ ap lines_of (sym (one_more string_bytes lines i m lt is))))))
+
+-- names, an empty line and marks behind the head
+pub text_of_parts : (names marks a b c d : List ℕ) → b ≡ a ++ names → c ≡ b ++ (10 ∷ []) → d ≡ c ++ marks → d ≡ a ++ (names ++ (10 ∷ marks))
+text_of_parts names marks a b c d first gap last =
+    last ∙ (ap (λ (t : List ℕ). t ++ marks) (gap ∙ ap (λ (t : List ℕ). t ++ (10 ∷ [])) first)
+    ∙ (append_assoc (a ++ names) (10 ∷ []) marks ∙ append_assoc a names (10 ∷ marks)))
 
 pushed : (P : List ℕ → Type 0) (names : List (String Global)) (m : String Global) → AllByRecursion P (map string_bytes names) → P (string_bytes m)
     → AllByRecursion P (map string_bytes (names ++ m ∷ []))

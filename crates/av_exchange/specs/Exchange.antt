@@ -23,15 +23,15 @@ finishing names = map placed names ∷ (Removed journal_name ∷ []) ∷ []
 
 -- new files that were written take their places: once the journal has its name, they are to do so. Until the journal goes, which is the last
 -- of the exchange, a call that is cut off is known by it
-abbrev pub placing : List (List ℕ) → List (List Step)
-placing names = (Written new_journal_name (journal_of names) ∷ []) ∷ (Moved new_journal_name journal_name ∷ []) ∷ map placed names ∷ []
+abbrev pub placing : (names marks : List (List ℕ)) → List (List Step)
+placing names marks = (Written new_journal_name (journal_of names marks) ∷ []) ∷ (Moved new_journal_name journal_name ∷ []) ∷ map placed names ∷ []
 
 abbrev pub closing : List (List Step)
 closing = (Removed journal_name ∷ []) ∷ []
 
 -- the whole exchange: new files are written, take their places, and it is closed
-abbrev pub exchanging : List NamedFile → List (List Step)
-exchanging files = (map staged files ++ (Written new_journal_name (journal_of (map (λ f. f.name) files)) ∷ []))
+abbrev pub exchanging : List NamedFile → (marks : List (List ℕ)) → List (List Step)
+exchanging files marks = (map staged files ++ (Written new_journal_name (journal_of (map (λ f. f.name) files) marks) ∷ []))
     ∷ (Moved new_journal_name journal_name ∷ []) ∷ finishing (map (λ f. f.name) files)
 
 -- files that belong to none go
@@ -48,10 +48,16 @@ repairing (Some names) gone = [] ∷ map placed names ∷ (Removed journal_name 
 
 -- ---- what a folder stands for
 
--- its journal lists these names, or there is none
+-- its journal lists these names
+pub record Lists (h : Holdings) (names : List (List ℕ)) : Type 0 where
+  pub marks : List (List ℕ)
+  pub text : h journal_name ≡ Some (journal_of names marks)
+  pub regions : AllByRecursion IsRegionName names
+
+-- the same, or there is none
 abbrev pub IsJournaled : Holdings → Option (List (List ℕ)) → Type 0
 IsJournaled h None = h journal_name ≡ None
-IsJournaled h (Some names) = (h journal_name ≡ Some (journal_of names)) × AllByRecursion IsRegionName names
+IsJournaled h (Some names) = Lists h names
 
 abbrev pub is_listed : List (List ℕ) → List ℕ → Bool
 is_listed names name = list_any (λ other. bytes_eq name other) names
@@ -93,13 +99,13 @@ BesideKeeps = (h k : Holdings) (steps : List Step) → h journal_name ≡ None �
 
 -- a crash during an exchange leaves the old files, or all new ones
 abbrev pub LeavesOldOrNew : Type 0
-LeavesOldOrNew = (h k : Holdings) (files : List NamedFile) (left : List Step) → h journal_name ≡ None → AllByRecursion (λ f. IsRegionName f.name) files
-    → StandsFor h k → IsCutOff (exchanging files) left → StandsFor (after_all h left) k ⊎ StandsFor (after_all h left) (with_all k files)
+LeavesOldOrNew = (h k : Holdings) (files : List NamedFile) (marks : List (List ℕ)) (left : List Step) → h journal_name ≡ None → AllByRecursion (λ f. IsRegionName f.name) files
+    → StandsFor h k → IsCutOff (exchanging files marks) left → StandsFor (after_all h left) k ⊎ StandsFor (after_all h left) (with_all k files)
 
 -- at its end it is the new ones
 abbrev pub LeavesNew : Type 0
-LeavesNew = (h k : Holdings) (files : List NamedFile) → h journal_name ≡ None → AllByRecursion (λ f. IsRegionName f.name) files
-    → StandsFor h k → StandsFor (after_all h (all_of (exchanging files))) (with_all k files)
+LeavesNew = (h k : Holdings) (files : List NamedFile) (marks : List (List ℕ)) → h journal_name ≡ None → AllByRecursion (λ f. IsRegionName f.name) files
+    → StandsFor h k → StandsFor (after_all h (all_of (exchanging files marks))) (with_all k files)
 
 -- a crash during a repair changes nothing of what the folder stands for
 abbrev pub RepairKeeps : Type 0

@@ -1,4 +1,5 @@
 pub mod Steps
 pub mod Names
 pub mod Exchange
+pub mod Marks
 pub mod Outcomes

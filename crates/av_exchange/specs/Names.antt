@@ -40,14 +40,15 @@ pub data IsBeside (name : List ℕ) : Type 0 where
 
 -- ---- the journal's text
 
--- `anvilwater journal 1`
+-- `anvilwater journal 2`
 abbrev pub head_line : List ℕ
-head_line = codes "anvilwater journal 1" ++ 10 ∷ []
+head_line = codes "anvilwater journal 2" ++ 10 ∷ []
 
-abbrev pub name_lines : List (List ℕ) → List ℕ
-name_lines [] = []
-name_lines (name ∷ names) = name ++ (10 ∷ name_lines names)
+abbrev pub lines_of : List (List ℕ) → List ℕ
+lines_of [] = []
+lines_of (text ∷ texts) = text ++ (10 ∷ lines_of texts)
 
--- the journal that lets files of these names take their places: the head's line, and one for each name
-abbrev pub journal_of : List (List ℕ) → List ℕ
-journal_of names = head_line ++ name_lines names
+-- The journal that lets files of these names take their places: the head's line, one for each name, an empty one, and one for each mark of
+-- what had the names when it was written.
+abbrev pub journal_of : (names marks : List (List ℕ)) → List ℕ
+journal_of names marks = head_line ++ (lines_of names ++ (10 ∷ lines_of marks))

@@ -2,6 +2,7 @@
 use Rattle.std.specs.Prelude.{◌≡◌, ◌⊎◌, ℕ, List, [], ◌∷◌, Bool, true, false, Option, None, length, map, option_map, string_bytes}
 use Rattle.std.specs.List.{AllByRecursion}
 use Rattle.av_exchange.specs.Exchange.{IsJournaled, IsStepBeside, is_listed, placed, placing, repairing, sweeping}
+use Rattle.av_exchange.specs.Marks.{AreMarksOf, Marking}
 use Rattle.av_exchange.specs.Names.{IsBeside, part_of}
 use Rattle.av_exchange.specs.Steps.{AreSomeOf, History, Holdings, IfTold, IsCutOff, Spoiled, Step, Synced, all_of, with_steps}
 use Rattle.av_exchange.specs.declared.moves.Move.{Move}
@@ -28,10 +29,22 @@ pub record IsBesideAlone (old new : Option History) : Type 0 where
   pub beside : AllByRecursion IsStepBeside left
   pub steps : new ≡ with_steps old left
 
+-- files took their places, by a journal that marks what had their names
+pub record HavePlaces (mark_of : Marking) (names : List (List ℕ)) (old new : Option History) : Type 0 where
+  pub marks : List (List ℕ)
+  pub marked : AreMarksOf mark_of old names marks
+  pub steps : new ≡ with_steps old (all_of (placing names marks))
+
+-- the same, but it was cut off
+pub record HavePlacesInPart (mark_of : Marking) (names : List (List ℕ)) (old new : Option History) : Type 0 where
+  pub marks : List (List ℕ)
+  pub marked : AreMarksOf mark_of old names marks
+  pub stopped : HasStopped (placing names marks) old new
+
 -- files did not take their places: the journal never had its name; or it had, and what was done then was cut off
-abbrev pub IsNotPlaced : List (List ℕ) → Option History → Option History → Bool → Type 0
-IsNotPlaced names old new false = IsBesideAlone old new
-IsNotPlaced names old new true = HasStopped (placing names) old new
+abbrev pub IsNotPlaced : Marking → List (List ℕ) → Option History → Option History → Bool → Type 0
+IsNotPlaced mark_of names old new false = IsBesideAlone old new
+IsNotPlaced mark_of names old new true = HavePlacesInPart mark_of names old new
 
 -- a repair, by what the journal lists and which files belonged to none
 pub record IsRepaired (old new : Option History) (r : Repair) : Type 0 where

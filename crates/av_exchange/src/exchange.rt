@@ -1,13 +1,14 @@
 //! New files take their places.
 ghost use Rattle.std.specs.Prelude.{◌≡◌, ◌∷◌, [], IfErr, IfOk, OnErr, OnOk, Some, map, string_bytes};
 ghost use Rattle.av_sink.specs.Account.{file_named};
-ghost use Rattle.av_exchange.specs.Exchange.{closing, placed, placing, repairing, staged};
+ghost use Rattle.av_exchange.specs.Exchange.{closing, placed, repairing, staged};
 ghost use Rattle.av_exchange.specs.Names.{journal_name, new_journal_name, part_of};
-ghost use Rattle.av_exchange.specs.Outcomes.{HasStopped, IsBesideAlone, IsMovedInPart, IsNotPlaced, IsPlacedInPart, IsSettledInPart, IsUnstaged, name_of};
+ghost use Rattle.av_exchange.specs.Outcomes.{HasStopped, HavePlaces, IsBesideAlone, IsMovedInPart, IsNotPlaced, IsPlacedInPart, IsSettledInPart, IsUnstaged, name_of};
 ghost use Rattle.av_exchange.specs.Steps.{Moved, Removed, Synced, Written, all_of, with_steps};
 
 use crate::folder::Folder;
 use crate::journal::journal_text;
+use crate::marks::mark_lines;
 use crate::moves::Move;
 use crate::names::{JOURNAL, NEW_JOURNAL, part_name};
 use av_sink::Teller;
@@ -161,19 +162,20 @@ pub(crate) fn finish<F: Folder, T: Teller>(
 }
 
 /// Lets new files that were staged take their places, all or none: a journal is written, and once it has its name they are to do so, and
-/// do. It stays until `close`.
+/// do. It stays until `close`, and has the marks of what they replace, by which a repair sees what was written since.
 ///
 /// # Errors
 /// What the system says, and want of memory before the first step. Where the journal does not have its name the old files stay, and a repair
 /// takes the new ones away; else a repair lets the others take their places too.
 pub fn place<F: Folder>(alloc: Global, folder: &mut F, names: &[String]) -> Result<(), NotPlaced>
-    ensures ok { OnOk result (F.history folder.new
-        ≡ with_steps (F.history folder.old) (all_of (placing (map string_bytes names.now)))) }
-    ensures err { IfErr result (λ e. IsNotPlaced (map string_bytes names.now) (F.history folder.old)
-        (F.history folder.new) e.begun) }
+    ensures ok { OnOk result (HavePlaces (F.mark_of folder.old) (map string_bytes names.now)
+        (F.history folder.old) (F.history folder.new)) }
+    ensures err { IfErr result (λ e. IsNotPlaced (F.mark_of folder.old) (map string_bytes names.now)
+        (F.history folder.old) (F.history folder.new) e.begun) }
 {
     let moves = moves_of(alloc, names)?;
-    let text = journal_text(alloc, names)?;
+    let marks = mark_lines(alloc, folder, names)?;
+    let text = journal_text(alloc, names, marks.as_slice())?;
     if let Err(error) = record(folder, text.as_str()) {
         return Err(NotPlaced {
             begun: false,
@@ -183,6 +185,19 @@ pub fn place<F: Folder>(alloc: Global, folder: &mut F, names: &[String]) -> Resu
     match settle_behind(folder, moves.as_slice()) {
         Ok(()) => Ok(()),
         Err(error) => Err(NotPlaced { begun: true, error }),
+    }
+}
+
+impl From<io::Error> for NotPlaced {
+    ghost use Rattle.std.specs.Prelude.{false};
+
+    ghost from_gives = { λ _ not. not.begun ≡ false };
+
+    fn from(error: io::Error) -> NotPlaced {
+        NotPlaced {
+            begun: false,
+            error,
+        }
     }
 }
 

@@ -1,5 +1,6 @@
 //! A folder, as an exchange sees it.
 ghost use Rattle.std.specs.Prelude.{◌≡◌, ◌∷◌, [], Contains, IfOk, List, OnErr, OnOk, Option, map, option_map, string_bytes, ℕ};
+ghost use Rattle.av_exchange.specs.Marks.{Marking};
 ghost use Rattle.av_exchange.specs.Steps.{History, IfTold, Moved, Removed, Spoiled, Synced, Written, with_steps};
 
 use std::alloc::Global;
@@ -10,6 +11,9 @@ use std::io;
 pub trait Folder {
     /// What it held at first and the steps since, where it can tell: a folder in memory can, one of the system can not.
     ghost history: { Self → Option History };
+
+    /// In clauses: the mark of a file with these bytes, where it can tell its history.
+    ghost mark_of: { Self → Marking };
 
     /// Writes a file of a name that is free, all of it up to the device. It gets the owner and the rights of the file named `like`,
     /// where there is one.
@@ -40,6 +44,11 @@ pub trait Folder {
     fn read_text(&self, alloc: Global, name: &str) -> io::Result<Option<String>>
         ensures { IfOk result (λ text. IfTold (history self.now)
             (λ h. h name.now ≡ option_map string_bytes text)) };
+
+    /// The mark of a file, by which it is known again until it is written, where it is there.
+    fn mark(&self, alloc: Global, name: &str) -> io::Result<Option<String>>
+        ensures { IfOk result (λ mark. IfTold (history self.now)
+            (λ h. option_map string_bytes mark ≡ option_map (mark_of self.now) (h name.now))) };
 
     /// The names of all files.
     fn names(&self, alloc: Global) -> io::Result<Vec<String>>

@@ -7,6 +7,7 @@ pub mod exchange;
 pub mod folder;
 mod journal;
 pub mod laws;
+mod marks;
 mod moves;
 pub mod names;
 pub mod repairing;

@@ -2,34 +2,39 @@
 ghost use Rattle.std.specs.Prelude.{◌≡◌, IfOk, OnErr, OnOk, map, string_bytes};
 ghost use Rattle.std.specs.List.{AllByRecursion};
 ghost use Rattle.av_exchange.specs.Exchange.{sweeping};
+ghost use Rattle.av_exchange.specs.Marks.{IsUnwritten};
 ghost use Rattle.av_exchange.specs.Names.{IsBeside};
 ghost use Rattle.av_exchange.specs.Outcomes.{AreAllBeside, HasStopped, HoldsNoneBeside, IsFinished, IsRepaired, IsSwept, IsSweepStopped, IsUnrepaired};
 ghost use Rattle.av_exchange.specs.Steps.{IfTold, Removed, with_steps};
 
 use crate::exchange::{finish, moves_of};
 use crate::folder::Folder;
-use crate::journal::journal_names;
+use crate::journal::read_journal;
+use crate::marks::check_marks;
 use crate::names::{JOURNAL, is_beside};
 use av_sink::{Repair, Teller};
 use std::alloc::{AllocError, Global};
 use std::io::{self, ErrorKind};
 
-/// Does what a journal says, where there is one.
+/// Does what a journal says, where there is one, and nothing that it lists was written since.
 fn finish_left<F: Folder, T: Teller>(
     alloc: Global,
     folder: &mut F,
     teller: &T,
 ) -> io::Result<Option<usize>>
     ensures ok { IfOk result (IsFinished (F.history folder.old) (F.history folder.new)) }
+    ensures unwritten { OnOk result (IfTold (F.history folder.old)
+        (IsUnwritten (F.mark_of folder.old))) }
     ensures err { OnErr result (IsUnrepaired (F.history folder.old) (F.history folder.new)) }
 {
     let Some(text) = folder.read_text(alloc, JOURNAL)? else {
         return Ok(None);
     };
-    let Some(names) = journal_names(alloc, text.as_str())? else {
+    let Some(journal) = read_journal(alloc, text.as_str())? else {
         return Err(io::Error::new(ErrorKind::InvalidData, "it is no journal of this program"));
     };
-    let moves = moves_of(alloc, names.as_slice())?;
+    check_marks(alloc, folder, &journal)?;
+    let moves = moves_of(alloc, journal.names.as_slice())?;
     finish(folder, moves.as_slice(), teller)?;
     Ok(Some(moves.len()))
 }
@@ -87,10 +92,13 @@ pub fn sweep<F: Folder>(alloc: Global, folder: &mut F) -> io::Result<usize>
 /// folder.
 ///
 /// # Errors
-/// What the system says, want of memory, and `InvalidData` where the journal is of another form: then nothing is done.
+/// What the system says, want of memory, and `InvalidData` where the journal is of another form, or where what it lists, and whose new file
+/// waits, was written since, as by the game: then nothing is done.
 pub fn repair<F: Folder, T: Teller>(alloc: Global, folder: &mut F, teller: &T) -> io::Result<Repair>
     ensures ok { IfOk result (IsRepaired (F.history folder.old) (F.history folder.new)) }
     ensures gone { OnOk result (IfTold (F.history folder.new) HoldsNoneBeside) }
+    ensures unwritten { OnOk result (IfTold (F.history folder.old)
+        (IsUnwritten (F.mark_of folder.old))) }
     ensures err { OnErr result (IsUnrepaired (F.history folder.old) (F.history folder.new)) }
 {
     let finished = finish_left(alloc, folder, teller)?;

@@ -2,7 +2,7 @@
 ghost use Rattle.std.specs.Prelude.{None};
 
 use av_exchange::{Folder, JOURNAL};
-use std::alloc::Global;
+use std::alloc::{AllocError, Global};
 use std::fs::{self, DirEntry, File, Metadata, OpenFile};
 use std::io::{self, ErrorKind, Write};
 use std::os::unix::fs::{MetadataExt, lchown};
@@ -100,6 +100,12 @@ fn file_there<R: Files>(rt: &R, path: Path<'_>) -> io::Result<Option<Metadata>> 
     }
 }
 
+/// By what a file is known again: its size, and the time at which it was written last.
+fn mark_of(alloc: Global, found: &Metadata) -> Result<String, AllocError> {
+    let (size, seconds, nanoseconds) = (found.len(), found.mtime(), found.mtime_nsec());
+    format!(in alloc; "{size} {seconds} {nanoseconds}")
+}
+
 /// Whether something is not permitted, or not known to the file system, as owners are to some.
 fn is_passed_over(error: &io::Error) -> bool {
     matches!(
@@ -167,6 +173,8 @@ fn has_no_sync(error: &io::Error) -> bool {
 impl<'a, R: Files + AllocGlobal + Clone + Drop> Folder for SystemFolder<'a, R> {
     ghost history = { λ s. None };
 
+    ghost mark_of = { λ s bytes. bytes };
+
     fn write_new(&mut self, name: &str, bytes: &[u8], like: &str) -> io::Result<()> {
         let path = self.path_of(name)?;
         let old = file_there(self.rt, self.path_of(like)?.as_path())?;
@@ -212,6 +220,14 @@ impl<'a, R: Files + AllocGlobal + Clone + Drop> Folder for SystemFolder<'a, R> {
         let path = self.path_of(name)?;
         match file_there(self.rt, path.as_path())? {
             Some(_) => Ok(Some(fs::read_to_string(self.rt, path.as_path())?)),
+            None => Ok(None),
+        }
+    }
+
+    fn mark(&self, alloc: Global, name: &str) -> io::Result<Option<String>> {
+        let path = self.path_of(name)?;
+        match file_there(self.rt, path.as_path())? {
+            Some(found) => Ok(Some(mark_of(alloc, &found)?)),
             None => Ok(None),
         }
     }
