@@ -4,10 +4,9 @@
     scripts/check_devices.py PROGRAM           as crates/av_main/out/av_main
 
 Each command that reads or writes a folder finishes the run that its journal tells of, or takes away what one left, unless another call
-is at it; a file that was written since is not replaced; journals of another form, and links, are refused or leave alone what they lead to,
-and a file that can't take its place is named. Two calls meet at steps of a run, where there is a C compiler for halt.c. A device of each
-size from full to large enough is tried, and one that is read-only, where this may mount some; and files of other owners where it runs as
-root.
+is at it; journals of another form, and links, are refused or leave alone what they lead to, and a file that can't take its place is named.
+Two calls meet at steps of a run, where there is a C compiler for halt.c. A device of each size from full to large enough is tried, and one
+that is read-only, where this may mount some; and files of other owners where it runs as root.
 """
 import contextlib
 import dataclasses
@@ -23,21 +22,10 @@ import tempfile
 sys.dont_write_bytecode = True
 import holding
 from cut_offs import (CHANGED, FINISHED, HEAD, JOURNAL, NEW_JOURNAL, NOTHING_ELSE, REGIONS, TAKEN_AWAY, TOLD, TRIAL, Answer, World, contents,
-                      differing, journal_of, laid, mark, part, report, shots)
+                      differing, journal_of, laid, mark, part, refused, report, shots, with_journal)
 
 COLOURS = os.path.join(os.path.dirname(os.path.dirname(os.path.abspath(__file__))), "tables", "colours.toml")
 PAGE = 4096
-
-
-def with_journal(world, journal=None):
-    """The files of a world in which a run was cut off when it had its journal, or this one."""
-    journal = journal_of(CHANGED, world.old) if journal is None else journal
-    return {**world.old, **{part(name): world.new[name] for name in CHANGED}, JOURNAL: journal}
-
-
-def refused(folder):
-    """What a command answers that refuses a folder."""
-    return Answer(1, "", ["fault 25: Device " + folder])
 
 
 def without_journal(world):
@@ -99,39 +87,6 @@ def journals(world):
             was = shots(folder)
             yield "a journal %s" % form, refused(folder), world.ask(words(folder))
             yield "files beside %s" % form, [], differing(was, shots(folder))
-
-
-def written_since(world):
-    """Where a file that is to be replaced was written since the journal was, nothing is done. It can then be kept."""
-    first, last = CHANGED[0], CHANGED[-1]
-    old, new = world.old[first], with_journal(world)
-    gone = {name: file for name, file in new.items() if name != first}
-    came = with_journal(world, journal_of(CHANGED, {name: file for name, file in world.old.items() if name != first}))
-    for what, files in (("a longer file", {**new, first: dataclasses.replace(old, content=old.content + b"more")}),
-                        ("a later file", {**new, first: dataclasses.replace(old, time=old.time + 1)}),
-                        ("an earlier file", {**new, first: dataclasses.replace(old, time=old.time - 10 ** 9)}),
-                        ("the last one", {**new, last: dataclasses.replace(world.old[last], time=0)}),
-                        ("a file that is gone", gone), ("a file that came", came)):
-        for words in (world.check_words, world.words):
-            folder = world.laid(files)
-            yield what, refused(folder), world.ask(words(folder))
-            yield "files beside %s" % what, [], differing(files_of(files), contents(shots(folder)))
-    folder = world.laid({**new, first: dataclasses.replace(old, time=old.time + 1)})
-    line = "  %s: %s was written since; to keep it, remove this journal" % (os.path.join(folder, JOURNAL), first)
-    yield "why", (1, [*refused(folder).errors, line]), world.ask([*world.check_words(folder), "--explain"])[::2]
-    os.unlink(os.path.join(folder, JOURNAL))
-    yield "once the journal is removed", Answer(0, "", [TAKEN_AWAY % (folder, 3)]), world.check(folder)
-    yield "the files then", [], differing(world.old, shots(folder))
-    placed = {**new, first: dataclasses.replace(world.new[first], time=1)}
-    del placed[part(first)]
-    folder = world.laid(placed)
-    yield "a file that has its place", Answer(0, "", [FINISHED % (folder, 3)]), world.check(folder)
-    yield "files beside one that has its place", [], differing(world.new, shots(folder))
-
-
-def files_of(files):
-    """The bytes of files that are laid."""
-    return {name: file if isinstance(file, bytes) else file.content for name, file in files.items()}
 
 
 def links(world):
@@ -345,7 +300,7 @@ def main():
     if len(sys.argv) not in (2, 3):
         sys.exit(__doc__)
     may_mount = has_own_mounts()
-    checks = [commands, journals, written_since, links, held, two_at_once, unmoved, owners]
+    checks = [commands, journals, links, held, two_at_once, unmoved, owners]
     if may_mount:
         checks.append(full)
     if may_mount or os.geteuid() != 0:

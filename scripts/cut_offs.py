@@ -171,6 +171,17 @@ class World:
             return answer, calls.read().splitlines()
 
 
+def with_journal(world, journal=None):
+    """The files of a world in which a run was cut off when it had its journal, or this one."""
+    journal = journal_of(CHANGED, world.old) if journal is None else journal
+    return {**world.old, **{part(name): world.new[name] for name in CHANGED}, JOURNAL: journal}
+
+
+def refused(folder):
+    """What a command answers that refuses a folder."""
+    return Answer(1, "", ["fault 25: Device " + folder])
+
+
 def report(what, examples):
     """Prints the examples that are wrong and how many there were, and exits."""
     wrong = [(name, want, got) for name, want, got in examples if want != got]

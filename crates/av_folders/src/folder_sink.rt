@@ -4,6 +4,7 @@ ghost use Rattle.av_sink.specs.Account.{IsFresh};
 ghost use Rattle.av_folders.specs.Folders.{folder_account};
 
 use crate::holding::LockFiles;
+use crate::region_marks::RegionMarks;
 use crate::system_folder::{RefusedStep, SystemFolder, file_told};
 use crate::tidying::hold_if_free;
 use av_exchange::{close, is_own, place, place_alone, repair, stage, sweep, unstage};
@@ -94,7 +95,8 @@ fn write<R: LockFiles + AllocGlobal + Clone + Drop>(
 
 /// A folder that files are written to. Those of regions take their places all or none, in a folder that was repaired; any other file takes
 /// its own at once, and has no name of these. A region's file that has its bytes already is left alone. What is a link in the place of a
-/// file is not written to. Want of memory for a path is a failed write too, as is each write before the folder is opened.
+/// file is not written to. Want of memory for a path is a failed write too, as is each write before the folder is opened. A region's file that
+/// was changed by another program since the folder was repaired is not replaced, nor is any other then.
 #[derive(Drop)]
 pub struct FolderSink<'a, R> {
     rt: &'a R,
@@ -102,6 +104,8 @@ pub struct FolderSink<'a, R> {
     /// The names of the region files that were written beside those that they are to replace.
     names: Vec<String>,
     repaired: Option<Repair>,
+    /// By what the region files were known when the folder was repaired.
+    marks: RegionMarks,
     failures: u64,
     handed: u64,
     is_placed: bool,
@@ -109,12 +113,18 @@ pub struct FolderSink<'a, R> {
     failed: Option<FailedFile>,
 }
 
-/// Lets files that were written take their places. Where they can't begin to they are taken away.
+/// Lets files that were written take their places, where those that they replace are what they were. Where they can't begin to they are taken
+/// away.
 fn place_or_sweep<R: Files + AllocGlobal + Clone + Drop>(
     alloc: Global,
     folder: &mut SystemFolder<'_, R>,
+    marks: &RegionMarks,
     names: &[String],
 ) -> Result<(), RefusedStep> {
+    if let Err(refused) = marks.check(alloc, folder, names) {
+        let _ = sweep(alloc, folder);
+        return Err(refused);
+    }
     let Err(not) = place(alloc, folder, names) else {
         return Ok(());
     };
@@ -157,6 +167,7 @@ impl<'a, R: LockFiles + AllocGlobal + Clone + Drop> FolderSink<'a, R> {
             folder: None,
             names: Vec::new(rt.alloc()),
             repaired: None,
+            marks: RegionMarks::new(rt.alloc()),
             failures: 0,
             handed: 0,
             is_placed: false,
@@ -165,11 +176,11 @@ impl<'a, R: LockFiles + AllocGlobal + Clone + Drop> FolderSink<'a, R> {
         }
     }
 
-    /// Repairs the folder.
-    fn repair_opened<T: Teller>(&self, teller: &T) -> Result<Repair, RefusedStep> {
+    /// Repairs the folder, and tells by what its region files are known then.
+    fn repair_opened<T: Teller>(&self, teller: &T) -> Result<(Repair, RegionMarks), RefusedStep> {
         let mut folder = opened(self.rt, &self.folder)?;
         match repair(self.rt.alloc(), &mut folder, teller) {
-            Ok(repaired) => Ok(repaired),
+            Ok(repaired) => Ok((repaired, RegionMarks::of(self.rt.alloc(), &folder)?)),
             Err(error) => Err(folder.refused(error)),
         }
     }
@@ -180,7 +191,12 @@ impl<'a, R: LockFiles + AllocGlobal + Clone + Drop> FolderSink<'a, R> {
             return Ok(());
         }
         let mut folder = opened(self.rt, &self.folder)?;
-        place_or_sweep(self.rt.alloc(), &mut folder, self.names.as_slice())
+        place_or_sweep(
+            self.rt.alloc(),
+            &mut folder,
+            &self.marks,
+            self.names.as_slice(),
+        )
     }
 
     /// Takes the journal away, where the files have their places.
@@ -238,8 +254,9 @@ impl<'a, R: LockFiles + AllocGlobal + Clone + Drop> OutputFolder for FolderSink<
 
     fn repair<T: Teller>(&mut self, teller: &T) -> Result<Repair, SinkFailed> {
         match self.repair_opened(teller) {
-            Ok(repaired) => {
+            Ok((repaired, marks)) => {
                 self.repaired = Some(repaired);
+                self.marks = marks;
                 Ok(repaired)
             }
             Err(refused) => {

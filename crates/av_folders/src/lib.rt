@@ -8,6 +8,7 @@ pub mod holding;
 pub mod locks;
 pub mod progress;
 pub mod reading;
+mod region_marks;
 pub mod session;
 pub mod system_folder;
 pub mod tidying;

@@ -1,0 +1,71 @@
+//! By what a folder's region files were known when it was opened.
+use crate::system_folder::{RefusedStep, SystemFolder};
+use av_exchange::Folder;
+use av_reports::names::region_of_name;
+use std::alloc::Global;
+use std::collections::BTreeMap;
+use std::io::{self, ErrorKind};
+use std::rt::Files;
+
+/// What is said of a file that is not what it was.
+const CHANGED: &str = "it was changed by another program while the run went on";
+
+/// The marks of the region files of a folder, by their names.
+#[derive(Drop)]
+pub(crate) struct RegionMarks {
+    marks: BTreeMap<String, String>,
+}
+
+impl RegionMarks {
+    /// Those of no file.
+    pub(crate) fn new(alloc: Global) -> RegionMarks {
+        RegionMarks {
+            marks: BTreeMap::new(alloc),
+        }
+    }
+
+    /// Those of the files that are there. What is no file has none.
+    pub(crate) fn of<R: Files + AllocGlobal + Clone + Drop>(
+        alloc: Global,
+        folder: &SystemFolder<'_, R>,
+    ) -> io::Result<RegionMarks> {
+        let mut marks = BTreeMap::new(alloc);
+        for name in folder.names(alloc)? {
+            if region_of_name(alloc, name.as_str())?.is_some() {
+                if let Ok(Some(mark)) = folder.mark(alloc, name.as_str()) {
+                    marks.insert(name, mark)?;
+                }
+            }
+        }
+        Ok(RegionMarks { marks })
+    }
+
+    /// Whether what has a name now is what had it then.
+    fn is_kept<R: Files + AllocGlobal + Clone + Drop>(
+        &self,
+        alloc: Global,
+        folder: &SystemFolder<'_, R>,
+        name: &String,
+    ) -> io::Result<bool> {
+        let now = folder.mark(alloc, name.as_str())?;
+        Ok(now.as_ref() == self.marks.get(name))
+    }
+
+    /// Refuses to replace a file that was written, came or went since.
+    pub(crate) fn check<R: Files + AllocGlobal + Clone + Drop>(
+        &self,
+        alloc: Global,
+        folder: &SystemFolder<'_, R>,
+        names: &[String],
+    ) -> Result<(), RefusedStep> {
+        for name in names {
+            if !self.is_kept(alloc, folder, name)? {
+                return Err(RefusedStep {
+                    name: name.clone().ok(),
+                    error: io::Error::new(ErrorKind::InvalidData, CHANGED),
+                });
+            }
+        }
+        Ok(())
+    }
+}

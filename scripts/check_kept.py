@@ -1,0 +1,121 @@
+#!/usr/bin/env python3
+"""Asks the built program whether it replaces what another program wrote.
+
+    scripts/check_kept.py PROGRAM           as crates/av_main/out/av_main
+
+A file that was written, came or went since the journal of a run that was cut off was written is not replaced by the next command, nor is one
+that was while a run went on: the file's size and time tell. All that is there stays as it is.
+"""
+import dataclasses
+import os
+import subprocess
+import sys
+import tempfile
+
+sys.dont_write_bytecode = True
+from cut_offs import (CHANGED, EDITS, FINISHED, JOURNAL, TAKEN_AWAY, Answer, World, contents, differing, journal_of, part, refused, report, said,
+                      shots, with_journal)
+
+# More than a pipe holds: once it is written, the text is being read, and the output folder was looked at before.
+COMMENT = "# " + "x" * (1 << 18) + "\n"
+MEANWHILE = "it was changed by another program while the run went on"
+
+
+def files_of(files):
+    """The bytes of files that are laid."""
+    return {name: file if isinstance(file, bytes) else file.content for name, file in files.items()}
+
+
+def written_since(world):
+    """Where a file that is to be replaced was written since the journal was, nothing is done. It can then be kept."""
+    first, last = CHANGED[0], CHANGED[-1]
+    old, new = world.old[first], with_journal(world)
+    gone = {name: file for name, file in new.items() if name != first}
+    came = with_journal(world, journal_of(CHANGED, {name: file for name, file in world.old.items() if name != first}))
+    for what, files in (("a longer file", {**new, first: dataclasses.replace(old, content=old.content + b"more")}),
+                        ("a later file", {**new, first: dataclasses.replace(old, time=old.time + 1)}),
+                        ("an earlier file", {**new, first: dataclasses.replace(old, time=old.time - 10 ** 9)}),
+                        ("the last one", {**new, last: dataclasses.replace(world.old[last], time=0)}),
+                        ("a file that is gone", gone), ("a file that came", came)):
+        for words in (world.check_words, world.words):
+            folder = world.laid(files)
+            yield what, refused(folder), world.ask(words(folder))
+            yield "files beside %s" % what, [], differing(files_of(files), contents(shots(folder)))
+    folder = world.laid({**new, first: dataclasses.replace(old, time=old.time + 1)})
+    line = "  %s: %s was written since; to keep it, remove this journal" % (os.path.join(folder, JOURNAL), first)
+    yield "why", (1, [*refused(folder).errors, line]), world.ask([*world.check_words(folder), "--explain"])[::2]
+    os.unlink(os.path.join(folder, JOURNAL))
+    yield "once the journal is removed", Answer(0, "", [TAKEN_AWAY % (folder, 3)]), world.check(folder)
+    yield "the files then", [], differing(world.old, shots(folder))
+    placed = {**new, first: dataclasses.replace(world.new[first], time=1)}
+    del placed[part(first)]
+    folder = world.laid(placed)
+    yield "a file that has its place", Answer(0, "", [FINISHED % (folder, 3)]), world.check(folder)
+    yield "files beside one that has its place", [], differing(world.new, shots(folder))
+
+
+def later(path):
+    """Another time, and no other byte."""
+    found = os.stat(path)
+    os.utime(path, ns=(found.st_atime_ns, found.st_mtime_ns + 1))
+
+
+def longer(path):
+    with open(path, "ab") as file:
+        file.write(b"more")
+
+
+def come(path):
+    with open(path, "wb") as file:
+        file.write(b"of another program")
+
+
+def run_beside(world, source, folder, change):
+    """What a run answers that writes to a folder, in which this is changed while its edits are read."""
+    words = [*world.words(folder, "--explain", source=source)]
+    words[words.index("--edits") + 1] = "-"
+    with subprocess.Popen(words, stdin=subprocess.PIPE, stdout=subprocess.PIPE, stderr=subprocess.PIPE, text=True, env={}) as run:
+        run.stdin.write(COMMENT)
+        run.stdin.flush()
+        change()
+        out, err = run.communicate(EDITS, timeout=60)
+    return Answer(run.returncode, out.strip(), said(err).splitlines())
+
+
+def changed_meanwhile(world):
+    """A file that was changed while a run went on stays, and so do all others."""
+    name, other = CHANGED[1], "level.dat"
+    for what, change in (("a later file", later), ("a longer file", longer), ("a file that is gone", os.unlink)):
+        folder, source = world.laid(world.old), world.laid(world.old)
+        path = os.path.join(folder, name)
+        told = Answer(1, "", [*refused(folder).errors, "  %s: %s" % (path, MEANWHILE)])
+        kept = {}
+
+        def changed():
+            change(path)
+            kept.update(shots(folder))
+        yield "a run beside which there is %s" % what, told, run_beside(world, source, folder, changed)
+        yield "files beside %s" % what, [], differing(kept, shots(folder))
+    folder = world.laid({})
+    path = os.path.join(folder, name)
+    told = Answer(1, "", [*refused(folder).errors, "  %s: %s" % (path, MEANWHILE)])
+    yield "a run beside which a file came", told, run_beside(world, world.laid(world.old), folder, lambda: come(path))
+    yield "files beside it", {name: b"of another program"}, contents(shots(folder))
+    # What the run does not replace may change.
+    folder = world.laid({**world.old, other: b""})
+    yield "a run beside which others change", Answer(0, world.first.line, []), run_beside(
+        world, world.laid(world.old), folder, lambda: [longer(os.path.join(folder, other)), come(os.path.join(folder, "r.50.50.mca"))])
+    yield "the files then", [], differing(contents(world.new), contents(shots(folder)), CHANGED)
+
+
+def main():
+    if len(sys.argv) != 2:
+        sys.exit(__doc__)
+    with tempfile.TemporaryDirectory() as work:
+        world = World(os.path.abspath(sys.argv[1]), work)
+        examples = [example for check in (written_since, changed_meanwhile) for example in check(world)]
+    report("files that another program wrote", examples)
+
+
+if __name__ == "__main__":
+    main()
