@@ -31,10 +31,15 @@ impl RegionMarks {
     ) -> io::Result<RegionMarks> {
         let mut marks = BTreeMap::new(alloc);
         for name in folder.names(alloc)? {
-            if region_of_name(alloc, name.as_str())?.is_some() {
-                if let Ok(Some(mark)) = folder.mark(alloc, name.as_str()) {
+            if region_of_name(alloc, name.as_str())?.is_none() {
+                continue;
+            }
+            match folder.mark(alloc, name.as_str()) {
+                Ok(Some(mark)) => {
                     marks.insert(name, mark)?;
                 }
+                Err(error) if error.kind() == ErrorKind::OutOfMemory => return Err(error),
+                _ => {}
             }
         }
         Ok(RegionMarks { marks })
