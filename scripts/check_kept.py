@@ -4,7 +4,7 @@
     scripts/check_kept.py PROGRAM           as crates/av_main/out/av_main
 
 A file that was written, came or went since the journal of a run that was cut off was written is not replaced by the next command, nor is one
-that was while a run went on: the file's size and time tell. All that is there stays as it is.
+that was while a run went on: the file's size and time tell. All that is there stays as it is. So it does where a new file was taken away.
 """
 import dataclasses
 import os
@@ -108,12 +108,39 @@ def changed_meanwhile(world):
     yield "the files then", [], differing(contents(world.new), contents(shots(folder)), CHANGED)
 
 
+def lost(world):
+    """A new file that is lost behind the journal, while its old one stays: nothing is done, until the journal is removed."""
+    first = CHANGED[0]
+    files = {name: file for name, file in with_journal(world).items() if name != part(first)}
+    line = "  %s: the new file of %s is lost; to go on, remove this journal"
+    folder = world.laid(files)
+    answer = Answer(1, "", [*refused(folder).errors, line % (os.path.join(folder, JOURNAL), first)])
+    for words in (world.check_words(folder), world.words(folder)):
+        yield "a new file that is lost", answer, world.ask([*words, "--explain"])
+        yield "files beside a lost one", [], differing(files_of(files), contents(shots(folder)))
+    os.unlink(os.path.join(folder, JOURNAL))
+    yield "once the journal is removed", Answer(0, "", [TAKEN_AWAY % (folder, 2)]), world.check(folder)
+
+
+def taken_away(world):
+    """A new file that another program takes away while the others are written: all old files stay."""
+    folder = world.laid(world.old)
+    calls = world.halted(world.words(folder), folder)[1]
+    for gone, written in ((CHANGED[0], CHANGED[1]), (CHANGED[1], CHANGED[2])):
+        begun = 1 + next(number for number, call in enumerate(calls) if part(written) in call.split())
+        folder = world.laid(world.old)
+        told = "  %s: another program took away the new file of %s" % (os.path.join(folder, JOURNAL), gone)
+        answer = world.stopped(world.words(folder, "--explain"), folder, begun, lambda: os.unlink(os.path.join(folder, part(gone))))
+        yield "a new file that is gone", Answer(1, "", [*refused(folder).errors, told]), answer
+        yield "the files then", [], differing(world.old, shots(folder))
+
+
 def main():
     if len(sys.argv) != 2:
         sys.exit(__doc__)
     with tempfile.TemporaryDirectory() as work:
         world = World(os.path.abspath(sys.argv[1]), work)
-        examples = [example for check in (written_since, changed_meanwhile) for example in check(world)]
+        examples = [example for check in (written_since, lost, changed_meanwhile, taken_away) for example in check(world)]
     report("files that another program wrote", examples)
 
 

@@ -170,6 +170,16 @@ class World:
         with os.fdopen(told) as calls:
             return answer, calls.read().splitlines()
 
+    def stopped(self, words, folder, call, change):
+        """What a command answers that is stopped before this call that changes the folder, until this is done."""
+        environment = {"LD_PRELOAD": self.library, "HALT_FOLDER": folder, "HALT": str(call), "HALT_SIGNAL": str(int(signal.SIGSTOP))}
+        with subprocess.Popen(words, stdin=subprocess.DEVNULL, stdout=subprocess.PIPE, stderr=subprocess.PIPE, text=True, env=environment) as process:
+            os.waitid(os.P_PID, process.pid, os.WSTOPPED | os.WEXITED | os.WNOWAIT)
+            change()
+            process.send_signal(signal.SIGCONT)
+            out, err = process.communicate(timeout=60)
+        return Answer(process.returncode, out.strip(), said(err).splitlines())
+
 
 def with_journal(world, journal=None):
     """The files of a world in which a run was cut off when it had its journal, or this one."""

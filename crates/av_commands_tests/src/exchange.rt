@@ -114,10 +114,7 @@ impl Folder for Memory {
     }
 
     fn mark(&self, alloc: Global, name: &str) -> io::Result<Option<String>> {
-        match self.position(name) {
-            Some(_) => Ok(Some(String::from_str(alloc, self.text(name))?)),
-            None => Ok(None),
-        }
+        self.read_text(alloc, name)
     }
 
     fn names(&self, alloc: Global) -> io::Result<Vec<String>> {
@@ -129,14 +126,20 @@ impl Folder for Memory {
     }
 }
 
-/// Writes two files, of which one is there, and lets them take their places.
-fn exchange(alloc: Global, folder: &mut Memory) -> io::Result<()> {
+/// Writes two files, of which one is there, and answers their names.
+fn staged(alloc: Global, folder: &mut Memory) -> io::Result<Vec<String>> {
     let mut names = Vec::new(alloc);
     for name in ["r.0.0.mca", "r.-1.2.mca"] {
         names.push(String::from_str(alloc, name)?)?;
     }
     stage(alloc, folder, "r.0.0.mca", b"new zero")?;
     stage(alloc, folder, "r.-1.2.mca", b"new one")?;
+    Ok(names)
+}
+
+/// Writes two files, and lets them take their places.
+fn exchange(alloc: Global, folder: &mut Memory) -> io::Result<()> {
+    let names = staged(alloc, folder)?;
     if let Err(not) = place(alloc, folder, names.as_slice()) {
         return Err(not.error);
     }
@@ -227,6 +230,24 @@ fn a_repair_waits_for_names_first(rt: HostRuntime) -> Result<(), Fail> {
     Ok(())
 }
 
+/// Where another program took a new file away, no file takes its place, and no journal is written.
+#[test]
+fn a_new_file_that_is_gone(rt: HostRuntime) -> Result<(), Fail> {
+    for gone in [".anvilwater-r.0.0.mca", ".anvilwater-r.-1.2.mca"] {
+        let mut folder = Memory::new(rt.alloc());
+        folder.add("r.0.0.mca", b"old zero")?;
+        let names = staged(rt.alloc(), &mut folder)?;
+        let _ = folder.take(gone);
+        let not = place(rt.alloc(), &mut folder, names.as_slice())
+            .err()
+            .ok_or("a new file that is gone")?;
+        expect_equal(&rt, not.begun, false);
+        expect_equal(&rt, not.error.kind(), ErrorKind::NotFound);
+        has(&rt, &folder, "old zero", "-", 2);
+    }
+    Ok(())
+}
+
 /// The journal's text, once it has its name.
 #[test]
 fn the_text_of_a_journal(rt: HostRuntime) -> Result<(), Fail> {
@@ -300,6 +321,21 @@ fn what_has_its_place_may_be_written(rt: HostRuntime) -> Result<(), Fail> {
     folder.add("r.0.0.mca", b"newer")?;
     repair(rt.alloc(), &mut folder, &NoTeller)?;
     has(&rt, &folder, "newer", "new one", 2);
+    Ok(())
+}
+
+/// A new file that is lost while its old one stays has not its place: nothing is done, though the other one waits.
+#[test]
+fn what_is_lost_has_no_place(rt: HostRuntime) -> Result<(), Fail> {
+    for lost in [".anvilwater-r.0.0.mca", ".anvilwater-r.-1.2.mca"] {
+        let mut folder = cut_off(rt.alloc(), 5)?;
+        let _ = folder.take(lost);
+        let error = repair(rt.alloc(), &mut folder, &NoTeller)
+            .err()
+            .ok_or("a new file that is lost")?;
+        expect_equal(&rt, error.kind(), ErrorKind::InvalidData);
+        has(&rt, &folder, "old zero", "-", 3);
+    }
     Ok(())
 }
 

@@ -15,7 +15,7 @@ use Rattle.av_exchange.proofs.Crash.{after_both, after_phase, one_or_none, some_
 use Rattle.av_exchange.proofs.Beside.{beside_keeps, plain_stands, quiet, other_name}
 use Rattle.av_exchange.proofs.Repaired.{finishing_keeps, forgotten, forgotten_stands, after_finishing}
 
-AreRegions : List NamedFile → Type 0
+unfoldable pub AreRegions : List NamedFile → Type 0
 AreRegions files = AllByRecursion (λ f. IsRegionName f.name) files
 
 names_of : List NamedFile → List (List ℕ)
@@ -41,7 +41,7 @@ unlisted_none : (files : List NamedFile) (m : List ℕ) → is_listed (map (λ f
 unlisted_none [] m other = refl
 unlisted_none (f ∷ files) m other = none_more (bytes_under files m) f.bytes (bytes_eq m f.name) _ other (unlisted_none files m)
 
-or_some : (a o : Option (List ℕ)) (b : List ℕ) → a ≡ Some b → (option_or a o) ≡ Some b
+pub or_some : (a o : Option (List ℕ)) (b : List ℕ) → a ≡ Some b → (option_or a o) ≡ Some b
 or_some a o b is = ap (λ (x : Option (List ℕ)). option_or x o) is
 
 some_more : (a : Option (List ℕ)) (b : List ℕ) (c rest : Bool) → (c || rest) ≡ true → (rest ≡ true → (d : List ℕ) × (a ≡ Some d))
@@ -50,7 +50,7 @@ some_more (Some d) b c rest is next = (d, refl)
 some_more None b true rest is next = (b, refl)
 some_more None b false rest is next = absurd (none-some _ (next is).1)
 
-listed_some : (files : List NamedFile) (m : List ℕ) → is_listed (map (λ f. f.name) files) m ≡ true → (b : List ℕ) × (bytes_under files m ≡ Some b)
+pub listed_some : (files : List NamedFile) (m : List ℕ) → is_listed (map (λ f. f.name) files) m ≡ true → (b : List ℕ) × (bytes_under files m ≡ Some b)
 listed_some [] m listed = absurd (true≢false (sym listed))
 listed_some (f ∷ files) m listed = some_more (bytes_under files m) f.bytes (bytes_eq m f.name) _ listed (listed_some files m)
 
@@ -68,7 +68,7 @@ module _ (h : Holdings) (files : List NamedFile) (are : AreRegions files) (marks
   text : List ℕ
   text = journal_of (map (λ f. f.name) files) marks
 
-  writing : List Step
+  unfoldable pub writing : List Step
   writing = map staged files ++ (Written new_journal_name (journal_of (map (λ f. f.name) files) marks) ∷ [])
 
   staged_beside : (fs : List NamedFile) → AreRegions fs → (more : List Step) → AllByRecursion IsStepBeside more → AllByRecursion IsStepBeside (map staged fs ++ more)
@@ -76,26 +76,26 @@ module _ (h : Holdings) (files : List NamedFile) (are : AreRegions files) (marks
   staged_beside [] rs more all = all
   staged_beside (f ∷ fs) rs more all = (part f.name rs.0 refl, staged_beside fs rs.1 more all)
 
-  writing_beside : AllByRecursion IsStepBeside writing
+  pub writing_beside : AllByRecursion IsStepBeside writing
   unfolding writing
   writing_beside = staged_beside files are _ (new_journal refl, tt)
 
   -- when all are, the journal has its name
-  begun : Holdings
+  unfoldable pub begun : Holdings
   begun = after (after_all h (map staged files ++ (Written new_journal_name (journal_of (map (λ f. f.name) files) marks) ∷ []))) (Moved new_journal_name journal_name)
 
   beside_is : Holdings
   beside_is = after_all h (map staged files)
 
-  as_named : Holdings
+  unfoldable pub as_named : Holdings
   as_named = with_name (with_name (with_name (after_all h (map staged files)) new_journal_name (Some (journal_of (map (λ f. f.name) files) marks))) new_journal_name None)
       journal_name (Some (journal_of (map (λ f. f.name) files) marks))
 
-  begun_is : begun ≡ as_named
+  pub begun_is : begun ≡ as_named
   unfolding begun as_named
   begun_is = ap (λ (f : Holdings). after f (Moved new_journal_name journal_name)) (after_both h (map staged files) (Written new_journal_name (journal_of (map (λ f. f.name) files) marks) ∷ []))
 
-  all_region : (fs : List NamedFile) → AreRegions fs → AllByRecursion IsRegionName (map (λ f. f.name) fs)
+  pub all_region : (fs : List NamedFile) → AreRegions fs → AllByRecursion IsRegionName (map (λ f. f.name) fs)
   unfolding AreRegions
   all_region [] rs = tt
   all_region (f ∷ fs) rs = (rs.0, all_region fs rs.1)
@@ -110,7 +110,7 @@ module _ (h : Holdings) (files : List NamedFile) (are : AreRegions files) (marks
   staged_only (f ∷ fs) rs = (part f.name rs.0 refl, staged_only fs rs.1)
 
   -- a name that is not its own is as it was
-  named_file : (m : List ℕ) → is_own m ≡ false → as_named m ≡ h m
+  pub named_file : (m : List ℕ) → is_own m ≡ false → as_named m ≡ h m
   unfolding as_named
   named_file m own =
       cond-false (bytes_eq m journal_name) _ _ (apart m journal_name own refl)
@@ -119,7 +119,7 @@ module _ (h : Holdings) (files : List NamedFile) (are : AreRegions files) (marks
       ∙ quiet h (map staged files) m (staged_only files are) (other_name m own)))
 
   -- under the name of a new file it is that
-  named_part : (m : List ℕ) → IsRegionName m → as_named (part_of m) ≡ option_or (bytes_under files m) (h (part_of m))
+  pub named_part : (m : List ℕ) → IsRegionName m → as_named (part_of m) ≡ option_or (bytes_under files m) (h (part_of m))
   unfolding as_named
   named_part m r =
       cond-false (bytes_eq (part_of m) journal_name) _ _ (ap (λ (n : List ℕ). bytes_eq (part_of n) journal_name) r.named ∙ refl)
@@ -155,7 +155,7 @@ module _ (h : Holdings) (files : List NamedFile) (are : AreRegions files) (marks
   begun_stands : (k : Holdings) → ((m : List ℕ) → is_own m ≡ false → k m ≡ h m) → StandsFor begun (with_all k files)
   begun_stands k is = record { journal = Some (map (λ f. f.name) files); journaled = begun_journaled; counts = begun_counts k is }
 
-  after_begun : (rest : List Step)
+  pub after_begun : (rest : List Step)
       → after_all h ((map staged files ++ (Written new_journal_name (journal_of (map (λ f. f.name) files) marks) ∷ [])) ++ (Synced ∷ ((Moved new_journal_name journal_name ∷ []) ++ (Synced ∷ rest))))
       ≡ after_all begun rest
   unfolding begun

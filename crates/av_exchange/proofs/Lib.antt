@@ -9,3 +9,4 @@ pub mod Placed
 pub mod Exchanged
 pub mod Repaired
 pub mod Swept
+pub mod Unwritten

@@ -1,13 +1,17 @@
 -- Loops over marks.
-use Rattle.std.proofs.Common.{◌≡◌, ◌∙◌, ◌<◌, ◌≤◌, ◌+◌, ap, ap₂, refl, sym, subst, arith, inl, inr, ℕ, List, [], ◌∷◌, ◌++◌, length, map, take, get_or, slice_get, Option, Some, None, String, Global, option_map, string_bytes}
+use Rattle.std.proofs.Common.{◌≡◌, ◌∙◌, ◌<◌, ◌≤◌, ◌+◌, ap, ap₂, refl, sym, subst, arith, inl, inr, ℕ, List, [], ◌∷◌, ◌++◌, length, map, take, get_or, slice_get, Option, Some, None, is_some, Bool, true, bytes_eq, String, Global, option_map, string_bytes}
 use Rattle.std.specs.List.{AllByRecursion}
 use Rattle.std.proofs.Math.Nat.{eq-or-lt_of_le}
 use Rattle.std.proofs.lemmas.List.{length-map, map-append}
-use Rattle.std.proofs.lemmas.Option.{same_Some, slice_get-map, slice_get_read}
-use Rattle.av_exchange.specs.Names.{IsRegionName, journal_name, journal_of}
+use Rattle.std.proofs.lemmas.Slice.Eq.{bytes_eq-Decides}
+use Rattle.std.proofs.lemmas.Option.{none-some, same_Some, slice_get-map, slice_get_read}
+use Rattle.av_exchange.specs.Names.{IsRegionName, journal_name, journal_of, part_of}
+use Rattle.av_exchange.specs.declared.moves.Move.{Move}
+use Rattle.av_exchange.specs.Exchange.{AreStaged}
+use Rattle.av_exchange.specs.Outcomes.{name_of}
 use Rattle.av_exchange.specs.Steps.{History, IfTold, held}
 use Rattle.av_exchange.specs.Marks.{AreAsMarked, AreMarksOf, IsAsMarked, IsUnwritten, Marking, as_marked, line_at, unjournaled}
-use Rattle.av_exchange.proofs.Stepwise.{one_more}
+use Rattle.av_exchange.proofs.Stepwise.{one_behind, one_more}
 
 -- one line more
 pub one_marked : (k : Marking) (t : Option History) (names : List (String Global)) (i : ℕ) (m : String Global) (name : List ℕ) (old new : List (String Global))
@@ -55,3 +59,31 @@ all_as_marked k None text s bytes names marks is same journal regions told n all
 all_as_marked k (Some t) text s bytes names marks is same journal regions told n all are =
     as_marked (map string_bytes names) (map string_bytes marks) (told ∙ (ap (option_map string_bytes) is ∙ ap Some (sym same ∙ journal))) regions
     (subst (AreAsMarked k (held t) (map string_bytes names) (map string_bytes marks)) (all ∙ sym (length-map names string_bytes)) are)
+
+-- what has a mark is there
+marked_there : (k : Marking) (file : Option (List ℕ)) (mark : Option (String Global)) → option_map string_bytes mark ≡ option_map k file → is_some mark ≡ is_some file
+marked_there k None None told = refl
+marked_there k (Some bytes) None told = absurd (none-some (k bytes) told)
+marked_there k None (Some mark) told = absurd (none-some (string_bytes mark) (sym told))
+marked_there k (Some bytes) (Some mark) told = refl
+
+-- what is the old one exactly where a new one waits
+pub is_marked : (k : Marking) (t : Option History) (name part mark line : List ℕ) (found : Option (String Global)) (waits old : Bool) → part ≡ part_of name
+    → IfTold t (λ h. option_map string_bytes found ≡ option_map k (h part)) → waits ≡ is_some found → IfTold t (λ h. line ≡ line_at k h name)
+    → old ≡ bytes_eq line mark → waits ≡ old → IfTold t (λ h. IsAsMarked k h name (Some mark))
+is_marked k None name part mark line found waits old parts told is lined compared same = tt
+is_marked k (Some t) name part mark line found waits old parts told is lined compared same =
+    let there : waits ≡ is_some (held t (part_of name)) = is ∙ (marked_there k (held t part) found told ∙ ap (λ (n : List ℕ). is_some (held t n)) parts) in (
+      (λ waiting. ap Some (sym ((bytes_eq-Decides line mark).0 (sym compared ∙ (sym same ∙ (there ∙ waiting)))) ∙ lined)),
+      (λ marked. sym there ∙ (same ∙ (compared ∙ (bytes_eq-Decides line mark).1 (lined ∙ sym (same_Some _ _ marked))))),
+    )
+
+-- one new file more that is there
+pub one_staged : (k : Marking) (t : Option History) (moves : List Move) (i : ℕ) (m : Move) (part : List ℕ) (mark : Option (String Global))
+    → i < length moves → m ≡ get_or moves i m → part ≡ string_bytes m.part → IfTold t (AreStaged (map name_of (take i moves)))
+    → IfTold t (λ h. option_map string_bytes mark ≡ option_map k (h part)) → is_some mark ≡ true → IfTold t (AreStaged (map name_of (take (i + 1) moves)))
+one_staged k None moves i m part mark lt is same before told there = tt
+one_staged k (Some t) moves i m part mark lt is same before told there =
+    subst (λ (names : List (List ℕ)). AreStaged names (held t)) (sym (one_more name_of moves i m lt is))
+    (one_behind (λ (name : List ℕ). is_some (held t (part_of name)) ≡ true) (map name_of (take i moves)) (name_of m) before
+    (subst (λ (name : List ℕ). is_some (held t name) ≡ true) (same ∙ m.beside) (sym (marked_there k (held t part) mark told) ∙ there)))

@@ -29,19 +29,19 @@ module _ (h : Holdings) (n : List ℕ) (r : IsRegionName n) where
       ∙ cond-false (bytes_eq journal_name (part_of n)) None _ (journal_no_part n r)
 
   -- what is under the name of a new file is what was, or nothing
-  part_stays : (o : Option (List ℕ)) (m : List ℕ) → bytes_eq m n ≡ false → moved h (part_of n) n o (part_of m) ≡ h (part_of m)
+  pub part_stays : (o : Option (List ℕ)) (m : List ℕ) → bytes_eq m n ≡ false → moved h (part_of n) n o (part_of m) ≡ h (part_of m)
   part_stays None m other = refl
   part_stays (Some b) m other =
       cond-false (bytes_eq (part_of m) n) (Some b) _ (apart_too (part_of m) n (own_part m) foreign)
       ∙ cond-false (bytes_eq (part_of m) (part_of n)) None _ other
 
-  part_goes : (o : Option (List ℕ)) → o ≡ h (part_of n) → moved h (part_of n) n o (part_of n) ≡ None
+  pub part_goes : (o : Option (List ℕ)) → o ≡ h (part_of n) → moved h (part_of n) n o (part_of n) ≡ None
   part_goes None is = sym is
   part_goes (Some b) is =
       cond-false (bytes_eq (part_of n) n) (Some b) _ (apart_too (part_of n) n (own_part n) foreign)
       ∙ cond-true (bytes_eq (part_of n) (part_of n)) None _ ((bytes_eq-Decides n n).1 refl)
 
-  file_stays : (o : Option (List ℕ)) (m : List ℕ) → is_own m ≡ false → bytes_eq m n ≡ false → moved h (part_of n) n o m ≡ h m
+  pub file_stays : (o : Option (List ℕ)) (m : List ℕ) → is_own m ≡ false → bytes_eq m n ≡ false → moved h (part_of n) n o m ≡ h m
   file_stays None m own other = refl
   file_stays (Some b) m own other =
       cond-false (bytes_eq m n) (Some b) _ other ∙ cond-false (bytes_eq m (part_of n)) None _ (apart m (part_of n) own (own_part n))

@@ -23,7 +23,7 @@ removed_beside : (gone : List (List ℕ)) → AllByRecursion IsBeside gone → A
 removed_beside [] are = tt
 removed_beside (n ∷ gone) are = (are.0, removed_beside gone are.1)
 
-swept_beside : (gone : List (List ℕ)) (left : List Step) → AllByRecursion IsBeside gone → IsCutOff (sweeping gone) left → AllByRecursion IsStepBeside left
+pub swept_beside : (gone : List (List ℕ)) (left : List Step) → AllByRecursion IsBeside gone → IsCutOff (sweeping gone) left → AllByRecursion IsStepBeside left
 swept_beside [] _ are ended = tt
 swept_beside (n ∷ gone) _ are (during _ _ left some) = some_all IsStepBeside left _ some (are.0, removed_beside gone are.1)
 swept_beside (n ∷ gone) _ are (later phase _ _ ended) = behind (map Removed (n ∷ gone)) (removed_beside (n ∷ gone) are)

@@ -164,18 +164,12 @@ text_more text lines i m old mid new lt is before put closed =
     ∙ ap (λ (l : List ℕ). text ++ l)
     (sym (lines_more (map string_bytes (take i lines)) (string_bytes m)) ∙ ap lines_of (sym (one_more string_bytes lines i m lt is))))))
 
--- names, an empty line and marks behind the head
-pub text_of_parts : (names marks a b c d : List ℕ) → b ≡ a ++ names → c ≡ b ++ (10 ∷ []) → d ≡ c ++ marks → d ≡ a ++ (names ++ (10 ∷ marks))
-text_of_parts names marks a b c d first gap last =
-    last ∙ (ap (λ (t : List ℕ). t ++ marks) (gap ∙ ap (λ (t : List ℕ). t ++ (10 ∷ [])) first)
-    ∙ (append_assoc (a ++ names) (10 ∷ []) marks ∙ append_assoc a names (10 ∷ marks)))
+-- one more behind others, which is as they are
+pub one_behind : (P : List ℕ → Type 0) (names : List (List ℕ)) (name : List ℕ) → AllByRecursion P names → P name → AllByRecursion P (names ++ name ∷ [])
+one_behind P [] name all p = (p, tt)
+one_behind P (n ∷ names) name all p = (all.0, one_behind P names name all.1 p)
 
-pushed : (P : List ℕ → Type 0) (names : List (String Global)) (m : String Global) → AllByRecursion P (map string_bytes names) → P (string_bytes m)
-    → AllByRecursion P (map string_bytes (names ++ m ∷ []))
-pushed P [] m all p = (p, tt)
-pushed P (n ∷ names) m all p = (all.0, pushed P names m all.1 p)
-
--- one name more, which is as the others
 pub all_more : (P : List ℕ → Type 0) (names : List (String Global)) (m : String Global) (new : List (String Global)) → new ≡ names ++ m ∷ []
     → AllByRecursion P (map string_bytes names) → P (string_bytes m) → AllByRecursion P (map string_bytes new)
-all_more P names m new is all p = subst (λ (ns : List (String Global)). AllByRecursion P (map string_bytes ns)) (sym is) (pushed P names m all p)
+all_more P names m new is all p =
+    subst (AllByRecursion P) (sym (ap (map string_bytes) is ∙ map-append string_bytes names (m ∷ []))) (one_behind P (map string_bytes names) (string_bytes m) all p)

@@ -1,5 +1,5 @@
 -- New files of a folder that take their places all or none, and what the folder stands for meanwhile.
-use Rattle.std.specs.Prelude.{◌≡◌, ◌⊎◌, ℕ, List, [], ◌∷◌, ◌++◌, Bool, false, cond, Option, Some, None, map}
+use Rattle.std.specs.Prelude.{◌≡◌, ◌⊎◌, ℕ, List, [], ◌∷◌, ◌++◌, Bool, true, false, cond, Option, Some, None, is_some, map}
 use Rattle.std.specs.Str.{bytes_eq}
 use Rattle.std.specs.List.{list_any, AllByRecursion}
 use Rattle.std.specs.Option.{option_or}
@@ -12,6 +12,10 @@ use Rattle.av_exchange.specs.Steps.{Holdings, Step, Written, Spoiled, Moved, Rem
 -- a new file is written beside the one that it is to replace
 abbrev pub staged : NamedFile → Step
 staged file = Written (part_of file.name) file.bytes
+
+-- the new files of these names wait
+abbrev pub AreStaged : List (List ℕ) → Holdings → Type 0
+AreStaged names h = AllByRecursion (λ name. is_some (h (part_of name)) ≡ true) names
 
 -- it takes its place
 abbrev pub placed : List ℕ → Step

@@ -1,7 +1,7 @@
 -- What calls leave of a folder.
 use Rattle.std.specs.Prelude.{◌≡◌, ◌⊎◌, ℕ, List, [], ◌∷◌, Bool, true, false, Option, None, length, map, option_map, string_bytes}
 use Rattle.std.specs.List.{AllByRecursion}
-use Rattle.av_exchange.specs.Exchange.{IsJournaled, IsStepBeside, is_listed, placed, placing, repairing, sweeping}
+use Rattle.av_exchange.specs.Exchange.{AreStaged, IsJournaled, IsStepBeside, is_listed, placed, placing, repairing, sweeping}
 use Rattle.av_exchange.specs.Marks.{AreMarksOf, Marking}
 use Rattle.av_exchange.specs.Names.{IsBeside, part_of}
 use Rattle.av_exchange.specs.Steps.{AreSomeOf, History, Holdings, IfTold, IsCutOff, Spoiled, Step, Synced, all_of, with_steps}
@@ -29,14 +29,16 @@ pub record IsBesideAlone (old new : Option History) : Type 0 where
   pub beside : AllByRecursion IsStepBeside left
   pub steps : new ≡ with_steps old left
 
--- files took their places, by a journal that marks what had their names
+-- files that waited took their places, by a journal that marks what had their names
 pub record HavePlaces (mark_of : Marking) (names : List (List ℕ)) (old new : Option History) : Type 0 where
+  pub staged : IfTold old (AreStaged names)
   pub marks : List (List ℕ)
   pub marked : AreMarksOf mark_of old names marks
   pub steps : new ≡ with_steps old (all_of (placing names marks))
 
 -- the same, but it was cut off
 pub record HavePlacesInPart (mark_of : Marking) (names : List (List ℕ)) (old new : Option History) : Type 0 where
+  pub staged : IfTold old (AreStaged names)
   pub marks : List (List ℕ)
   pub marked : AreMarksOf mark_of old names marks
   pub stopped : HasStopped (placing names marks) old new

@@ -8,7 +8,7 @@ ghost use Rattle.av_exchange.specs.Steps.{Moved, Removed, Synced, Written, all_o
 
 use crate::folder::Folder;
 use crate::journal::journal_text;
-use crate::marks::mark_lines;
+use crate::marks::{check_staged, mark_lines};
 use crate::moves::Move;
 use crate::names::{JOURNAL, NEW_JOURNAL, part_name};
 use av_sink::Teller;
@@ -165,8 +165,9 @@ pub(crate) fn finish<F: Folder, T: Teller>(
 /// do. It stays until `close`, and has the marks of what they replace, by which a repair sees what was written since.
 ///
 /// # Errors
-/// What the system says, and want of memory before the first step. Where the journal does not have its name the old files stay, and a repair
-/// takes the new ones away; else a repair lets the others take their places too.
+/// What the system says, and before the first step want of memory, and `NotFound` where a new file is gone, as where another program took it
+/// away. Where the journal does not have its name the old files stay, and a repair takes the new ones away; else a repair lets the others take
+/// their places too.
 pub fn place<F: Folder>(alloc: Global, folder: &mut F, names: &[String]) -> Result<(), NotPlaced>
     ensures ok { OnOk result (HavePlaces (F.mark_of folder.old) (map string_bytes names.now)
         (F.history folder.old) (F.history folder.new)) }
@@ -174,6 +175,7 @@ pub fn place<F: Folder>(alloc: Global, folder: &mut F, names: &[String]) -> Resu
         (F.history folder.old) (F.history folder.new) e.begun) }
 {
     let moves = moves_of(alloc, names)?;
+    check_staged(alloc, folder, moves.as_slice())?;
     let marks = mark_lines(alloc, folder, names)?;
     let text = journal_text(alloc, names, marks.as_slice())?;
     if let Err(error) = record(folder, text.as_str()) {

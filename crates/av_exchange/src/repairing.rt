@@ -16,7 +16,7 @@ use av_sink::{Repair, Teller};
 use std::alloc::{AllocError, Global};
 use std::io::{self, ErrorKind};
 
-/// Does what a journal says, where there is one, and nothing that it lists was written since.
+/// Does what a journal says, where there is one, nothing that it lists was written since, and no new file is lost.
 fn finish_left<F: Folder, T: Teller>(
     alloc: Global,
     folder: &mut F,
@@ -92,8 +92,8 @@ pub fn sweep<F: Folder>(alloc: Global, folder: &mut F) -> io::Result<usize>
 /// folder.
 ///
 /// # Errors
-/// What the system says, want of memory, and `InvalidData` where the journal is of another form, or where what it lists, and whose new file
-/// waits, was written since, as by the game: then nothing is done.
+/// What the system says, want of memory, and `InvalidData` where the journal is of another form, or where what it lists was written since, as
+/// by the game, while its new file waits, or is what it was without a new file, which is lost then: then nothing is done.
 pub fn repair<F: Folder, T: Teller>(alloc: Global, folder: &mut F, teller: &T) -> io::Result<Repair>
     ensures ok { IfOk result (IsRepaired (F.history folder.old) (F.history folder.new)) }
     ensures gone { OnOk result (IfTold (F.history folder.new) HoldsNoneBeside) }

@@ -180,7 +180,7 @@ impl<'a, R: LockFiles + AllocGlobal + Clone + Drop> FolderSink<'a, R> {
     fn repair_opened<T: Teller>(&self, teller: &T) -> Result<(Repair, RegionMarks), RefusedStep> {
         let mut folder = opened(self.rt, &self.folder)?;
         match repair(self.rt.alloc(), &mut folder, teller) {
-            Ok(repaired) => Ok((repaired, RegionMarks::of(self.rt.alloc(), &folder)?)),
+            Ok(repaired) => Ok((repaired, RegionMarks::of(self.rt, &folder)?)),
             Err(error) => Err(folder.refused(error)),
         }
     }

@@ -116,7 +116,7 @@ fn region_entry<R: Files + Drop>(
 
 /// The region files of a folder, in the byte order of their names, each once. A folder that changes meanwhile may give a name
 /// twice.
-fn list_folder<R: Files + AllocGlobal + Clone + Drop>(
+pub(crate) fn list_folder<R: Files + AllocGlobal + Clone + Drop>(
     rt: &R,
     folder: &str,
 ) -> io::Result<Vec<Listed>>

@@ -1,7 +1,7 @@
 //! By what a folder's region files were known when it was opened.
+use crate::reading::{Listed, list_folder};
 use crate::system_folder::{RefusedStep, SystemFolder};
 use av_exchange::Folder;
-use av_reports::names::region_of_name;
 use std::alloc::Global;
 use std::collections::BTreeMap;
 use std::io::{self, ErrorKind};
@@ -26,15 +26,13 @@ impl RegionMarks {
 
     /// Those of the files that are there. What is no file has none.
     pub(crate) fn of<R: Files + AllocGlobal + Clone + Drop>(
-        alloc: Global,
+        rt: &R,
         folder: &SystemFolder<'_, R>,
     ) -> io::Result<RegionMarks> {
-        let mut marks = BTreeMap::new(alloc);
-        for name in folder.names(alloc)? {
-            if region_of_name(alloc, name.as_str())?.is_none() {
-                continue;
-            }
-            match folder.mark(alloc, name.as_str()) {
+        let mut marks = BTreeMap::new(rt.alloc());
+        for listed in list_folder(rt, folder.own_path())? {
+            let Listed { name, region: _ } = listed;
+            match folder.mark(rt.alloc(), name.as_str()) {
                 Ok(Some(mark)) => {
                     marks.insert(name, mark)?;
                 }
