@@ -22,6 +22,7 @@ sys.dont_write_bytecode = True
 import check_ends
 import check_hindrances
 import check_others
+import check_pieces
 import flat_runs
 import kept_worlds
 from check_packed import difference
@@ -260,7 +261,7 @@ def main():
                  check_others.heights_of_tables, check_others.tables)
     for examples in (whole, words, folders, hostile, check_hindrances.locks, check_hindrances.signals,
                      check_hindrances.changed_by_others, check_hindrances.devices, *of_others, check_ends.syncs, check_ends.going_back,
-                     check_ends.ends):
+                     check_ends.ends, check_pieces.same_light, check_pieces.which, check_pieces.refusals, check_pieces.memory):
         with tempfile.TemporaryDirectory() as work:
             for what, want, got in examples(os.path.realpath(work), program):
                 asked += 1

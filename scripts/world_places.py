@@ -13,8 +13,9 @@ from region_files import EXTERNAL_NAME, HEADER, MOST_SECTORS, REGION_NAME, Regio
 LEVEL, SESSION = "level.dat", "session.lock"
 SNOWMAN = "\u2603".encode()
 SAMPLES = 64
-# What the program takes.
-MOST_REGIONS, MOST_PLACE = 1024, 60_000
+MIB = 1 << 20
+# As far out as the program goes.
+MOST_PLACE = 60_000
 # The Ints of a chunk that are the version of the game that wrote it, and the lowest section of its world; and the Byte that is a section's, behind
 # which another tag begins, or compounds end: an array can have the same bytes.
 VERSION, LOWEST, SECTION = b"\x03\x00\x0bDataVersion", b"\x03\x00\x04yPos", \
@@ -200,12 +201,16 @@ def is_at(descriptor, path):
 
 
 class Survey(typing.NamedTuple):
-    """What the files of a folder are: the status of each by its name, the bytes that they have, and about how many their chunks
-    have when they are plain, and what some chunks say of their world."""
+    """What the files of a folder are: the status of each by its name, about how many bytes the chunks of each region have when they are
+    plain, and what some chunks say of their world."""
     files: dict
-    stored: int
-    plain: int
+    sizes: dict
     marks: set
+
+    @property
+    def stored(self):
+        """The bytes that all files have."""
+        return sum(status.st_size for status in self.files.values())
 
 
 class Mark(typing.NamedTuple):
@@ -232,12 +237,10 @@ def surveyed(folder):
     for place in found:
         if max(map(abs, place)) > MOST_PLACE:
             raise Problem("%s is farther out than the program goes; nothing is done" % place.name)
-    if len(found) > MOST_REGIONS:
-        raise Problem("%s has %d region files, and the program takes %d; nothing is done" % (folder, len(found), MOST_REGIONS))
     names = [name for place in found for name in (place.name, *sorted(beside[place]))]
     files = {name: plain_file(folder, name) for name in names}
     check_folder(folder, files)
-    chunks, sizes, marks = 0, [], set()
+    chunks, sizes, marks = {}, [], set()
     for place in found:
         try:
             with opened(os.path.join(folder, place.name)) as file:
@@ -249,10 +252,10 @@ def surveyed(folder):
                 marks.update(map(mark_of, payloads))
         except (OSError, Refused) as why:
             raise Problem("%s: %s; nothing is done" % (place.name, getattr(why, "strerror", None) or why)) from why
-        chunks += len(indices)
+        chunks[place] = len(indices)
     mean = sum(sizes) // len(sizes) if sizes else 0
-    plain = len(found) * HEADER + chunks * (mean // SECTOR + 1) * SECTOR
-    return Survey(files, sum(status.st_size for status in files.values()), plain, marks)
+    plain = {place: HEADER + count * (mean // SECTOR + 1) * SECTOR for place, count in chunks.items()}
+    return Survey(files, plain, marks)
 
 
 def plain_file(folder, name):

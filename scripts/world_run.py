@@ -10,6 +10,9 @@ The region files are made plain in a working folder beside them, the program set
 what it wrote is packed as it was before. Then each file that changed takes the place of the old one by a rename; the old files come
 to the folder of --backup, by default one beside the region files that is named with date and time. To go back, move them back.
 
+A world that is only lit, and that two thirds of the free memory don't hold, is lit in pieces, to the same light; one in which edits are
+set or ticks run is refused where there is not half of the memory that it takes. --memory says how much there is.
+
 A chunk that can't be read, or is too large for the program, is named, counts as not loaded, and comes back as it was; a file that
 can't be taken there and back ends the call, and the world is as it was. A call that was interrupted while files took their places is
 finished by the next one, which then does nothing else, and keeps the old files beside the region files unless it names the same
@@ -18,32 +21,27 @@ where it refuses, 128 and the signal's number after INT, TERM or HUP.
 """
 import argparse
 import contextlib
-import ctypes
 import os
 import shutil
 import signal
-import subprocess
 import sys
 import time
 
 sys.dont_write_bytecode = True
+import world_pieces
 import world_tables
 import worlds
-from region_files import places
 from world_exchange import Exchange, check_near, left_behind, working_folder
-from world_places import Problem, Stuck, check_held, find_world, hold_region, hold_session, surveyed
+from world_places import MIB, Problem, Stuck, check_held, find_world, hold_region, hold_session, surveyed
+from world_program import Program, Refused
 
 TOP = os.path.dirname(os.path.dirname(os.path.abspath(__file__)))
 STOPS = signal.SIGINT, signal.SIGTERM, signal.SIGHUP
-MIB = 1 << 20
 
 
 class Stopped(BaseException):
     """A signal asks for an end."""
 
-
-class Refused(Exception):
-    """The program refused, and said why."""
 
 # ---------------------------------------------------------------- words
 
@@ -67,6 +65,8 @@ def words_read(given):
                              "refused that has a block which it lacks")
     parser.add_argument("--workers", metavar="N", type=number(1, 8), default=min(8, worlds.processors()),
                         help="threads that turn ticks, 1 to 8; without it as many as there are processors")
+    parser.add_argument("--memory", metavar="MIB", type=number(1, 1 << 24),
+                        help="memory that the program may take, in MiB; without it what is free, of which a world that is only lit gets two thirds")
     parser.add_argument("--backup", metavar="FOLDER", help="a new folder for the old files")
     parser.add_argument("--program", metavar="FILE", default=os.path.join(TOP, "anvilwater"), help="another program than ./anvilwater")
     parser.add_argument("--progress", action="store_true", help="says how far it is on standard error, as it does on a terminal")
@@ -165,49 +165,6 @@ def unstopped_behind():
         stops_ignored()
 
 
-# ---------------------------------------------------------------- the program
-
-
-LIBRARY, DEATH_SIGNAL = ctypes.CDLL(None), 1
-
-
-def end_with_caller():
-    """Has the system end the program where this command is killed, which then can't."""
-    LIBRARY.prctl(DEATH_SIGNAL, signal.SIGTERM)
-
-
-class Program:
-    """The program, with the words of the call."""
-
-    def __init__(self, words, work, table):
-        self.path, self.workers = os.path.abspath(words.program), str(words.workers)
-        self.table, self.edits = os.path.join(work, "table"), os.path.join(work, "edits")
-        self.flags = ["--strict"] * table.is_strict + ["--explain"] * words.explain
-        with open(self.table, "xb") as file:
-            file.write(table.text)
-        with open(words.edits or os.devnull, "rb") as given, open(self.edits, "xb") as file:
-            shutil.copyfileobj(given, file)
-
-    def run(self, source, target, edits, ticks):
-        """What it prints. Its other lines go where those of this command go."""
-        # This command holds session.lock itself.
-        words = [self.path, "run", "--in", source, "--out", target, "--table", self.table, "--edits", edits, "--ticks", str(ticks),
-                 "--workers", self.workers, "--in-use", *self.flags]
-        with subprocess.Popen(words, stdin=subprocess.DEVNULL, stdout=subprocess.PIPE, start_new_session=True,
-                              preexec_fn=end_with_caller) as process:
-            try:
-                printed = process.communicate()[0]
-            except BaseException:
-                with contextlib.suppress(ProcessLookupError):
-                    os.killpg(process.pid, signal.SIGTERM)
-                raise
-        if process.returncode < 0:
-            raise Problem("the program was ended by signal %d; nothing is done" % -process.returncode)
-        if process.returncode > 0:
-            raise Refused(process.returncode)
-        return os.fsdecode(printed.rstrip(b"\n"))
-
-
 # ---------------------------------------------------------------- the call
 
 
@@ -215,7 +172,7 @@ class Call:
     """A call of the command."""
 
     def __init__(self, words):
-        self.words, self.progress, self.world, self.wrong = words, Progress(words.progress), None, False
+        self.words, self.progress, self.world, self.wrong, self.part = words, Progress(words.progress), None, False, ""
 
     def run(self, stack):
         """Does what the words say, under the locks, and answers the status."""
@@ -244,26 +201,45 @@ class Call:
     def work(self):
         region = self.world.region
         survey, backup = surveyed(region), self.backup()
-        self.check_room(survey, backup)
+        pieces = self.pieces(survey)
+        self.check_room(survey, pieces, backup)
         with working_folder(self.world) as work, unstopped_behind():
             check_near(self.world, work, next(iter(survey.files)))
-            plain, out, packed = (os.path.join(work, name) for name in ("plain", "out", "packed"))
-            program = self.program(work, survey)
-            self.convert("plain", region, plain)
-            printed = self.run_program(program, plain, out)
-            shutil.rmtree(plain)
-            stored = self.convert("packed", out, packed, region)
-            exchange = Exchange(self.world, work)
+            program, exchange = self.program(work, survey), Exchange(self.world, work)
+            os.mkdir(exchange.packed)
+            told, stored = self.work_pieces(program, pieces, work, exchange.packed)
             content = exchange.prepare(survey.files, stored, backup)
             if content is None:
-                say("%s\nnothing changed" % printed)
+                say("%s\nnothing changed" % told)
                 return
             stops_ignored()
             check_held(self.locks)
             exchange.write_journal(content)
-            self.exchange(exchange, [printed])
+            self.exchange(exchange, [told])
             if exchange.foreign:
                 complain("the owners of %d files could not be kept" % exchange.foreign)
+
+    def pieces(self, survey):
+        """The pieces in which the world is worked on: one, unless it is only lit and is more than two thirds of the free memory hold."""
+        is_lit_alone = not self.words.ticks and self.words.edits is None
+        free = world_pieces.free_memory()
+        given = self.words.memory and self.words.memory * MIB
+        return world_pieces.pieces(survey.sizes, given or (free * 2 // 3 if is_lit_alone else free), is_lit_alone)
+
+    def work_pieces(self, program, pieces, work, packed):
+        """Works on each piece, and answers what is told of all and the regions whose chunks are all as they were stored."""
+        plain, out, stored = os.path.join(work, "plain"), os.path.join(work, "out"), []
+        for number, piece in enumerate(pieces, 1):
+            self.part = "piece %d of %d, " % (number, len(pieces)) if len(pieces) > 1 else ""
+            os.mkdir(plain)
+            self.convert("plain", self.world.region, plain, piece)
+            printed = self.run_program(program, plain, out)
+            shutil.rmtree(plain)
+            stored += self.convert("packed", out, packed, piece._replace(beside={}), self.world.region)
+            shutil.rmtree(out)
+        if len(pieces) > 1:
+            printed = "regions %d pieces %d" % (sum(len(piece.own) for piece in pieces), len(pieces))
+        return printed, stored
 
     def backup(self):
         """The folder for the old files, by its name beside the region files or by its path."""
@@ -280,10 +256,11 @@ class Call:
             raise Problem("%s can't be made; nothing is done" % path)
         return path
 
-    def check_room(self, survey, backup):
+    def check_room(self, survey, pieces, backup):
         """Refuses a file system that has not half the room that the work is likely to take."""
         parent, beside = self.world.parent, os.path.dirname(os.path.join(self.world.parent, backup))
-        needed = {parent: 2 * survey.plain + survey.stored}
+        plain = max(sum(survey.sizes[place] for place in piece.own) for piece in pieces)
+        needed = {parent: 2 * plain + survey.stored}
         if os.stat(parent).st_dev != os.stat(beside).st_dev:
             needed[beside] = survey.stored
         for folder, size in needed.items():
@@ -294,20 +271,19 @@ class Call:
 
     # ------------------------------------------------------------ steps
 
-    def convert(self, way, source, target, like=None):
-        """Makes the files plain, or packs them, and answers the regions whose chunks are all as they were stored. A file that can't be
-        made ends the call."""
-        found, stored = places(self.world.region), []
-        os.mkdir(target)
-        self.progress.begin("%s, step %d of 3" % (way, 3 if like else 1), len(found))
-        words = argparse.Namespace(way=way, source=source, target=target, like=like)
+    def convert(self, way, source, target, piece, like=None):
+        """Makes the files of a piece plain, or packs them, and answers the regions whose chunks are all as they were stored. A file that
+        can't be made ends the call. What is wrong with a chunk is told where its region is one of the piece's own."""
+        found, stored = {*piece.own, *piece.beside}, []
+        self.progress.begin("%s%s, step %d of 3" % (self.part, way, 3 if like else 1), len(found))
+        words = argparse.Namespace(way=way, source=source, target=target, like=like, picked=piece.beside)
         with contextlib.closing(worlds.reports(words, found)) as reports:
             for report in reports:
-                made = report.counts["regions"]
-                self.progress.step(report.lines if made else report.lines[:-1])
+                made, is_own = report.counts["regions"], report.place not in piece.beside
+                self.progress.step(report.lines[:None if made else -1] if is_own else [])
                 if not made:
                     raise Problem(report.lines[-1])
-                self.wrong |= report.wrong
+                self.wrong |= report.wrong and is_own
                 if report.counts["kept"] == report.counts["chunks"]:
                     stored.append(report.place)
         self.progress.end()
@@ -328,7 +304,7 @@ class Call:
 
     def run_program(self, program, source, target):
         os.mkdir(target)
-        self.progress.begin("run, step 2 of 3")
+        self.progress.begin("%srun, step 2 of 3" % self.part)
         printed = program.run(source, target, program.edits, self.words.ticks or 0)
         self.progress.end()
         return printed

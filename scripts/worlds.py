@@ -100,10 +100,11 @@ def cause(why):
 
 
 class Work:
-    """What the words say is to be done with the region files of a folder: `task` makes each chunk, by the threads of `crew`."""
+    """What the words say is to be done with the region files of a folder: `task` makes each chunk, by the threads of `crew`. Of a region
+    that is in `picked` only these chunks are made."""
 
     def __init__(self, words, crew):
-        self.source, self.target, self.like = words.source, words.target, words.like
+        self.source, self.target, self.like, self.picked = words.source, words.target, words.like, words.picked
         self.task = {"plain": plain_chunk, "packed": packed_chunk}[words.way]
         self.crew, self.ahead = crew, processors() + 1
         self.in_place = self.like is not None and os.path.samefile(self.like, self.target)
@@ -182,7 +183,8 @@ class Work:
 
     def chunks(self, region, former):
         """The chunks that a region's file is to have, in order, with their indices. Some groups are made ahead."""
-        indices = [index for index in range(1024) if region.locations[index] or former and former.locations[index]]
+        all_indices = self.picked.get(region.place, range(1024))
+        indices = [index for index in all_indices if region.locations[index] or former and former.locations[index]]
         groups = (indices[start:start + CHUNKS_AT_ONCE] for start in range(0, len(indices), CHUNKS_AT_ONCE))
         submit = functools.partial(self.crew.submit, self.group, region, former)
         made = collections.deque(map(submit, itertools.islice(groups, self.ahead)))
@@ -214,6 +216,7 @@ def words_read():
     parser.add_argument("target", metavar="OUT")
     parser.add_argument("--like", metavar="FOLDER")
     parser.add_argument("--progress", action="store_true")
+    parser.set_defaults(picked={})
     words = parser.parse_args()
     if words.like is not None and words.way == "plain":
         parser.error("--like goes with packed")
