@@ -1,5 +1,5 @@
 -- What a crash leaves is as it was marked.
-use Rattle.std.proofs.Common.{◌≡◌, ◌∙◌, ◌<◌, ap, sym, subst, refl, ℕ, zero, suc, List, [], ◌∷◌, ◌++◌, Bool, true, false, cond, bytes_eq, Option, Some, None, is_some, length, map, option_map, slice_get}
+use Rattle.std.proofs.Common.{◌≡◌, ◌∙◌, ◌<◌, ap, sym, subst, refl, ℕ, zero, suc, List, [], ◌∷◌, Bool, true, false, cond, bytes_eq, Option, Some, None, is_some, length, map, option_map, slice_get}
 use Rattle.std.specs.List.{AllByRecursion}
 use Rattle.std.specs.Option.{option_or}
 use Rattle.std.proofs.lemmas.Bool.{cases_Bool, cond-true, or_left, or_right, true≢false}
@@ -9,7 +9,7 @@ use mathlib.Core.Logic.{◌⊎◌, inl, inr}
 use Rattle.av_sink.specs.Account.{NamedFile}
 use Rattle.av_exchange.specs.Names.{IsBeside, IsRegionName, journal_name, journal_of, new_journal_name, part_of}
 use Rattle.av_exchange.specs.Steps.{AreSomeOf, none, Holdings, IsCutOff, Moved, Removed, Step, Synced, after, after_all, during, ended, later, moved, with_name}
-use Rattle.av_exchange.specs.Exchange.{IsStepBeside, bytes_under, is_listed, placed, staged, sweeping}
+use Rattle.av_exchange.specs.Exchange.{IsStepBeside, bytes_under, is_listed, placed, sweeping}
 use Rattle.av_exchange.specs.Marks.{AreMarkedAnew, IsAsMarked, IsUnwritten, LeavesUnwritten, Marking, RepairLeavesUnwritten, as_marked, line_at, mark_line, unjournaled}
 use Rattle.av_exchange.proofs.Own.{region_not_own}
 use Rattle.av_exchange.proofs.Crash.{after_phase, all_some, one_or_none, some_all}

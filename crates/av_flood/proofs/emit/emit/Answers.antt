@@ -2,7 +2,8 @@ use Rattle.std.proofs.Common.{arith, subst, sym, ◌<◌}
 use Rattle.av_flood.specs.Board.{raw_of}
 use Rattle.av_flood.specs.Blocks.{IsNear}
 use Rattle.av_flood.proofs.Boards.{matters_above}
-use Rattle.av_flood.proofs.Floods.{IsGrown-pushed, IsNoted-emitted, IsSoundAt-emitted, WaitsIfEmitting-pushed, WaitsIfEmitting-noted, WaitsIfEmitting-off, dark_marked}
+use Rattle.av_flood.proofs.Floods.{IsGrown-pushed, IsSoundAt-emitted, WaitsIfEmitting-pushed, WaitsIfEmitting-noted, WaitsIfEmitting-off}
+use Rattle.av_flood.proofs.Marks.{IsNoted-emitted, dark_marked}
 use Rattle.av_flood.proofs.emit.emit.Goals as goal
 
 pub returns-in_default-clause-ready : goal.returns-in_default-clause-ready

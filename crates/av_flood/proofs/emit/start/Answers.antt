@@ -4,7 +4,8 @@ use Rattle.av_flood.specs.Board.{raw_of}
 use Rattle.av_flood.specs.Blocks.{column_at, MayBeLoaded}
 use Rattle.av_flood.specs.Flooding.{IsGrown, IsNoted, WaitsIfEmitting, todo_of}
 use Rattle.av_flood.proofs.Boards.{at_column}
-use Rattle.av_flood.proofs.Floods.{IsStarted-all, IsGrown-none, IsGrown-trans, IsNoted-fresh, WaitsIfEmitting-grown, WaitsIfEmitting-known}
+use Rattle.av_flood.proofs.Floods.{IsStarted-all, IsGrown-none, IsGrown-trans, WaitsIfEmitting-grown, WaitsIfEmitting-known}
+use Rattle.av_flood.proofs.Marks.{IsNoted-fresh}
 use Rattle.av_flood.proofs.emit.start.Goals as goal
 
 pub loop-number-init : goal.loop-number-init

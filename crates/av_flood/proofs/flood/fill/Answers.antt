@@ -2,7 +2,8 @@ use Rattle.std.proofs.Common.{arith, refl, subst, sym, ◌∙◌, ◌≡◌, ◌
 use Rattle.av_flood.specs.Board.{light_of, raw_of}
 use Rattle.av_flood.specs.Flooding.{IsFlooding, IsMarked, todo_of}
 use Rattle.av_flood.proofs.Boards.{matters_own, lit_raw}
-use Rattle.av_flood.proofs.Floods.{IsFlooding-started, IsLight-flooded, IsMarked-noted}
+use Rattle.av_flood.proofs.Floods.{IsFlooding-started, IsLight-flooded}
+use Rattle.av_flood.proofs.Marks.{IsMarked-noted}
 use Rattle.av_flood.proofs.flood.fill.Goals as goal
 
 pub loop-step-init : goal.loop-step-init

@@ -3,7 +3,8 @@ use Rattle.av_flood.specs.Board.{raw_of, light_of}
 use Rattle.av_flood.specs.Blocks.{IsNear}
 use Rattle.av_flood.specs.Flooding.{Matters, IsGrown, todo_of}
 use Rattle.av_flood.proofs.Boards.{lit_raw, matters_above, apart_most}
-use Rattle.av_flood.proofs.Floods.{IsMarked-offered, brought_waits, IsOffered-brought, IsOffered-seen, IsOffered-off, IsOffered-same, HasOffered-none, light_marked}
+use Rattle.av_flood.proofs.Floods.{brought_waits, IsOffered-brought, IsOffered-seen, IsOffered-off, IsOffered-same, HasOffered-none}
+use Rattle.av_flood.proofs.Marks.{IsMarked-offered, light_marked}
 use Rattle.av_flood.proofs.flood.offer.Goals as goal
 
 pub mark-requires-clause-place : goal.mark-requires-clause-place

@@ -5,7 +5,8 @@ use Rattle.av_flood.specs.Blocks.{IsNear, IsFarFromEnds}
 use Rattle.av_flood.specs.Light.{IsAdjacent, HasLight}
 use Rattle.av_flood.specs.Flooding.{IsFlooding, IsGrown, IsMarked, IsOffered, IsPopped, todo_of}
 use Rattle.av_flood.proofs.Boards.{on_board, inner_near, lit_raw, settled_light}
-use Rattle.av_flood.proofs.Floods.{IsFlooding-passed, IsFlooding-settled, IsMarked-passed, IsMarked-same, IsMarked-settled, IsMarked-lower, next_sound, none_left, IsFlooding-lit, bright_settled}
+use Rattle.av_flood.proofs.Floods.{IsFlooding-passed, IsFlooding-settled, next_sound, none_left, IsFlooding-lit, bright_settled}
+use Rattle.av_flood.proofs.Marks.{IsMarked-passed, IsMarked-same, IsMarked-settled, IsMarked-lower}
 use Rattle.av_flood.proofs.flood.settle_level.Goals as goal
 
 pub spot-spot-requires : goal.spot-spot-requires
