@@ -21,8 +21,8 @@ use Rattle.av_document.specs.Chunk.{root_tags, is_full, first_fault, cell_of}
 use Rattle.av_document.specs.Layout.{block_at}
 use Rattle.av_document.proofs.Positions.{lies_in-block_at, section_inside}
 use Rattle.av_chunk.proofs.Heights.{offset_at}
-use Rattle.av_chunk.proofs.Written.{states-of_section, numbers-of_section}
-use Rattle.av_chunk.specs.Payload.{IsPayloadFault, no_document, bad_document}
+use Rattle.av_codec.proofs.Written.{states-of_section, numbers-of_section}
+use Rattle.av_codec.specs.Payload.{IsPayloadFault, no_document, bad_document}
 use Rattle.av_chunk.specs.Reading.{IsLoaded, IsKept}
 use Rattle.av_chunk.specs.Views.{section_in, cells_of}
 use Rattle.av_chunk.specs.declared.chunk.Chunk.{Chunk}

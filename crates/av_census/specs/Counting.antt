@@ -18,7 +18,7 @@ use Rattle.av_state.specs.declared.state.State.{State}
 use Rattle.av_section.specs.Section.{number_at, HasNumbersBelow, section_states}
 use Rattle.av_section.specs.declared.section.Section.{Section}
 use Rattle.av_document.specs.Chunk.{root_tags, first_fault}
-use Rattle.av_chunk.specs.Payload.{IsPayloadFault}
+use Rattle.av_codec.specs.Payload.{IsPayloadFault}
 use Rattle.av_region_files.specs.declared.files.RegionFile.{RegionFile}
 use Rattle.av_census.specs.Census.{joined, chunk_blocks, times, state_order, HasBlocksAt, HasBlocksUpTo, HasBlocks, HaveBlocks}
 use Rattle.av_census.specs.declared.places.Counted.{Counted}

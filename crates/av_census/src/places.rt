@@ -6,7 +6,7 @@ ghost use Rattle.av_census.specs.Counting.{IsCountedAt, IsCountedIn};
 
 use crate::blocks::count_blocks;
 use av_chunk::chunk::Reading;
-use av_chunk::read_payload;
+use av_codec::read_payload;
 use av_region::Region;
 use av_state::StateTable;
 use av_types::{ChunkPos, Fault, Height, RegionPos};

@@ -1,13 +1,4 @@
-pub mod Working
 pub mod Rest
 pub mod Views
 pub mod Reading
-pub mod Payload
-pub mod Block
 pub mod Light
-pub mod Writing
-pub mod WritingSteps
-pub mod TicksRead
-pub mod SectionsRead
-pub mod Assembly
-pub mod Pending

@@ -1,9 +1,10 @@
 -- What a chunk in memory holds, and what its rest does.
-use Rattle.std.specs.Prelude.{ℕ, ℤ, List, Option, Some, None, Bool, false, slice_get, slice_index_or}
+use Rattle.std.specs.Prelude.{ℕ, ℤ, List, Option, Some, None, Bool, false, ◌&&◌, ◌==◌, slice_get, slice_index_or}
 use Rattle.av_types.specs.Division.{divided}
 use Rattle.av_types.specs.Places.{place_of, section_index}
 use Rattle.av_types.specs.declared.place.Pos.{Pos}
 use Rattle.av_types.specs.declared.place.Height.{Height}
+use Rattle.av_types.specs.declared.tick.Entry.{Entry}
 use Rattle.av_types.specs.Options.{◌>>=◌}
 use Rattle.av_tags.specs.Shape.{or_else}
 use Rattle.av_state.specs.BlockState.{BlockState, air}
@@ -32,6 +33,10 @@ cells_of table h chunk p = or_else air (state_in table h chunk p)
 -- whether a scheduled tick is pending at a block, as its section says
 abbrev pub pending_in : Height → Chunk → Pos → Bool
 pending_in h chunk p = or_else false (section_in h chunk (divided p.y 16) >>= λ s. Some (is_pending s (place_of p)))
+
+-- an entry lies in the section at an offset, at a place of it
+abbrev pub is_entry_at : Height → ℕ → ℕ → Entry → Bool
+is_entry_at h offset place e = (offset == section_index h (divided e.pos.y 16)) && (place == place_of e.pos)
 
 abbrev pub rest_of : ChunkRest → RestOfChunk
 rest_of r = rest_with r.height r.name.items r.tags.items r.foreign.items r.sections.items r.outside.items

@@ -1,7 +1,7 @@
 //! Blocks of small regions, written by hand.
 use crate::expecting::expect_true;
 use crate::parts::region;
-use av_chunk::block_at;
+use av_codec::block_at;
 use av_state::State;
 use av_types::{Fault, Height, Pos, RegionPos};
 use std::alloc::{AllocError, Global};

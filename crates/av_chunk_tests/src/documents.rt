@@ -4,7 +4,7 @@ ghost use Rattle.std.specs.Prelude.{◌≡◌, ◌≤◌, ◌-ℤ◌, IfOk, IsTr
 ghost use Rattle.std.specs.Int.RustNames.{FitsSigned};
 ghost use Rattle.av_state.specs.Table.{states};
 ghost use Rattle.av_rules.specs.declared.kinds.Kinds.{Kinds};
-ghost use Rattle.av_chunk.specs.Writing.{CanWrite, states_of_kinds};
+ghost use Rattle.av_codec.specs.Writing.{CanWrite, states_of_kinds};
 
 use crate::expecting::{expect_equal, expect_true};
 use crate::pieces::Piece::{Light, Longs, Number, Tick};
@@ -16,6 +16,7 @@ use crate::tags::{
     TICKS_4, UNKNOWN, WATER, Z_POS,
 };
 use av_chunk::{Chunk, ChunkLight, ChunkRest, Reading};
+use av_codec::{read_chunk, write_chunk};
 use av_nbt::{decode, encode};
 use av_rules::{Kinds, Rules};
 use av_state::StateTable;
@@ -40,7 +41,7 @@ pub(crate) fn read(alloc: Global, bytes: &[u8], height: Height) -> Result<Readin
 {
     let root = decode(alloc, bytes)?;
     let mut table = StateTable::new(alloc)?;
-    Chunk::read(alloc, root, PLACE, height, &mut table)
+    read_chunk(alloc, root, PLACE, height, &mut table)
 }
 
 /// The kinds of a table's states.
@@ -62,7 +63,7 @@ pub(crate) fn written(
 ) -> Result<Vec<u8>, Fault>
     requires { CanWrite chunk.now rest.now kinds.now light.now ticks }
 {
-    let root = chunk.write(alloc, rest, kinds, light, ticks)?;
+    let root = write_chunk(alloc, chunk, rest, kinds, light, ticks)?;
     encode(alloc, &root)
 }
 
@@ -116,7 +117,7 @@ pub(crate) fn rewritten_after(
     };
     let root = decode(alloc, bytes)?;
     let mut table = StateTable::new(alloc)?;
-    let reading = Chunk::read(alloc, root, PLACE, height, &mut table)?;
+    let reading = read_chunk(alloc, root, PLACE, height, &mut table)?;
     let Reading::Full { chunk, rest } = reading else {
         return Err(Fail::new("a chunk that is not full"));
     };

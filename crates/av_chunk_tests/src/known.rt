@@ -9,6 +9,7 @@ use crate::tags::{
     SECTIONS_1, SLAB, STATES, STILL, STONE, TICKS_1, WATER,
 };
 use av_chunk::{Chunk, ChunkRest, Reading};
+use av_codec::{read_chunk, read_known};
 use av_nbt::decode;
 use av_state::StateTable;
 use av_types::{ChunkPos, Entry, Fault, Height, Place, Pos};
@@ -28,7 +29,7 @@ fn read(alloc: Global, bytes: &[u8], table: &mut StateTable) -> Result<Reading, 
     requires { length bytes.now ≤ 1044475 }
 {
     let root = decode(alloc, bytes)?;
-    Chunk::read(alloc, root, PLACE, TWO, table)
+    read_chunk(alloc, root, PLACE, TWO, table)
 }
 
 /// The same, where a table knows its states.
@@ -36,7 +37,7 @@ fn read_known(alloc: Global, bytes: &[u8], table: &StateTable) -> Result<Option<
     requires { length bytes.now ≤ 1044475 }
 {
     let root = decode(alloc, bytes)?;
-    Ok(Chunk::read_known(alloc, root, PLACE, TWO, table)?)
+    Ok(read_known(alloc, root, PLACE, TWO, table)?)
 }
 
 /// A table with the states of the chunk that bytes spell.

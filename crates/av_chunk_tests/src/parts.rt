@@ -1,6 +1,6 @@
 //! Documents from their tags, and what they are read as.
 use crate::expecting::expect_equal;
-use av_chunk::block_at;
+use av_codec::block_at;
 use av_types::{Fault, Height, Pos, RegionPos};
 use std::alloc::{AllocError, Global};
 use std::process::Abort;

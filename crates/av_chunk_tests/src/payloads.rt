@@ -1,6 +1,7 @@
 //! Payloads by hand, read as chunks.
 use crate::expecting::expect_equal;
-use av_chunk::{Reading, read_payload};
+use av_chunk::Reading;
+use av_codec::read_payload;
 use av_state::StateTable;
 use av_types::{ChunkPos, Fault, Height};
 use std::alloc::Global;

@@ -1,6 +1,6 @@
 //! Where chunks lie in a region's file.
 use crate::expecting::expect_equal;
-use av_chunk::block_at;
+use av_codec::block_at;
 use av_region::{Region, write};
 use av_types::{ChunkPos, Fault, Height, Pos, RegionPos};
 use std::alloc::{AllocError, Global};

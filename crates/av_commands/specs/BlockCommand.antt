@@ -8,7 +8,7 @@ use Rattle.av_types.specs.declared.place.Height.{Height}
 use Rattle.av_types.specs.declared.fault.Fault.TheVariants.{OutOfMemory, RegionRange}
 use Rattle.av_state.specs.BlockState.{BlockState}
 use Rattle.av_state.specs.Words.{state_text}
-use Rattle.av_chunk.specs.Block.{IsFound, IsBlockRefused}
+use Rattle.av_codec.specs.Block.{IsFound, IsBlockRefused}
 use Rattle.av_commands.specs.declared.block.refusal.Refusal.{Refusal}
 use Rattle.av_commands.specs.declared.block.refusal.Refusal.TheVariants as refusal
 use Rattle.av_region_files.specs.Names.{region_name_of}

@@ -5,7 +5,7 @@ ghost use Rattle.av_types.specs.declared.fault.Fault.TheVariants.{OutOfMemory};
 ghost use Rattle.av_state.specs.States.{state_of};
 ghost use Rattle.av_commands.specs.BlockCommand.{HasAnswered, answer_line, IsBlockLine, IsBlockRefusal, IsPathOf, IsPathRefused, status_of};
 
-use av_chunk::block_at;
+use av_codec::block_at;
 use av_reports::failure::{Failure, Reason};
 use av_reports::names::{file_name, region_of_name};
 use av_reports::output::{REFUSED, report_output, write_first};

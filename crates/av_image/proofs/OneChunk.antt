@@ -28,7 +28,7 @@ use Rattle.av_document.proofs.Positions.{lies_in-block_at, divided-coordinate}
 use Rattle.av_chunk.specs.Views.{section_in, state_in, cells_of as chunk_cells, rest_of}
 use Rattle.av_chunk.specs.Reading as reading
 use Rattle.av_chunk.specs.Light.{section_count}
-use Rattle.av_chunk.specs.Writing.{CanWrite, written, sources_of, is_source_number, light_of}
+use Rattle.av_codec.specs.Writing.{CanWrite, written, sources_of, is_source_number, light_of}
 use Rattle.av_chunk.specs.declared.chunk.Chunk.{Chunk}
 use Rattle.av_chunk.specs.declared.rest.ChunkRest.{ChunkRest}
 use Rattle.av_chunk.specs.declared.light.ChunkLight.{ChunkLight}

@@ -13,7 +13,7 @@ use Rattle.av_files.specs.Files.{File}
 use Rattle.av_files.specs.FirstFault.{IsPlaceFault, IsPlaceGood, spelling, document, nothing, chunk}
 use Rattle.av_image.specs.declared.reading.places.Place.{Place}
 use Rattle.av_image.specs.declared.reading.places.Place.TheVariants.{Absent, Kept, Full}
-use Rattle.av_chunk.specs.Payload.{IsPayloadFault, no_document, bad_document}
+use Rattle.av_codec.specs.Payload.{IsPayloadFault, no_document, bad_document}
 use Rattle.av_image.specs.Placed.{IsPlaceRead, WasPlaceRead, WerePlacesRead}
 
 pub place_refused : (h : Height) (old : List BlockState) (file payload : List ℕ) (c : ChunkPos) (i : ℕ) (e : Fault) → Holds file i payload → IsPayloadFault c h payload old e → IsPlaceFault h old file c i e

@@ -5,7 +5,7 @@ use Rattle.av_types.specs.declared.place.ChunkPos.{ChunkPos}
 use Rattle.av_types.specs.declared.place.Height.{Height}
 use Rattle.av_region.specs.Region.{Holds}
 use Rattle.av_state.specs.BlockState.{BlockState}
-use Rattle.av_chunk.specs.Payload.{IsPayloadReading}
+use Rattle.av_codec.specs.Payload.{IsPayloadReading}
 use Rattle.av_image.specs.declared.reading.batch.Batch.{Batch}
 use Rattle.av_chunk.specs.declared.chunk.Reading.{Reading}
 

@@ -15,7 +15,7 @@ use Rattle.av_state.specs.Table.{states}
 use Rattle.av_rules.specs.Kinds.{table_in, wet_at, kind_count}
 use Rattle.av_rules.specs.declared.kinds.Kinds.{Kinds}
 use Rattle.av_chunk.specs.Light.{section_count}
-use Rattle.av_chunk.specs.Writing.{light_of}
+use Rattle.av_codec.specs.Writing.{light_of}
 use Rattle.av_chunk.specs.declared.light.ChunkLight.{ChunkLight}
 use Rattle.av_land.specs.Land.{Land, is_loaded, has_chunk}
 use Rattle.av_world.specs.Index.{slot}

@@ -12,7 +12,7 @@ use Rattle.av_nbt.specs.Spelling.{SpellsDocument}
 use Rattle.av_state.specs.BlockState.{BlockState}
 use Rattle.av_state.specs.StateList.{first_states}
 use Rattle.av_document.specs.Chunk.{RestOfChunk, DenotesChunk, root_tags, first_fault, is_full}
-use Rattle.av_chunk.specs.Payload.{IsPayloadFault}
+use Rattle.av_codec.specs.Payload.{IsPayloadFault}
 use Rattle.av_map.specs.Colours.{NamedColour}
 use Rattle.av_map.specs.Patches.{IsShown, sights_in}
 use Rattle.av_map.specs.declared.patch.Patch.{Patch}

@@ -7,7 +7,7 @@ ghost use Rattle.av_types.specs.Places.{IsInLimits, chunk_at};
 ghost use Rattle.av_tags.specs.View.{document};
 ghost use Rattle.av_document.specs.Chunk.{first_fault, root_tags};
 ghost use Rattle.av_document.specs.Stored.{IsStored};
-ghost use Rattle.av_chunk.specs.Payload.{IsPayloadFault};
+ghost use Rattle.av_codec.specs.Payload.{IsPayloadFault};
 ghost use Rattle.av_state.specs.StateList.{first_states};
 ghost use Rattle.av_state.specs.Table.{states};
 ghost use Rattle.av_map.specs.Arrays.{arrays_of};
@@ -24,6 +24,7 @@ use crate::light::lights;
 use crate::patch::Patch;
 use crate::view::View;
 use av_chunk::{Chunk, Reading};
+use av_codec::read_chunk;
 use av_nbt::decode;
 use av_region::Region;
 use av_state::StateTable;
@@ -95,7 +96,7 @@ impl Scene<'_> {
     {
         let lights = self.lights(alloc, &root)?;
         let mut table = StateTable::new(alloc)?;
-        match Chunk::read(alloc, root, at, self.height, &mut table)? {
+        match read_chunk(alloc, root, at, self.height, &mut table)? {
             Reading::Kept => Ok(Patch::Clear),
             Reading::Full { chunk, rest: _ } => {
                 Ok(self.shown(alloc, &chunk, &table, lights.as_slice())?)

@@ -5,12 +5,13 @@ ghost use Rattle.av_state.specs.Table.{states};
 ghost use Rattle.av_section.specs.Reading.{OnlyGrows};
 ghost use Rattle.av_region.specs.Region.{Holds};
 ghost use Rattle.av_chunk.specs.Light.{section_count};
-ghost use Rattle.av_chunk.specs.Writing.{states_of_kinds};
+ghost use Rattle.av_codec.specs.Writing.{states_of_kinds};
 ghost use Rattle.av_rewrite.specs.Regions.{AreMadeOf, IsMadeOf, IsRegionMadeOf};
 ghost use Rattle.av_rewrite.specs.Rewriting.{AreSlots, IsRewritten, IsSlotRead, SlotWasRead, SlotsWereRead};
 
 use crate::recoding::stamps_of;
 use av_chunk::{Chunk, ChunkLight, ChunkRest, Reading};
+use av_codec::{read_chunk, write_chunk};
 use av_nbt::{decode, encode};
 use av_region::{CHUNKS, Region, write};
 use av_rules::{Kinds, Rules};
@@ -44,7 +45,7 @@ fn read_payload<'a>(
     ensures table { OnlyGrows (states table.old) (states table.new) }
 {
     let root = decode(alloc, payload)?;
-    match Chunk::read(alloc, root, REGION.chunk_at(index), height, table)? {
+    match read_chunk(alloc, root, REGION.chunk_at(index), height, table)? {
         Reading::Kept => Ok(Slot::Kept(payload)),
         Reading::Full { chunk, rest } => Ok(Slot::Full { chunk, rest }),
     }
@@ -97,7 +98,7 @@ fn write_chunk(
     ensures { (h : Height) (region : List ℕ) (index : ℕ) → IsSlotRead h region (states_of_kinds kinds.now) index (Slot.Full chunk rest)
         → IfOk result (λ bytes. IsMadeOf (IsRewritten h) region index (Some bytes.items)) }
 {
-    let root = chunk.write(alloc, &rest, kinds, light, 0)?;
+    let root = write_chunk(alloc, &chunk, &rest, kinds, light, 0)?;
     encode(alloc, &root)
 }
 
@@ -141,7 +142,7 @@ fn write_slots(
 /// block table, at its index and with its timestamp. The others are kept byte for byte.
 ///
 /// # Errors
-/// What `Region::read`, `Region::payload`, `decode` and `Chunk::read` refuse, and what the new file can't hold. `OutOfMemory`.
+/// What `Region::read`, `Region::payload`, `decode` and `read_chunk` refuse, and what the new file can't hold. `OutOfMemory`.
 pub fn rewrite(alloc: Global, bytes: &[u8], height: Height) -> Result<Vec<u8>, Fault>
     ensures { IfOk result (λ file. IsRegionMadeOf (IsRewritten height) bytes.now file.items) }
 {

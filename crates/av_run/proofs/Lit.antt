@@ -21,7 +21,7 @@ use Rattle.av_rules.specs.Kinds.{table_in, row_at, kind_count}
 use Rattle.av_rules.specs.declared.row.Row.{Row}
 use Rattle.av_rules.specs.declared.kinds.Kinds.{Kinds}
 use Rattle.av_chunk.specs.Light.{section_count}
-use Rattle.av_chunk.specs.Writing.{light_of}
+use Rattle.av_codec.specs.Writing.{light_of}
 use Rattle.av_chunk.specs.declared.light.ChunkLight.{ChunkLight}
 use Rattle.av_chunk.proofs.Heights.{offset_below}
 use Rattle.av_cells.specs.Positions.{same_chunk}

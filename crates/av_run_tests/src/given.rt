@@ -1,6 +1,6 @@
 //! Runs of flat worlds, and what they must answer.
 use crate::gates::Holding;
-use av_chunk::block_at;
+use av_codec::block_at;
 use av_crew::{Gate, NoGate};
 use av_image_tests::flat::Block::Water;
 use av_image_tests::flat::{Block, Flat, Waiting, flat_region};

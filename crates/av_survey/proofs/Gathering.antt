@@ -19,7 +19,7 @@ use Rattle.av_chunk.specs.Reading.{IsReading}
 use Rattle.av_region_files.specs.declared.files.RegionFile.{RegionFile}
 use Rattle.av_survey.specs.declared.finding.Finding.{Finding}
 use Rattle.av_survey.specs.Survey.{FindsInAll, FindsInFile, FindsUpTo, IsFirstAt, IsFirstIn, IsFaultAlone, chunk, noted, spelling, document}
-use Rattle.av_chunk.specs.Payload.{IsPayloadFault, no_document, bad_document}
+use Rattle.av_codec.specs.Payload.{IsPayloadFault, no_document, bad_document}
 
 -- bytes that were refused, but not for want of memory, spell no document
 pub no_root : (e : Fault) (bytes : List ℕ) → IsDecodeRefusal e bytes → e ≢ OutOfMemory → (e ≡ BadNbt) × SpellsNone bytes

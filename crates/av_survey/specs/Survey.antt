@@ -13,7 +13,7 @@ use Rattle.av_nbt.specs.Outcome.{SpellsNone}
 use Rattle.av_region.specs.Region.{IsShort, IsAbsent, Holds, IsChunkFault}
 use Rattle.av_state.specs.StateList.{first_states}
 use Rattle.av_document.specs.Chunk.{root_tags, first_fault}
-use Rattle.av_chunk.specs.Payload.{IsPayloadFault}
+use Rattle.av_codec.specs.Payload.{IsPayloadFault}
 use Rattle.av_region_files.specs.declared.files.RegionFile.{RegionFile}
 use Rattle.av_survey.specs.declared.finding.Finding.{Finding}
 use Rattle.av_survey.specs.Listing.{IsList, in_order}

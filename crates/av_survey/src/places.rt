@@ -4,7 +4,7 @@ ghost use Rattle.av_types.specs.declared.fault.Fault.TheVariants.{OutOfMemory};
 ghost use Rattle.av_types.specs.Places.{IsInLimits, chunk_at};
 ghost use Rattle.av_survey.specs.Survey.{IsFirstAt, IsFirstIn};
 
-use av_chunk::read_payload;
+use av_codec::read_payload;
 use av_region::Region;
 use av_state::StateTable;
 use av_types::{ChunkPos, Fault, Height, RegionPos};

@@ -5,7 +5,7 @@ use crate::jobs::only;
 use crate::pool::Pool;
 use crate::regions::{Country, region};
 use anyhow::Result;
-use av_chunk::block_at;
+use av_codec::block_at;
 use av_state::State;
 use av_survey::{Finding, survey};
 use av_types::{Fault, Height, Pos, RegionPos};

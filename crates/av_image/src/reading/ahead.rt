@@ -3,11 +3,12 @@ ghost use Rattle.std.specs.Prelude.{◌≡◌, ◌+◌, ◌<◌, ◌≤◌, leng
 ghost use Rattle.av_dealt.specs.Dealt.{AreInPlace, IsTaken};
 ghost use Rattle.av_region.specs.Region.{Holds};
 ghost use Rattle.av_state.specs.Table.{states};
-ghost use Rattle.av_chunk.specs.Payload.{IsPayloadReading};
+ghost use Rattle.av_codec.specs.Payload.{IsPayloadReading};
 ghost use Rattle.av_image.specs.Ahead.{IsMadeBy};
 
 use crate::reading::batch::Batch;
-use av_chunk::{Chunk, Reading};
+use av_chunk::Reading;
+use av_codec::read_known;
 use av_dealt::{Dealt, Maker, gathered, taken};
 use av_nbt::decode;
 use av_state::StateTable;
@@ -40,7 +41,7 @@ fn known(
     let Ok(root) = decode(alloc, payload) else {
         return None;
     };
-    match Chunk::read_known(alloc, root, at, height, table) {
+    match read_known(alloc, root, at, height, table) {
         Ok(reading) => reading,
         Err(_) => None,
     }

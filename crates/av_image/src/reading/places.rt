@@ -4,12 +4,13 @@ ghost use Rattle.av_types.specs.declared.fault.Fault.TheVariants.{OutOfMemory};
 ghost use Rattle.av_types.specs.Places.{IsInLimits, chunk_at};
 ghost use Rattle.av_state.specs.Table.{states};
 ghost use Rattle.av_section.specs.Reading.{OnlyGrows};
-ghost use Rattle.av_chunk.specs.Payload.{IsPayloadReading, IsPayloadFault};
+ghost use Rattle.av_codec.specs.Payload.{IsPayloadReading, IsPayloadFault};
 ghost use Rattle.av_files.specs.FirstFault.{IsPlaceFault};
 ghost use Rattle.av_image.specs.Ahead.{IsMadeAt};
 ghost use Rattle.av_image.specs.Placed.{IsPlaceRead, IsPayloadRead};
 
-use av_chunk::{Chunk, ChunkRest, Reading, read_payload};
+use av_chunk::{Chunk, ChunkRest, Reading};
+use av_codec::read_payload;
 use av_region::Region;
 use av_state::StateTable;
 use av_types::{ChunkPos, Fault, Height, RegionPos};

@@ -4,7 +4,7 @@ ghost use Rattle.av_types.specs.Places.{IsInLimits};
 ghost use Rattle.av_types.specs.declared.fault.Fault.TheVariants.{OutOfMemory, ChunkTooLarge};
 ghost use Rattle.av_nbt.specs.Writing.{written_document};
 ghost use Rattle.av_land.specs.Land.{has_chunk};
-ghost use Rattle.av_chunk.specs.Writing.{CanWrite, written};
+ghost use Rattle.av_codec.specs.Writing.{CanWrite, written};
 ghost use Rattle.av_world.specs.Views.{height_of, positions_of};
 ghost use Rattle.av_image.specs.Views.{file_in};
 ghost use Rattle.av_image.specs.Saving.{CanSave, IsSlotOf};
@@ -12,6 +12,7 @@ ghost use Rattle.av_image.specs.SavingSteps.{payload_items, loaded_bytes, slot_p
 
 use crate::rest::{RegionRest, Slot};
 use av_chunk::{Chunk, ChunkLight, ChunkRest};
+use av_codec::write_chunk;
 use av_nbt::encode;
 use av_region_files::RegionFile;
 use av_rules::Kinds;
@@ -56,7 +57,7 @@ fn written_chunk(
     ensures { IfOk result (λ bytes. bytes.items ≡ written_document
         (written chunk.now rest.now kinds.now light.now elapsed)) }
 {
-    let Ok(root) = chunk.write(alloc, rest, kinds, light, elapsed) else {
+    let Ok(root) = write_chunk(alloc, chunk, rest, kinds, light, elapsed) else {
         return Err(AllocError);
     };
     let Ok(bytes) = encode(alloc, &root) else {

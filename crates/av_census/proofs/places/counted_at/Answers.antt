@@ -1,6 +1,6 @@
 use Rattle.av_types.specs.Places.{chunk_at}
 use Rattle.av_region.specs.Region.{Holds}
-use Rattle.av_chunk.proofs.Found.{if_ok_then}
+use Rattle.av_codec.proofs.Found.{if_ok_then}
 use Rattle.av_census.proofs.Chunks.{counted_there, broken_there}
 use Rattle.av_census.proofs.places.counted_at.Goals as goal
 

@@ -3,8 +3,8 @@ use Rattle.std.specs.Prelude.{slice_index_or}
 use Rattle.av_state.specs.StateList.{first_states}
 use Rattle.av_state.specs.Table.{states}
 use Rattle.av_section.specs.declared.section.Section.{Section}
-use Rattle.av_chunk.proofs.Found.{if_ok_then}
-use Rattle.av_chunk.specs.Payload.{IsPayloadReading}
+use Rattle.av_codec.proofs.Found.{if_ok_then}
+use Rattle.av_codec.specs.Payload.{IsPayloadReading}
 use Rattle.av_chunk.specs.Reading.{IsLoaded, IsKept}
 use Rattle.av_census.specs.Counting.{AreSlotCounts, SlotBelow}
 use Rattle.av_census.proofs.Chunks.{kept_in, loaded_in, faulty_in, slots_below}

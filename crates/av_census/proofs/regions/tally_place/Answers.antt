@@ -1,5 +1,5 @@
 use Rattle.av_types.specs.Places.{chunk_at}
-use Rattle.av_chunk.proofs.Found.{if_ok_then}
+use Rattle.av_codec.proofs.Found.{if_ok_then}
 use Rattle.av_census.proofs.Chunks.{counted_few}
 use Rattle.av_census.proofs.Files.{tallies_place}
 use Rattle.av_census.proofs.regions.tally_place.Goals as goal

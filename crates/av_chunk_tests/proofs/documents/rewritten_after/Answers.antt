@@ -12,13 +12,13 @@ use Rattle.av_state.specs.BlockState.{BlockState}
 use Rattle.av_rules.specs.declared.kinds.Kinds.{Kinds}
 use Rattle.av_chunk.specs.Light.{section_count}
 use Rattle.av_chunk.specs.Reading.{IsLoaded, IsReading}
-use Rattle.av_chunk.specs.Writing.{CanWrite, states_of_kinds}
+use Rattle.av_codec.specs.Writing.{CanWrite, states_of_kinds}
 use Rattle.av_chunk.specs.declared.chunk.Chunk.{Chunk}
 use Rattle.av_chunk.specs.declared.chunk.Reading.{Reading}
 use Rattle.av_chunk.specs.declared.chunk.Reading.TheVariants.{Full}
 use Rattle.av_chunk.specs.declared.rest.ChunkRest.{ChunkRest}
 use Rattle.av_chunk.specs.declared.light.ChunkLight.{ChunkLight}
-use Rattle.av_chunk.proofs.Rewriting.{loaded-can_write}
+use Rattle.av_codec.proofs.Rewriting.{loaded-can_write}
 use Rattle.av_ticks.specs.Ticks.{entries}
 use Rattle.av_chunk_tests.proofs.documents.rewritten_after.Goals as goal
 

@@ -1,5 +1,5 @@
 use Rattle.std.proofs.Common.{map, option_map}
-use Rattle.av_chunk.proofs.Found.{if_ok_then}
+use Rattle.av_codec.proofs.Found.{if_ok_then}
 use Rattle.av_rewrite.specs.Regions.{IsRecoded}
 use Rattle.av_rewrite.proofs.Whole.{made_region}
 use Rattle.av_rewrite.proofs.recoding.recode.Goals as goal

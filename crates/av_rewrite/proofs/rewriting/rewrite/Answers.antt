@@ -1,7 +1,7 @@
 use Rattle.std.proofs.Common.{◌∙◌, ap, length, map, option_map, sym}
 use Rattle.std.proofs.lemmas.List.{length-map}
-use Rattle.av_chunk.proofs.Found.{if_ok_then}
-use Rattle.av_chunk.specs.Writing.{states_of_kinds}
+use Rattle.av_codec.proofs.Found.{if_ok_then}
+use Rattle.av_codec.specs.Writing.{states_of_kinds}
 use Rattle.av_rewrite.specs.Rewriting.{AreSlots, IsRewritten}
 use Rattle.av_rewrite.proofs.Whole.{made_region}
 use Rattle.av_rewrite.proofs.rewriting.rewrite.Goals as goal

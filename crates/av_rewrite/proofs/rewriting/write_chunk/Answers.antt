@@ -1,6 +1,6 @@
-use Rattle.av_chunk.specs.Writing.{states_of_kinds}
-use Rattle.av_chunk.proofs.Rewriting.{loaded-can_write}
-use Rattle.av_chunk.proofs.Found.{if_ok_then}
+use Rattle.av_codec.specs.Writing.{states_of_kinds}
+use Rattle.av_codec.proofs.Rewriting.{loaded-can_write}
+use Rattle.av_codec.proofs.Found.{if_ok_then}
 use Rattle.av_tags.specs.View.{document}
 use Rattle.av_rewrite.specs.Rewriting.{place_at}
 use Rattle.av_rewrite.proofs.Rewritten.{rewritten}

@@ -1,7 +1,7 @@
 use Rattle.std.proofs.Common.{◌≡◌, ◌++◌, ◌∷◌, ◌∙◌, List, length, option_map, append_assoc, sym}
 use Rattle.std.specs.Vec.Iter.{into_iter_items}
 use Rattle.av_chunk.specs.Light.{section_count}
-use Rattle.av_chunk.specs.Writing.{states_of_kinds}
+use Rattle.av_codec.specs.Writing.{states_of_kinds}
 use Rattle.av_rewrite.specs.declared.rewriting.Slot.{Slot}
 use Rattle.av_rewrite.specs.Rewriting.{IsRewritten}
 use Rattle.av_rewrite.proofs.Slots.{made_all, made_here, read_here, slot_here}

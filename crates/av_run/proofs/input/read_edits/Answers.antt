@@ -2,7 +2,7 @@ use Rattle.std.proofs.Common.{◌≡◌, Result, Ok, Err, IfOk, OnOk, Some, None
 use Rattle.av_types.specs.declared.place.Pos.{Pos}
 use Rattle.av_state.specs.Table.{states}
 use Rattle.av_land.specs.Land.{is_loaded}
-use Rattle.av_chunk.proofs.Found.{if_err_then}
+use Rattle.av_codec.proofs.Found.{if_err_then}
 use Rattle.av_edits.specs.Edits.{first_in_edits}
 use Rattle.av_world.specs.Lands.{land_of}
 use Rattle.av_run.proofs.Edited.{are_edits}

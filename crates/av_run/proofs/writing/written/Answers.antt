@@ -1,7 +1,7 @@
 use Rattle.std.proofs.Common.{Result, Ok, Err, IfOk, OnOk, List, map, subst, sym}
 use Rattle.std.specs.List.{AllZip}
 use Rattle.av_chunk.specs.declared.light.ChunkLight.{ChunkLight}
-use Rattle.av_chunk.proofs.Found.{if_err_then}
+use Rattle.av_codec.proofs.Found.{if_err_then}
 use Rattle.av_world.specs.Views.{blocks, height_of, positions_of}
 use Rattle.av_section_light.specs.Light.{IsChunkLight}
 use Rattle.av_image.specs.Views.{file_in}

@@ -1,6 +1,6 @@
 use Rattle.av_types.specs.Places.{chunk_at}
 use Rattle.av_region.specs.Region.{Holds}
-use Rattle.av_chunk.proofs.Found.{if_ok_then}
+use Rattle.av_codec.proofs.Found.{if_ok_then}
 use Rattle.av_survey.proofs.Gathering.{first_at}
 use Rattle.av_survey.proofs.places.fault_at.Goals as goal
 

@@ -1,6 +1,6 @@
 use Rattle.std.proofs.Common.{Option, sym, subst}
 use Rattle.av_types.specs.declared.fault.Fault.{Fault}
-use Rattle.av_chunk.proofs.Found.{if_ok_then}
+use Rattle.av_codec.proofs.Found.{if_ok_then}
 use Rattle.av_survey.specs.Survey.{IsFirstIn}
 use Rattle.av_survey.proofs.places.fault_in.Goals as goal
 

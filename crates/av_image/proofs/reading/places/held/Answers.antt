@@ -2,7 +2,7 @@ use Rattle.std.proofs.Common.{◌≢◌}
 use Rattle.av_types.proofs.Exits.{err_from}
 use Rattle.av_types.specs.declared.fault.Fault.TheVariants.{OutOfMemory}
 use Rattle.av_state.specs.Table.{states}
-use Rattle.av_chunk.specs.Payload.{IsPayloadFault}
+use Rattle.av_codec.specs.Payload.{IsPayloadFault}
 use Rattle.av_image.proofs.reading.places.held.Goals as goal
 
 pub returns-in_err-reading-clause-err : goal.returns-in_err-reading-clause-err

@@ -6,9 +6,9 @@ use Rattle.av_types.specs.declared.place.Height.{Height}
 use Rattle.av_region.specs.Region.{Holds}
 use Rattle.av_state.specs.BlockState.{BlockState}
 use Rattle.av_state.specs.Table.{states}
-use Rattle.av_chunk.proofs.Found.{if_err_then}
+use Rattle.av_codec.proofs.Found.{if_err_then}
 use Rattle.av_chunk.specs.declared.chunk.Reading.{Reading}
-use Rattle.av_chunk.specs.Payload.{IsPayloadReading}
+use Rattle.av_codec.specs.Payload.{IsPayloadReading}
 use Rattle.av_image.specs.Ahead.{IsMadeAt}
 use Rattle.av_image.proofs.OnePlace.{place_refused}
 use Rattle.av_image.proofs.reading.places.read_place.Goals as goal

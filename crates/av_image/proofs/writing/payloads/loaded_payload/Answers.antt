@@ -6,7 +6,7 @@ use Rattle.av_nbt.specs.Writing.{written_document}
 use Rattle.av_rules.specs.declared.kinds.Kinds.{Kinds}
 use Rattle.av_chunk.specs.Light.{section_count}
 use Rattle.av_chunk.specs.declared.light.ChunkLight.{ChunkLight}
-use Rattle.av_chunk.proofs.Found.{if_ok_then}
+use Rattle.av_codec.proofs.Found.{if_ok_then}
 use Rattle.av_world.specs.Index.{slot}
 use Rattle.av_world.specs.Views.{height_of, positions_of}
 use Rattle.av_world.specs.declared.worlds.World.{World}

@@ -1,5 +1,5 @@
 use Rattle.std.proofs.Common.{◌∙◌, refl, sym}
-use Rattle.av_chunk.proofs.Found.{if_err_then}
+use Rattle.av_codec.proofs.Found.{if_err_then}
 use Rattle.av_image.specs.Saving.{unsaved}
 use Rattle.av_image.proofs.Written.{save_fault}
 use Rattle.av_image.proofs.writing.saving.save.Goals as goal

@@ -1,7 +1,7 @@
 use Rattle.std.proofs.Common.{◌≡◌, ◌∙◌, map, ap, sym}
 use Rattle.std.specs.Prelude.{option_map}
 use Rattle.av_types.specs.declared.fault.Fault.TheVariants.{ChunkTooLarge}
-use Rattle.av_chunk.proofs.Found.{if_ok_then, if_err_then}
+use Rattle.av_codec.proofs.Found.{if_ok_then, if_err_then}
 use Rattle.av_image.specs.SavingSteps.{payload_items, region_payloads, file_with, too_large_among}
 use Rattle.av_image.proofs.writing.saving.saved_region.Goals as goal
 

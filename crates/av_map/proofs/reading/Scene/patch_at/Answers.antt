@@ -1,6 +1,6 @@
 use Rattle.av_types.specs.Places.{chunk_at}
 use Rattle.av_region.specs.Region.{Holds}
-use Rattle.av_chunk.proofs.Found.{if_ok_then}
+use Rattle.av_codec.proofs.Found.{if_ok_then}
 use Rattle.av_survey.specs.Survey.{sectors}
 use Rattle.av_map.specs.Patches.{unread}
 use Rattle.av_map.specs.Views.{colours_of}

@@ -1,6 +1,6 @@
 use Rattle.av_tags.specs.View.{document}
-use Rattle.av_chunk.specs.Payload.{bad_document}
-use Rattle.av_chunk.proofs.Found.{if_err_then, if_ok_then}
+use Rattle.av_codec.specs.Payload.{bad_document}
+use Rattle.av_codec.proofs.Found.{if_err_then, if_ok_then}
 use Rattle.av_map.proofs.reading.Scene.payload_patch.Goals as goal
 
 pub returns-clause-ok : goal.returns-clause-ok

@@ -1,4 +1,4 @@
-use Rattle.av_chunk.proofs.Found.{if_ok_then}
+use Rattle.av_codec.proofs.Found.{if_ok_then}
 use Rattle.av_map.specs.Payloads.{bad}
 use Rattle.av_map.proofs.reading.Scene.read_patch.Goals as goal
 

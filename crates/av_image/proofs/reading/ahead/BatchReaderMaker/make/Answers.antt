@@ -1,7 +1,7 @@
 use Rattle.std.proofs.Common.{subst}
 use Rattle.std.proofs.lemmas.Option.{IfSome_then}
 use Rattle.av_state.specs.Table.{states}
-use Rattle.av_chunk.specs.Payload.{IsPayloadReading}
+use Rattle.av_codec.specs.Payload.{IsPayloadReading}
 use Rattle.av_image.proofs.reading.ahead.BatchReaderMaker.make.Goals as goal
 
 pub returns : goal.returns

@@ -1,0 +1,13 @@
+pub mod Numbers
+pub mod Rows
+pub mod Judging
+pub mod OneSection
+pub mod Slots
+pub mod Admitted
+pub mod Marking
+pub mod WaterIn
+pub mod Assembly
+pub mod Found
+pub mod Written
+pub mod WrittenDocument
+pub mod Rewriting

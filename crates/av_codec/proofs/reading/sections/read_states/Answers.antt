@@ -1,0 +1,22 @@
+use Rattle.std.proofs.Common.{◌≡◌, sym, Some, option_map, codes, rules}
+use Rattle.std.specs.Option.{option_copied}
+use Rattle.av_tags.specs.Place.{tag_of}
+use Rattle.av_tags.specs.View.{view, named_views}
+use Rattle.av_state.specs.Table.{states}
+use Rattle.av_section.specs.Reading.{IsStatesRefusal}
+use Rattle.av_codec.specs.SectionsRead.{AreStatesRefused}
+use Rattle.av_codec.specs.Working.{compound_in}
+use Rattle.av_codec.proofs.Judging.{judged_of}
+use Rattle.av_codec.proofs.reading.sections.read_states.Goals as goal
+
+pub returns-in_err-section-clause-err : goal.returns-in_err-section-clause-err
+returns-in_err-section-clause-err c =
+    let e = c.in_err-section.field-0.0 in
+    let old = states c.args.table.now in
+    let ms = named_views c.unwrap-others.result.items in
+    let is : compound_in (option_map view c.args.block_states) ≡ Some ms = rw c.in-Some.is (sym (rw c.unwrap-others.ensures at c.into_members.ensures)) in
+    let palette : option_map view (option_copied c.find-palette.result) ≡ tag_of (codes "palette") ms = rw c.deref.ensures.value at c.find-palette.ensures in
+    let longs : option_map view (option_copied c.find.result) ≡ tag_of (codes "data") ms = rw c.deref-2.ensures.value at c.find.ensures in
+    let refused : IsStatesRefusal (tag_of (codes "palette") ms) (tag_of (codes "data") ms) old e = rw (palette, longs) at c.in_err-section.ensures.err in
+    let fact : AreStatesRefused (compound_in (option_map view c.args.block_states)) old e = rw is (record { first = λ ne. judged_of (tag_of (codes "palette") ms) (tag_of (codes "data") ms) old e refused ne }) in
+    search (rules, fact)

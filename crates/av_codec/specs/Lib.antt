@@ -1,0 +1,9 @@
+pub mod Working
+pub mod Payload
+pub mod Block
+pub mod Writing
+pub mod WritingSteps
+pub mod TicksRead
+pub mod SectionsRead
+pub mod Assembly
+pub mod Pending
