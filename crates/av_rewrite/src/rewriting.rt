@@ -86,7 +86,7 @@ fn read_slots<'a>(
 }
 
 /// The bytes for a chunk, dark and with no tick run.
-fn write_chunk(
+fn dark_bytes(
     alloc: Global,
     chunk: Chunk,
     rest: ChunkRest,
@@ -116,7 +116,7 @@ fn write_slot(
     match slot {
         Slot::Absent => Ok(None),
         Slot::Kept(payload) => Ok(Some(Vec::from_slice(alloc, payload)?)),
-        Slot::Full { chunk, rest } => Ok(Some(write_chunk(alloc, chunk, rest, kinds, light)?)),
+        Slot::Full { chunk, rest } => Ok(Some(dark_bytes(alloc, chunk, rest, kinds, light)?)),
     }
 }
 

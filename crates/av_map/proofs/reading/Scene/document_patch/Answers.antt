@@ -10,8 +10,8 @@ use Rattle.av_map.proofs.reading.Scene.document_patch.Goals as goal
 pub returns-clause-ok : goal.returns-clause-ok
 returns-clause-ok c =
     let s = c.args.self.now in
-    let new = states c.read.new.table in
-    let read = rw c.in_ok-table.ensures.ok at c.in_ok-read.ensures.ok in
+    let new = states c.read_chunk.new.table in
+    let read = rw c.in_ok-table.ensures.ok at c.in_ok-read_chunk.ensures.ok in
     let loaded : IsLoaded c.args.at s.height (document c.args.root) first_states new c.in-Full.chunk c.in-Full.rest = rw c.in-Full.is at read in
     document_from s.view (colours_of s.colours.now) c.args.at s.height (document c.args.root) new c.in-Full.chunk c.in-Full.rest (arrays_of c.in_ok-lights.lights.items) c.in_ok-shown-in-Full.field-0 loaded
     c.in_ok-lights.ensures (rw c.as_slice.ensures.value at c.in_ok-shown-in-Full.ensures)

@@ -4,10 +4,10 @@ use Rattle.av_codec.proofs.Found.{if_ok_then}
 use Rattle.av_tags.specs.View.{document}
 use Rattle.av_rewrite.specs.Rewriting.{place_at}
 use Rattle.av_rewrite.proofs.Rewritten.{rewritten}
-use Rattle.av_rewrite.proofs.rewriting.write_chunk.Goals as goal
+use Rattle.av_rewrite.proofs.rewriting.dark_bytes.Goals as goal
 
-pub write-requires : goal.write-requires
-write-requires c =
+pub write_chunk-requires : goal.write_chunk-requires
+write_chunk-requires c =
     let w = c.requires in
     let s = w.is_slot in
     loaded-can_write (place_at w.index) w.height s.document s.old s.new c.args.chunk c.args.rest c.args.kinds.now c.args.light.now s.loaded s.grown w.lit
