@@ -8,7 +8,7 @@ from kept_worlds import DAMAGED, Document, full, payload, small_world, stored_ch
 from region_files import Place
 from stored_chunks import EXTERNAL, GZIP, ZLIB, gzipped, write
 from world_calls import call, contents, refused
-from world_places import MIB
+from world_places import MIB, Size
 
 # ---------------------------------------------------------------- light
 
@@ -65,29 +65,40 @@ def same_light(work, program):
 
 # ---------------------------------------------------------------- pieces
 
+# A full region of chunks of 28 KiB: 70 KiB of memory for the bytes of each and 130 for the chunk, so 200 MiB, and 160 go to the program.
+FULL = Size(1024, 28 * MIB)
 
-def sizes(*regions):
-    return {Place(z, x): 100 * MIB for x, z in regions}
+
+def regions(*found):
+    return {Place(z, x): FULL for x, z in found}
 
 
-def which(work, _):
-    """Which regions are lit at once, and which chunks beside them. A region of 100 MiB is given 450, and 160 go to the program."""
-    row = sizes((2, 0), (0, 0), (1, 0), (0, -1))
-    ordered = [Place(-1, 0), Place(0, 0), Place(0, 1), Place(0, 2)]
-    yield "what is needed", [160 * MIB, 610 * MIB, 1960 * MIB], [world_pieces.needed(count * 100 * MIB) for count in (0, 1, 4)]
-    for memory, ends in ((1960, [0, 4]), (1959, [0, 3, 4]), (1510, [0, 3, 4]), (1509, [0, 2, 4]), (1060, [0, 2, 4]), (1059, range(5)), (1, range(5))):
+def sizes(work, _):
+    """What memory is needed, and which regions are lit at once."""
+    yield "what is needed", [160 * MIB, 360 * MIB, 960 * MIB], [world_pieces.needed(Size(1024 * count, 28 * count * MIB)) for count in (0, 1, 4)]
+    yield "of some chunks", [Size(32, 896 << 10), Size(3, 84 << 10), Size(0, 0)], [FULL.of(32), Size(3, 84 << 10).of(32), Size(0, 0).of(32)]
+    row, ordered = regions((2, 0), (0, 0), (1, 0), (0, -1)), [Place(-1, 0), Place(0, 0), Place(0, 1), Place(0, 2)]
+    # Of the first two regions 32 chunks of the third touch one, and its corner both: 160 + 2 * 200 + 32 * 200 / 1024 MiB are 566.25. Of the
+    # first three it is a side of the fourth: 766.25. Two regions have more beside them in the middle of the row, 64 chunks: 572.5.
+    for memory, ends in ((960, [0, 4]), (959, [0, 3, 4]), (767, [0, 3, 4]), (766, [0, 2, 4]), (567, [0, 2, 4]), (566, range(5)), (1, range(5))):
         want = [ordered[start:end] for start, end in zip(ends, ends[1:])]
-        yield "regions in %d MiB" % memory, want, [piece.own for piece in world_pieces.pieces(row, memory * MIB, True)]
-    around = {Place(z, x): 100 * MIB for x in range(4, 9) for z in range(-9, -4)}
+        yield "regions in %d MiB" % memory, want, [piece.own for piece in world_pieces.divided(row, memory * MIB, True)]
+    two = world_pieces.divided(row, 567 * MIB, True)[0]
+    yield "all chunks of a piece", Size(2048 + 32, (2048 + 32) * 28 << 10), two.size
+    many = regions(*((x, 9) for x in range(1025)))
+    yield "more files than the program takes", [100] * 10 + [25], [len(piece.own) for piece in world_pieces.divided(many, 1 << 62, True)]
+    yield "one less", [1024], [len(piece.own) for piece in world_pieces.divided(dict([*many.items()][1:]), 1 << 62, True)]
+
+
+def beside(work, _):
+    """Which chunks of others touch a region, and two."""
+    around = regions(*((x, z) for x in range(4, 9) for z in range(-9, -4)))
     west, east, north, south = range(0, 1024, 32), range(31, 1024, 32), range(32), range(992, 1024)
-    beside = {(-1, -1): [1023], (0, -1): south, (1, -1): [992], (-1, 0): east, (1, 0): west, (-1, 1): [31], (0, 1): north, (1, 1): [0]}
-    yield "chunks round a region", {Place(z - 7, x + 6): [*indices] for (x, z), indices in beside.items()}, \
-        world_pieces.touching([Place(-7, 6)], around)
+    one = {(-1, -1): [1023], (0, -1): south, (1, -1): [992], (-1, 0): east, (1, 0): west, (-1, 1): [31], (0, 1): north, (1, 1): [0]}
+    yield "chunks round a region", {Place(z - 7, x + 6): [*indices] for (x, z), indices in one.items()}, world_pieces.touching([Place(-7, 6)], around)
     two = {Place(0, -1): [*east], Place(1, -1): [31], Place(1, 0): [*north], Place(1, 1): [*north], Place(1, 2): [0]}
-    yield "and round two", two, world_pieces.touching([Place(0, 0), Place(0, 1)], {Place(z, x): 1 for x in range(-1, 3) for z in (0, 1) if (x, z) != (2, 0)})
-    many = sizes(*((x, 9) for x in range(1025)))
-    yield "more files than the program takes", [100] * 10 + [25], [len(piece.own) for piece in world_pieces.pieces(many, 1 << 62, True)]
-    yield "one less", [1024], [len(piece.own) for piece in world_pieces.pieces(dict([*many.items()][1:]), 1 << 62, True)]
+    places = regions(*((x, z) for x in range(-1, 3) for z in (0, 1) if (x, z) != (2, 0)))
+    yield "and round two", two, world_pieces.touching([Place(0, 0), Place(0, 1)], places)
 
 
 def refusals(work, _):
@@ -103,10 +114,11 @@ def refusals(work, _):
     for number in range(1020):
         write(world, "region/r.%d.9.mca" % number, b"")
     line = "there are 1025 region files, and the program takes 1024 where there are ticks or edits; nothing is done"
-    yield "many", refused(line), call(world, "--ticks", "1")[::2]
-    yield "many that are lit", (0, "regions 1025 pieces 11"), (lambda done: (done[0], done[1][1]))(call(world, what="same"))
+    yield "many", refused(line), call(world, "--ticks", "1", "--memory", "1000")[::2]
+    yield "many that are lit", (0, "regions 1025 pieces 11"), (lambda done: (done[0], done[1][1]))(call(world, "--memory", "1000", what="same"))
     os.unlink(os.path.join(world, "region", "r.0.9.mca"))
-    yield "as many as it takes", (0, "chunks 1024 turns 0"), (lambda done: (done[0], done[1][1]))(call(world, "--ticks", "1", what="same"))
+    yield "as many as it takes", (0, "chunks 1024 turns 0"), \
+        (lambda done: (done[0], done[1][1]))(call(world, "--ticks", "1", "--memory", "1000", what="same"))
 
 
 # ---------------------------------------------------------------- memory
@@ -115,26 +127,38 @@ INFO = "MemTotal:       16000 kB\nMemFree:          100 kB\nMemAvailable:    500
 
 
 def laid(top, files):
-    for name, text in files.items():
+    for name, content in files.items():
         path = os.path.join(top, name)
         os.makedirs(os.path.dirname(path), exist_ok=True)
-        write(*os.path.split(path), text.encode())
+        write(*os.path.split(path), content.encode() if isinstance(content, str) else content)
 
 
-def group(limit, used, pages):
-    return {"memory.max": limit, "memory.current": used, "memory.stat": "anon 7\ninactive_file %d\n" % pages}
+def group(limit, used, active, inactive):
+    """The files of a control group of the second version."""
+    return {"memory.max": limit, "memory.current": used, "memory.stat": "anon 7\nactive_file %d\ninactive_file %d\n" % (active, inactive)}
+
+
+def first_group(limit, used, active, inactive):
+    """And of the first one."""
+    pages = "total_active_file %d\ntotal_inactive_file %d\nactive_file 1\n" % (active, inactive)
+    return {"memory.limit_in_bytes": limit, "memory.usage_in_bytes": used, "memory.stat": pages}
 
 
 def memory(work, _):
     """What is free by the system's files, and by those of control groups."""
-    for what, want, info, groups in (("nothing is said", 1 << 62, None, {}), ("the system's", 5_120_000, INFO, {}),
-                                     ("a group without a limit", 5_120_000, INFO, {"": group("max\n", "7000\n", 5)}),
-                                     ("a group", 3_005, INFO, {"": group("10000\n", "7000\n", 5)}),
-                                     ("the group over it", 1_002, INFO, {"a/b": group("10000\n", "7000\n", 5), "a": group("9000\n", "8000\n", 2)}),
-                                     ("a group beside it", 5_120_000, INFO, {"b": group("10000\n", "7000\n", 5)})):
+    inner, first = "0::/a/b\n", "4:memory:/a/b\n1:name=systemd:/\n0::/\n"
+    for what, want, info, mine, groups in (
+            ("nothing is said", 1 << 62, None, "", {}), ("the system's", 5_120_000, INFO, "0::/\n", {}),
+            ("a group without a limit", 5_120_000, INFO, "0::/\n", {"": group("max\n", "7000\n", 5, 6)}),
+            ("a group", 3_011, INFO, "0::/\n", {"": group("10000\n", "7000\n", 5, 6)}),
+            ("the group over it", 1_005, INFO, inner, {"a/b": group("10000\n", "7000\n", 5, 6), "a": group("9000\n", "8000\n", 2, 3)}),
+            ("a group beside it", 5_120_000, INFO, inner, {"b": group("10000\n", "7000\n", 5, 6)}),
+            ("a name of other bytes", 3_011, INFO, b"0::/\xff\n", {"": group("10000\n", "7000\n", 5, 6)}),
+            ("no group", 5_120_000, INFO, "nothing\n", {"": group("10000\n", "7000\n", 5, 6)}),
+            ("a group of the first version", 2_009, INFO, first, {"memory/a": first_group("10000\n", "8000\n", 4, 5)}),
+            ("one without a limit", 5_120_000, INFO, first, {"memory": first_group("9223372036854771712\n", "8000\n", 4, 5)})):
         top = os.path.join(work, what)
-        laid(top, {"proc/self/cgroup": "0::/a/b\n" if groups.keys() - {""} else "0::/\n"})
-        laid(top, {"proc/meminfo": info} if info else {})
+        laid(top, {"proc/self/cgroup": mine} | ({"proc/meminfo": info} if info else {}))
         for name, files in groups.items():
             laid(os.path.join(top, "sys/fs/cgroup", name), files)
         yield what, want, world_pieces.free_memory(top)

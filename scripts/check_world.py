@@ -261,7 +261,8 @@ def main():
                  check_others.heights_of_tables, check_others.tables)
     for examples in (whole, words, folders, hostile, check_hindrances.locks, check_hindrances.signals,
                      check_hindrances.changed_by_others, check_hindrances.devices, *of_others, check_ends.syncs, check_ends.going_back,
-                     check_ends.ends, check_pieces.same_light, check_pieces.which, check_pieces.refusals, check_pieces.memory):
+                     check_ends.ends, check_pieces.same_light, check_pieces.sizes, check_pieces.beside, check_pieces.refusals,
+                     check_pieces.memory):
         with tempfile.TemporaryDirectory() as work:
             for what, want, got in examples(os.path.realpath(work), program):
                 asked += 1

@@ -174,10 +174,14 @@ class World:
         """What a command answers that is stopped before this call that changes the folder, until this is done."""
         environment = {"LD_PRELOAD": self.library, "HALT_FOLDER": folder, "HALT": str(call), "HALT_SIGNAL": str(int(signal.SIGSTOP))}
         with subprocess.Popen(words, stdin=subprocess.DEVNULL, stdout=subprocess.PIPE, stderr=subprocess.PIPE, text=True, env=environment) as process:
-            os.waitid(os.P_PID, process.pid, os.WSTOPPED | os.WEXITED | os.WNOWAIT)
-            change()
-            process.send_signal(signal.SIGCONT)
-            out, err = process.communicate(timeout=60)
+            try:
+                os.waitid(os.P_PID, process.pid, os.WSTOPPED | os.WEXITED | os.WNOWAIT)
+                change()
+                process.send_signal(signal.SIGCONT)
+                out, err = process.communicate(timeout=60)
+            except BaseException:
+                process.kill()
+                raise
         return Answer(process.returncode, out.strip(), said(err).splitlines())
 
 

@@ -12,7 +12,8 @@ from region_files import EXTERNAL_NAME, HEADER, MOST_SECTORS, REGION_NAME, Regio
 
 LEVEL, SESSION = "level.dat", "session.lock"
 SNOWMAN = "\u2603".encode()
-SAMPLES = 64
+# About how many chunks of a world are looked at, and of each region at least.
+SAMPLES, LEAST = 64, 4
 MIB = 1 << 20
 # As far out as the program goes.
 MOST_PLACE = 60_000
@@ -200,9 +201,19 @@ def is_at(descriptor, path):
 # ---------------------------------------------------------------- a first look
 
 
+class Size(typing.NamedTuple):
+    """How many chunks a region has, and about how many bytes it has when they are plain."""
+    chunks: int
+    plain: int
+
+    def of(self, count):
+        """That of so many of its chunks, or of all."""
+        count = min(count, self.chunks)
+        return Size(count, self.plain * count // max(1, self.chunks))
+
+
 class Survey(typing.NamedTuple):
-    """What the files of a folder are: the status of each by its name, about how many bytes the chunks of each region have when they are
-    plain, and what some chunks say of their world."""
+    """What the files of a folder are: the status of each by its name, the size of each region, and what some chunks say of their world."""
     files: dict
     sizes: dict
     marks: set
@@ -240,22 +251,25 @@ def surveyed(folder):
     names = [name for place in found for name in (place.name, *sorted(beside[place]))]
     files = {name: plain_file(folder, name) for name in names}
     check_folder(folder, files)
-    chunks, sizes, marks = {}, [], set()
+    sizes, marks = {}, set()
     for place in found:
         try:
             with opened(os.path.join(folder, place.name)) as file:
                 region = Region(folder, place, file)
                 indices = [index for index in range(1024) if region.locations[index]]
                 check_chunks(region, indices)
-                payloads = sampled(region, indices[::1 + len(indices) * len(found) // SAMPLES])
-                sizes += map(len, payloads)
+                payloads = sampled(region, indices[::max(1, len(indices) // max(LEAST, SAMPLES // len(found)))])
                 marks.update(map(mark_of, payloads))
         except (OSError, Refused) as why:
             raise Problem("%s: %s; nothing is done" % (place.name, getattr(why, "strerror", None) or why)) from why
-        chunks[place] = len(indices)
-    mean = sum(sizes) // len(sizes) if sizes else 0
-    plain = {place: HEADER + count * (mean // SECTOR + 1) * SECTOR for place, count in chunks.items()}
-    return Survey(files, plain, marks)
+        sizes[place] = size_of(len(indices), payloads)
+    return Survey(files, sizes, marks)
+
+
+def size_of(count, payloads):
+    """The size of a region of so many chunks, of which some have these bytes."""
+    mean = sum(map(len, payloads)) // len(payloads) if payloads else 0
+    return Size(count, HEADER + count * (mean // SECTOR + 1) * SECTOR)
 
 
 def plain_file(folder, name):

@@ -6,6 +6,7 @@ import shutil
 import signal
 import subprocess
 
+from stops import STOPS, heeded, held
 from world_places import Problem
 
 
@@ -17,8 +18,9 @@ LIBRARY, DEATH_SIGNAL = ctypes.CDLL(None), 1
 
 
 def end_with_caller():
-    """Has the system end the program where this command is killed, which then can't."""
+    """Has the system end the program where this command is killed, which then can't. Signals are heeded in it."""
     LIBRARY.prctl(DEATH_SIGNAL, signal.SIGTERM)
+    signal.pthread_sigmask(signal.SIG_UNBLOCK, STOPS)
 
 
 class Program:
@@ -38,10 +40,11 @@ class Program:
         # This command holds session.lock itself.
         words = [self.path, "run", "--in", source, "--out", target, "--table", self.table, "--edits", edits, "--ticks", str(ticks),
                  "--workers", self.workers, "--in-use", *self.flags]
-        with subprocess.Popen(words, stdin=subprocess.DEVNULL, stdout=subprocess.PIPE, start_new_session=True,
-                              preexec_fn=end_with_caller) as process:
+        with held(), subprocess.Popen(words, stdin=subprocess.DEVNULL, stdout=subprocess.PIPE, start_new_session=True,
+                                      preexec_fn=end_with_caller) as process:
             try:
-                printed = process.communicate()[0]
+                with heeded():
+                    printed = process.communicate()[0]
             except BaseException:
                 with contextlib.suppress(ProcessLookupError):
                     os.killpg(process.pid, signal.SIGTERM)

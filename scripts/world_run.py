@@ -10,8 +10,9 @@ The region files are made plain in a working folder beside them, the program set
 what it wrote is packed as it was before. Then each file that changed takes the place of the old one by a rename; the old files come
 to the folder of --backup, by default one beside the region files that is named with date and time. To go back, move them back.
 
-A world that is only lit, and that two thirds of the free memory don't hold, is lit in pieces, to the same light; one in which edits are
-set or ticks run is refused where there is not half of the memory that it takes. --memory says how much there is.
+A world that is only lit, and that two thirds of the free memory don't hold, or that has more than 1,024 files, is lit in pieces, to the
+same light; one in which edits are set or ticks run is refused where there is not half of the memory that it takes. --memory names how
+much the program may take; one region it always takes.
 
 A chunk that can't be read, or is too large for the program, is named, counts as not loaded, and comes back as it was; a file that
 can't be taken there and back ends the call, and the world is as it was. A call that was interrupted while files took their places is
@@ -31,12 +32,12 @@ sys.dont_write_bytecode = True
 import world_pieces
 import world_tables
 import worlds
+from stops import STOPS
 from world_exchange import Exchange, check_near, left_behind, working_folder
 from world_places import MIB, Problem, Stuck, check_held, find_world, hold_region, hold_session, surveyed
 from world_program import Program, Refused
 
 TOP = os.path.dirname(os.path.dirname(os.path.abspath(__file__)))
-STOPS = signal.SIGINT, signal.SIGTERM, signal.SIGHUP
 
 
 class Stopped(BaseException):
@@ -66,7 +67,7 @@ def words_read(given):
     parser.add_argument("--workers", metavar="N", type=number(1, 8), default=min(8, worlds.processors()),
                         help="threads that turn ticks, 1 to 8; without it as many as there are processors")
     parser.add_argument("--memory", metavar="MIB", type=number(1, 1 << 24),
-                        help="memory that the program may take, in MiB; without it what is free, of which a world that is only lit gets two thirds")
+                        help="memory that the program may take, in MiB, though one region it always takes; without it what is free")
     parser.add_argument("--backup", metavar="FOLDER", help="a new folder for the old files")
     parser.add_argument("--program", metavar="FILE", default=os.path.join(TOP, "anvilwater"), help="another program than ./anvilwater")
     parser.add_argument("--progress", action="store_true", help="says how far it is on standard error, as it does on a terminal")
@@ -201,7 +202,7 @@ class Call:
     def work(self):
         region = self.world.region
         survey, backup = surveyed(region), self.backup()
-        pieces = self.pieces(survey)
+        pieces = self.divided(survey)
         self.check_room(survey, pieces, backup)
         with working_folder(self.world) as work, unstopped_behind():
             check_near(self.world, work, next(iter(survey.files)))
@@ -219,12 +220,10 @@ class Call:
             if exchange.foreign:
                 complain("the owners of %d files could not be kept" % exchange.foreign)
 
-    def pieces(self, survey):
-        """The pieces in which the world is worked on: one, unless it is only lit and is more than two thirds of the free memory hold."""
+    def divided(self, survey):
+        """The pieces in which the world is worked on."""
         is_lit_alone = not self.words.ticks and self.words.edits is None
-        free = world_pieces.free_memory()
-        given = self.words.memory and self.words.memory * MIB
-        return world_pieces.pieces(survey.sizes, given or (free * 2 // 3 if is_lit_alone else free), is_lit_alone)
+        return world_pieces.divided(survey.sizes, self.words.memory and self.words.memory * MIB, is_lit_alone)
 
     def work_pieces(self, program, pieces, work, packed):
         """Works on each piece, and answers what is told of all and the regions whose chunks are all as they were stored."""
@@ -259,8 +258,7 @@ class Call:
     def check_room(self, survey, pieces, backup):
         """Refuses a file system that has not half the room that the work is likely to take."""
         parent, beside = self.world.parent, os.path.dirname(os.path.join(self.world.parent, backup))
-        plain = max(sum(survey.sizes[place] for place in piece.own) for piece in pieces)
-        needed = {parent: 2 * plain + survey.stored}
+        needed = {parent: 2 * max(piece.size.plain for piece in pieces) + survey.stored}
         if os.stat(parent).st_dev != os.stat(beside).st_dev:
             needed[beside] = survey.stored
         for folder, size in needed.items():

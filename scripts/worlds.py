@@ -29,15 +29,19 @@ import itertools
 import os
 import shutil
 import sys
+import time
 
 sys.dont_write_bytecode = True
 from chunk_data import MOST_BYTES, NAMES, PIECE, PLAIN, RECORD, ZLIB, Refused, TooLarge, Unread, compressed
 from region_files import EXTERNAL, NO_CHUNKS, Fresh, Region, Stored, Writer, externals, opened, places
+from stops import heeded, held
 
 # zlib leaves the interpreter to others while it works, so that threads are enough. Some files at once hide how long syncing one takes,
 # and some chunks in each job what handing it over takes.
 FILES_AT_ONCE = 4
 CHUNKS_AT_ONCE = 4
+# In so many seconds it is looked again whether a file is done.
+MOMENT = 0.002
 
 # ---------------------------------------------------------------- chunks
 
@@ -248,13 +252,17 @@ def processors():
 
 def reports(words, found):
     """Does what the words say with these regions, by two pools of threads, for chunks and for files. What is to be told comes in the
-    files' order."""
+    files' order. Signals are heeded while a file is waited for, and not while threads begin or end."""
     pools = concurrent.futures.ThreadPoolExecutor
-    with pools(processors()) as crew, pools(FILES_AT_ONCE) as files:
+    with held(), pools(processors()) as crew, pools(FILES_AT_ONCE) as files:
         work = Work(words, crew)
         futures = [files.submit(work.region, place) for place in sorted(found)]
         try:
             for future in futures:
+                # What raises in the middle of a wait could leave a lock of the future taken.
+                while not future.done():
+                    with heeded():
+                        time.sleep(MOMENT)
                 yield future.result()
         finally:
             for future in futures:
