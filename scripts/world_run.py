@@ -32,7 +32,7 @@ sys.dont_write_bytecode = True
 import world_pieces
 import world_tables
 import worlds
-from stops import STOPS
+from stops import STOPS, held
 from world_exchange import Exchange, check_near, left_behind, working_folder
 from world_places import MIB, Problem, Stuck, check_held, find_world, hold_region, hold_session, surveyed
 from world_program import Program, Refused
@@ -135,26 +135,21 @@ class Progress:
 # ---------------------------------------------------------------- signals
 
 
-@contextlib.contextmanager
-def stops_heeded():
-    """INT, TERM and HUP raise Stopped, once."""
+def heed_stops():
+    """INT, TERM and HUP raise Stopped, once, but for those that are ignored already."""
     def stop(which, _):
-        stops_ignored()
+        ignore_stops()
         raise Stopped(which)
-    before = {which: signal.getsignal(which) for which in STOPS}
     for which in STOPS:
-        if before[which] is not signal.SIG_IGN:
+        if signal.getsignal(which) is not signal.SIG_IGN:
             signal.signal(which, stop)
-    try:
-        yield
-    finally:
-        for which, handler in before.items():
-            signal.signal(which, handler)
 
 
-def stops_ignored():
-    for which in STOPS:
-        signal.signal(which, signal.SIG_IGN)
+def ignore_stops():
+    """One that came before this raises Stopped here."""
+    with held():
+        for which in STOPS:
+            signal.signal(which, signal.SIG_IGN)
 
 
 @contextlib.contextmanager
@@ -163,7 +158,7 @@ def unstopped_behind():
     try:
         yield
     finally:
-        stops_ignored()
+        ignore_stops()
 
 
 # ---------------------------------------------------------------- the call
@@ -191,7 +186,7 @@ class Call:
         for path in left_behind(self.world):
             exchange = Exchange(self.world, path)
             if os.path.lexists(exchange.journal):
-                stops_ignored()
+                ignore_stops()
                 self.exchange(exchange, ["finished a call that was interrupted; nothing else was done"])
                 finished = True
             else:
@@ -213,7 +208,7 @@ class Call:
             if content is None:
                 say("%s\nnothing changed" % told)
                 return
-            stops_ignored()
+            ignore_stops()
             check_held(self.locks)
             exchange.write_journal(content)
             self.exchange(exchange, [told])
@@ -338,7 +333,8 @@ def main(given=None):
     streams_opened()
     call, status = Call(words_read(given)), 1
     try:
-        with stops_heeded(), contextlib.ExitStack() as stack, unstopped_behind():
+        heed_stops()
+        with contextlib.ExitStack() as stack, unstopped_behind():
             return call.run(stack)
     except Refused as why:
         return why.args[0]
