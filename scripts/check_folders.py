@@ -136,11 +136,11 @@ def check_linked_world(program, work, want):
     expect("what is written to it", want, contents(folder))
 
 
-def journal(folder):
-    """Writes the journal of a run whose new files wait."""
+def journal_of(folder):
+    """The journal of a run whose new files are to take the places of these."""
     marks = [(folder / name).stat() for name in NAMES]
     lines = ["anvilwater journal 2", *NAMES, "", *("%d %d %d" % (mark.st_size, *divmod(mark.st_mtime_ns, 10 ** 9)) for mark in marks)]
-    (folder / ".anvilwater-journal").write_text("".join(line + "\n" for line in lines))
+    return "".join(line + "\n" for line in lines)
 
 
 def check_waiting(program, work, want):
@@ -150,7 +150,8 @@ def check_waiting(program, work, want):
     regions(folder)
     for name in NAMES:
         (folder / (".anvilwater-" + name)).write_bytes(want[name])
-    journal(folder)
+    journal, text = folder / ".anvilwater-journal", journal_of(folder)
+    journal.write_text(text)
     before = contents(folder)
     session = folder.parent / "session.lock"
     check = [program, "check", "--in", str(folder), "--explain"]
@@ -165,7 +166,7 @@ def check_waiting(program, work, want):
     line = "%s: a run that was cut off is finished: 2 files took their places" % folder
     expect("the same once it is closed", (0, [line]), (done.returncode, [line for line in done.stderr.splitlines() if "findings" not in line]))
     expect("its files then", want, contents(folder))
-    journal(folder)
+    journal.write_text(text)
     with locked(session, fcntl.lockf):
         done = subprocess.run(check, stdin=subprocess.DEVNULL, capture_output=True, text=True)
     expect("a journal whose files have their places", (0, True), (done.returncode, done.stderr.startswith(line + "\n")))
