@@ -33,7 +33,7 @@ fn read(alloc: Global, bytes: &[u8], table: &mut StateTable) -> Result<Reading, 
 }
 
 /// The same, where a table knows its states.
-fn read_known(alloc: Global, bytes: &[u8], table: &StateTable) -> Result<Option<Reading>, Fault>
+fn read_by_known(alloc: Global, bytes: &[u8], table: &StateTable) -> Result<Option<Reading>, Fault>
     requires { length bytes.now ≤ 1044475 }
 {
     let root = decode(alloc, bytes)?;
@@ -134,9 +134,9 @@ fn a_chunk_of_known_states_is_read(rt: HostRuntime) -> Result<(), Fail> {
     let bytes = joined(rt.alloc(), &[CHUNK])?;
     assert!(rt; bytes.len() <= 1_044_475);
     let fresh = StateTable::new(rt.alloc())?;
-    expect_true(&rt, read_known(rt.alloc(), &bytes, &fresh)?.is_none());
+    expect_true(&rt, read_by_known(rt.alloc(), &bytes, &fresh)?.is_none());
     let table = table_of(rt.alloc(), &bytes)?;
-    let known = parts(read_known(rt.alloc(), &bytes, &table)?);
+    let known = parts(read_by_known(rt.alloc(), &bytes, &table)?);
     let (chunk, rest) = known.ok_or(Fault::BadChunk)?;
     expect_numbers(&rt, &chunk);
     expect_entry(&rt, &chunk);
@@ -149,7 +149,7 @@ fn a_chunk_of_known_states_is_read(rt: HostRuntime) -> Result<(), Fail> {
 fn a_chunk_that_is_not_full_is_kept(rt: HostRuntime) -> Result<(), Fail> {
     let bytes = b"\x0a\x00\x00\x08\x00\x06Status\x00\x05empty\x00";
     let table = StateTable::new(rt.alloc())?;
-    let reading = read_known(rt.alloc(), bytes, &table)?;
+    let reading = read_by_known(rt.alloc(), bytes, &table)?;
     expect_true(&rt, matches!(reading, Some(Reading::Kept)));
     Ok(())
 }
@@ -177,7 +177,7 @@ fn a_chunk_that_is_refused_is_not_read(rt: HostRuntime) -> Result<(), Fail> {
     for pieces in cases {
         let bytes = joined(rt.alloc(), &[pieces])?;
         assert!(rt; bytes.len() <= 1_044_475);
-        expect_true(&rt, read_known(rt.alloc(), &bytes, &table)?.is_none());
+        expect_true(&rt, read_by_known(rt.alloc(), &bytes, &table)?.is_none());
     }
     Ok(())
 }
