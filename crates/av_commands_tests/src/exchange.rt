@@ -242,7 +242,7 @@ fn a_new_file_that_is_gone(rt: HostRuntime) -> Result<(), Fail> {
             .err()
             .ok_or("a new file that is gone")?;
         expect_equal(&rt, not.begun, false);
-        expect_equal(&rt, not.error.kind(), ErrorKind::NotFound);
+        expect_equal(&rt, not.error.kind(), ErrorKind::InvalidData);
         has(&rt, &folder, "old zero", "-", 2);
     }
     Ok(())

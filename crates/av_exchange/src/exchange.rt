@@ -165,7 +165,7 @@ pub(crate) fn finish<F: Folder, T: Teller>(
 /// do. It stays until `close`, and has the marks of what they replace, by which a repair sees what was written since.
 ///
 /// # Errors
-/// What the system says, and before the first step want of memory, and `NotFound` where a new file is gone, as where another program took it
+/// What the system says, and before the first step want of memory, and `InvalidData` where a new file is gone, as where another program took it
 /// away. Where the journal does not have its name the old files stay, and a repair takes the new ones away; else a repair lets the others take
 /// their places too.
 pub fn place<F: Folder>(alloc: Global, folder: &mut F, names: &[String]) -> Result<(), NotPlaced>

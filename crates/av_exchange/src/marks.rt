@@ -43,9 +43,9 @@ pub(crate) fn mark_lines<F: Folder>(
 }
 
 /// An error of which this is said, or want of memory.
-fn error_told(kind: ErrorKind, told: Result<String, AllocError>) -> io::Error {
+fn error_told(told: Result<String, AllocError>) -> io::Error {
     match told {
-        Ok(text) => io::Error::new(kind, text.as_str()),
+        Ok(text) => io::Error::new(ErrorKind::InvalidData, text.as_str()),
         Err(refused) => refused.into(),
     }
 }
@@ -57,13 +57,13 @@ fn changed_since(alloc: Global, name: &str, waits: bool) -> io::Error {
     } else {
         format!(in alloc; "the new file of {name} is lost; to go on, remove this journal")
     };
-    error_told(ErrorKind::InvalidData, told)
+    error_told(told)
 }
 
 /// What is said of a new file that is gone.
 fn taken_away(alloc: Global, name: &str) -> io::Error {
     let told = format!(in alloc; "another program took away the new file of {name}");
-    error_told(ErrorKind::NotFound, told)
+    error_told(told)
 }
 
 /// That what has a name is what had it when this line was written, exactly as long as its new file waits.
@@ -100,7 +100,7 @@ pub(crate) fn check_marks<F: Folder>(alloc: Global, folder: &F, journal: &Journa
 /// That each new file is there.
 ///
 /// # Errors
-/// What the system says, want of memory, and `NotFound` where one is gone.
+/// What the system says, want of memory, and `InvalidData` where one is gone.
 pub(crate) fn check_staged<F: Folder>(alloc: Global, folder: &F, moves: &[Move]) -> io::Result<()>
     ensures { OnOk result (IfTold (F.history folder.now) (AreStaged (map name_of moves.now))) }
 {
