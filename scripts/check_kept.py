@@ -120,6 +120,9 @@ def lost(world):
         yield "files beside a lost one", [], differing(files_of(files), contents(shots(folder)))
     os.unlink(os.path.join(folder, JOURNAL))
     yield "once the journal is removed", Answer(0, "", [TAKEN_AWAY % (folder, 2)]), world.check(folder)
+    # One that took its place may be taken away since.
+    folder = world.laid({name: file for name, file in files.items() if name != first})
+    yield "a file that is gone with its new one", Answer(0, "", [FINISHED % (folder, 3)]), world.check(folder)
 
 
 def taken_away(world):
