@@ -49,7 +49,7 @@ expect "and says why" 1 "$(grep -cF 'error: a reason' "$work/err")"
 # the two is proved by one process, and with two jobs the larger one too.
 lab=$work/lab
 mkdir -p "$lab/tree/scripts" "$lab/bin"
-cp "$top/scripts/prove.py" "$lab/tree/scripts/"
+cp "$top/scripts/prove.py" "$top/scripts/proof_seconds.txt" "$lab/tree/scripts/"
 printf 'low:\nleft: low\nright: low\nhigh: left right\n' > "$lab/tree/crates.txt"
 touch "$lab/tree/HANDLES"
 for crate in low left right high; do mkdir -p "$lab/tree/crates/$crate/src"; done
@@ -72,6 +72,7 @@ prove() {
 }
 
 expect "four crates side by side" "status 0" "$(prove 4)"
+expect "its last step is told too" "3 of 4 crates are proved, less than a minute left; proving high" "$(tail -n 1 "$lab/err")"
 expect "each is built once, and the large one by two processes" "lib --jobs 1: low lib --jobs 1: right lib --jobs 2: left" "$(sort "$lab/built" | xargs)"
 rm "$lab/built"
 expect "two by two" "status 0" "$(prove 2)"

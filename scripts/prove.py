@@ -10,8 +10,8 @@ kept, where there are four or more and memory for it, and it is proved by two pr
 stands below. The crates beside it have one each, or two where processors would have nothing to do. COMMAND is run in the crate's own folder
 when all are proved; without one, `rt check`.
 
-Lines on standard error say which crates are being proved, how many are done and about how long it will still take. Status: that of
-the command; 1 where a check failed before, which then tells what it printed; 2 where other words are needed.
+Lines on standard error say which crates are being proved, how many are done and about how long it will still take, the last one with its
+command. Status: that of the command; 1 where a check failed before, which then tells what it printed; 2 where other words are needed.
 """
 import argparse
 import concurrent.futures
@@ -30,9 +30,10 @@ import time
 TOP = pathlib.Path(__file__).resolve().parent.parent
 # There is one job for each processor, and each is given 3 GB, of which it wants some 2.
 MEMORY_OF_A_JOB = 3 << 30
-# A crate by itself takes the time of so many functions, and with so many functions below each takes twice the time of one that has none below.
-FUNCTIONS_OF_A_CRATE = 8
-FUNCTIONS_BELOW = 1000
+# How many seconds the proof of each crate took once, and about how many that of one which is not listed takes, by its functions.
+SECONDS = TOP / "scripts/proof_seconds.txt"
+SECONDS_OF_A_CRATE = 20
+SECONDS_OF_A_FUNCTION = 2
 # So many functions are worth a second process.
 MANY_FUNCTIONS = 30
 # With so many jobs two are kept for the crate that most waits for: with fewer, they are all needed for the crates beside it.
@@ -66,11 +67,11 @@ def functions(name):
     return sum(len(re.findall(r"\bfn ", file.read_text())) for file in (TOP / "crates" / name / "src").rglob("*.rt"))
 
 
-def sizes(names, below):
-    """About what the check of each crate takes: its functions, and each the longer the more functions stand below."""
-    counts = {name: functions(name) for name in names}
-    under = {name: sum(counts[other] for other in closure(name, below) - {name}) for name in names}
-    return {name: (FUNCTIONS_OF_A_CRATE + counts[name]) * (FUNCTIONS_BELOW + under[name]) for name in names}
+def sizes(names):
+    """About how many seconds the check of each crate takes."""
+    lines = [line.split() for line in SECONDS.read_text().splitlines() if not line.startswith("#")]
+    measured = {name: int(seconds) for name, seconds in lines}
+    return {name: measured.get(name, SECONDS_OF_A_CRATE + SECONDS_OF_A_FUNCTION * functions(name)) for name in names}
 
 
 def heights(names, below, size):
@@ -160,18 +161,20 @@ class Trees:
 
 def minutes(seconds):
     """A time for a reader."""
-    return "less than a minute" if seconds < 60 else "%d minutes" % round(seconds / 60)
+    count = round(seconds / 60)
+    return "less than a minute" if seconds < 60 else "about a minute" if count == 1 else "about %d minutes" % count
 
 
-def say(done, size, running, begun):
-    """Tells how far the proofs are, and about how long they will still take. Of those under way half is taken to be done."""
+def say(done, size, height, jobs, running, begun):
+    """Tells how far the proofs are, and about how long they will still take: as long as the work that is left on all processors or on the longest
+    way, whichever is more, by the time of the work that is done. Of the crates under way half is taken to be done."""
     proved = sum(size[name] for name in done) + sum(size[name] for name in running) / 2
     left = ""
-    if done and len(done) < len(size):
-        rest = (sum(size.values()) - proved) * (time.monotonic() - begun) / proved
-        left = ", about %s left" % minutes(rest)
-    names = "; proving " + ", ".join(sorted(running)) if running else ""
-    print("%d of %d crates are proved%s%s" % (len(done), len(size), left, names), file=sys.stderr, flush=True)
+    if done:
+        way = max(height[name] - (size[name] / 2 if name in running else 0) for name in size if name not in done)
+        rest = max((sum(size.values()) - proved) / jobs, way)
+        left = ", %s left" % minutes(rest * (time.monotonic() - begun) * jobs / proved)
+    print("%d of %d crates are proved%s; proving %s" % (len(done), len(size), left, ", ".join(sorted(running))), file=sys.stderr, flush=True)
 
 
 def jobs_by_memory():
@@ -190,10 +193,11 @@ def shares(ready, idle, urgent, most):
     return given
 
 
-def prove(names, below, jobs, last):
-    """Proves crates, each after those that it stands on, and then answers the last step."""
-    size = sizes(names, below)
-    height = heights(names, below, size)
+def prove(top, below, jobs, last):
+    """Proves what a crate stands on, each crate after those that it stands on itself, and then answers the last step."""
+    size = sizes(closure(top, below))
+    height = heights(size.keys(), below, size)
+    names = size.keys() - {top}
     done, running, begun = set(), {}, time.monotonic()
     most = 2 if MANY_JOBS <= jobs < jobs_by_memory() else 1
     with tempfile.TemporaryDirectory(prefix="anvilwater-") as folder, concurrent.futures.ThreadPoolExecutor(jobs) as pool:
@@ -206,14 +210,14 @@ def prove(names, below, jobs, last):
                 for name, share in shares(ready, jobs - sum(held.values()), urgent, most).items():
                     processes = share if functions(name) >= MANY_FUNCTIONS else 1
                     running[pool.submit(trees.check, name, processes)] = name, share
-                say(done, size, [name for name, _ in running.values()], begun)
+                say(done, size, height, jobs, [name for name, _ in running.values()], begun)
                 for ended in concurrent.futures.wait(running, return_when=concurrent.futures.FIRST_COMPLETED).done:
                     del running[ended]
                     done.add(ended.result())
         except BaseException:
             trees.stop()
             raise
-        say(done, size, (), begun)
+        say(done, size, height, jobs, [top], begun)
         return last()
 
 
@@ -240,7 +244,7 @@ def main():
     command = functools.partial(subprocess.call, last or ["rt", "check"], cwd=TOP / "crates" / asked.name, stdin=subprocess.DEVNULL)
     signal.signal(signal.SIGTERM, signal.default_int_handler)
     try:
-        return prove(closure(asked.name, below) - {asked.name}, below, max(1, asked.jobs), command)
+        return prove(asked.name, below, max(1, asked.jobs), command)
     except Failed as failed:
         name, printed = failed.args
         print(printed, end="", file=sys.stderr)
