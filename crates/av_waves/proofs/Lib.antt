@@ -1,0 +1,4 @@
+pub mod OneTurn
+pub mod Apart
+pub mod Orders
+pub mod Groups
