@@ -1,6 +1,9 @@
 -- The entries of a tick in waves: in another order, and in groups that are turned at once.
-use Rattle.std.specs.Prelude.{◌≡◌, ℕ, true, false, not, List, [], ◌∷◌, ◌++◌}
+use Rattle.std.specs.Prelude.{◌≡◌, ℕ, ◌<◌, true, false, not, List, [], ◌∷◌, map}
+use Rattle.std.specs.Ordering.{nat_cmp}
+use Rattle.std.specs.declared.cmp.Ordering.{Ordering}
 use Rattle.std.specs.List.{All, AllPairs, flat_map}
+use Rattle.av_types.specs.Order.{ordered}
 use Rattle.av_types.specs.declared.place.ChunkPos.{ChunkPos}
 use Rattle.av_types.specs.declared.tick.Entry.{Entry}
 use Rattle.av_cells.specs.declared.kind.Kind.{Kind}
@@ -8,21 +11,29 @@ use Rattle.av_land.specs.Land.{Land}
 use Rattle.av_land.specs.Tick.{turned_all}
 use Rattle.av_waves.specs.Parts.{Chunks, IsPart, with_part, StaysIn, IsAirOutside}
 
--- the entry shares no chunk with any of these: it stays in some chunks, and they stay in the others
-pub record SharesNoChunk (w : Land ℕ) (e : Entry) (es : List Entry) : Type 0 where
+-- two entries share no chunk: one stays in some chunks, and the other in the others
+pub record ShareNoChunk (w : Land ℕ) (d e : Entry) : Type 0 where
   pub chunks : Chunks
-  pub inside : StaysIn w chunks e
-  pub outside : All (StaysIn w (λ c. not (chunks c))) es
+  pub inside : StaysIn w chunks d
+  pub outside : StaysIn w (λ c. not (chunks c)) e
 
--- Entries, and the same in an order of their own: an entry may stand before earlier ones with which it shares no chunk.
-pub data AreReordered (w : Land ℕ) : List Entry → List Entry → Type 0 where
-  none : AreReordered w [] []
-  next : (es before after : List Entry) (e : Entry) → AreReordered w es (before ++ after) → SharesNoChunk w e after
-      → AreReordered w (es ++ e ∷ []) (before ++ e ∷ after)
+-- an entry, and the number of the group in which it is turned
+pub record Grouped : Type 0 where
+  pub group : ℕ
+  pub entry : Entry
 
--- Entries in such an order leave what they leave in their own.
-abbrev pub OrdersGiveTheTick : Type 0
-OrdersGiveTheTick = (k : ℕ → Kind) (now : ℕ) (w : Land ℕ) (es fs : List Entry) → IsAirOutside w → AreReordered w es fs → turned_all k now fs w ≡ turned_all k now es w
+abbrev pub by_group : Grouped → Grouped → Ordering
+by_group x y = nat_cmp x.group y.group
+
+-- x comes before y in the tick, and may be turned behind it where its group comes later
+abbrev pub MayPass : Land ℕ → Grouped → Grouped → Type 0
+MayPass w x y = y.group < x.group → ShareNoChunk w x.entry y.entry
+
+-- Entries group by group, those of a group in the order of the tick, leave what they leave in the order of the tick: none is in a lower
+-- group than an earlier one with which it shares a chunk.
+abbrev pub GroupsGiveTheTick : Type 0
+GroupsGiveTheTick = (k : ℕ → Kind) (now : ℕ) (w : Land ℕ) (xs : List Grouped) → IsAirOutside w → AllPairs (MayPass w) xs
+    → turned_all k now (map (λ x. x.entry) (ordered by_group xs)) w ≡ turned_all k now (map (λ x. x.entry) xs) w
 
 -- some chunks, entries, and what they leave
 pub record Group : Type 0 where

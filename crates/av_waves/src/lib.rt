@@ -4,7 +4,7 @@
 #![tactic(auto)]
 
 ghost use Rattle.av_waves.specs.Parts.{TurnsStayInTheirPart};
-ghost use Rattle.av_waves.specs.Waves.{GroupsMayBeTurnedAtOnce, OrdersGiveTheTick};
+ghost use Rattle.av_waves.specs.Waves.{GroupsGiveTheTick, GroupsMayBeTurnedAtOnce};
 
 /// Entries whose turns read and change loaded blocks of some chunks only leave in a land of these chunks alone what they
 /// leave in the whole land, where all other chunks stay as they were.
@@ -12,10 +12,10 @@ pub fn turns_stay_in_their_part()
     ensures { TurnsStayInTheirPart }
 {}
 
-/// An entry may be turned before earlier ones with which it shares no chunk: an order in which each entry comes after all
-/// earlier ones whose chunks it shares leaves the same blocks, and each chunk's entries in the same order.
-pub fn orders_give_the_tick()
-    ensures { OrdersGiveTheTick }
+/// The entries of a tick may be turned group by group, each in no lower group than earlier ones with which it shares a chunk:
+/// that leaves the same blocks, and the entries of each chunk in the same order.
+pub fn groups_give_the_tick()
+    ensures { GroupsGiveTheTick }
 {}
 
 /// Groups of entries no two of which have a chunk in common may be turned at once, each in its chunks alone: put back, they
