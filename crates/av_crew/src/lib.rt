@@ -2,7 +2,6 @@
 #![tactic(auto)]
 
 pub mod counts;
-mod crew;
 pub mod gates;
 pub mod jobs;
 mod pages;

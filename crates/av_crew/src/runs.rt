@@ -11,7 +11,6 @@ ghost use Rattle.av_serial.specs.Ready.{IsReady, IsSamePlace, CanApply, CanTick,
 ghost use Rattle.av_crew.specs.Counts.{is_count_of_workers};
 
 use crate::counts::Workers;
-use crate::crew::Crew;
 use crate::gates::{Gate, Step};
 use crate::pages::keep_pages;
 use crate::ticks::tick_or_give_up;
@@ -65,7 +64,7 @@ pub fn run_ticks<R: Threads + Wait + Sync, G: Gate + Sync>(
     ensures err { IfErr result (λ e. e ≡ (if is_count_of_workers workers
         then (if is_broken world.old then Broken else OutOfMemory) else BadCount)) }
 {
-    let crew = Crew::new(Workers::new(workers)?);
+    let workers = Workers::new(workers)?;
     keep_pages(alloc);
     let turns = run_ticks_with(
         alloc,
@@ -77,7 +76,7 @@ pub fn run_ticks<R: Threads + Wait + Sync, G: Gate + Sync>(
             requires { CanTick kinds.now world.old edits.now }
             ensures { IsTick kinds.entry.now now edits.now world.old world.new result }
         {
-            let count = tick_or_give_up(rt, world, kinds, now, edits, &crew, gate)?;
+            let count = tick_or_give_up(rt, world, kinds, now, edits, workers, gate)?;
             note_tick(gate, now, n);
             Ok(count)
         },

@@ -13,40 +13,21 @@ ghost use Rattle.av_serial.specs.Ready.{IsReady, IsSamePlace, CanApply};
 ghost use Rattle.av_crew.specs.Counts.{is_count_of_workers};
 
 use crate::counts::Workers;
-use crate::crew::Crew;
 use crate::gates::Gate;
 use crate::ticking::turn_parts;
 use av_cluster::{Cluster, plan};
 use av_edits::Edit;
 use av_rules::Kinds;
 use av_serial::{apply_all, turn_all};
+use av_team::turn_in_groups;
 use av_types::{Entry, Fault};
 use av_world::World;
 use std::alloc::{AllocError, Global};
 use std::sync::Wait;
 use std::thread::Threads;
 
-/// So many entries of a tick cost less than their plan.
-const FEW: usize = 32;
-
-/// Whether entries are turned without a plan.
-fn skips_plan<G: Gate>(gate: &G, crew: &Crew, now: u32, entries: usize) -> bool {
-    if gate.watches() {
-        return false;
-    }
-    crew.workers.count == 1 || entries <= FEW || crew.goes_unplanned(now)
-}
-
-/// Whether one part has two thirds of the entries, or more. A part costs half as much again as its entries turned on the
-/// world itself, so the worker that has such a part is not done sooner than they all are there.
-fn is_lopsided(clusters: &[Cluster], entries: usize) -> bool {
-    for cluster in clusters {
-        if cluster.entries.len() >= entries - entries / 3 {
-            return true;
-        }
-    }
-    false
-}
+/// A thread is worth its start where there are so many entries for it.
+const SHARE: usize = 128;
 
 /// Turns the parts of a plan, and appends what they made.
 fn turn_planned<R: Threads + Wait + Sync, G: Gate + Sync>(
@@ -56,7 +37,7 @@ fn turn_planned<R: Threads + Wait + Sync, G: Gate + Sync>(
     now: u32,
     clusters: Vec<Cluster>,
     entries: &[Entry],
-    crew: &Crew,
+    workers: Workers,
     gate: &G,
 ) -> Result<(), AllocError>
     requires ready { IsReady (kind_count kinds.now) world.old }
@@ -69,7 +50,7 @@ fn turn_planned<R: Threads + Wait + Sync, G: Gate + Sync>(
     ensures ready { OnOk result (IsReady (kind_count kinds.now) world.new) }
     ensures place { OnOk result (IsSamePlace world.old world.new) }
 {
-    let Ok(made) = turn_parts(rt, world, kinds, now, clusters, crew.workers.count, gate) else {
+    let Ok(made) = turn_parts(rt, world, kinds, now, clusters, workers.count, gate) else {
         return Err(AllocError);
     };
     let Ok(()) = world.append(made.as_slice()) else {
@@ -78,7 +59,7 @@ fn turn_planned<R: Threads + Wait + Sync, G: Gate + Sync>(
     Ok(())
 }
 
-/// Turns the blocks of entries: in parts, or one after the other where that is the same to the gate and costs less.
+/// Turns the blocks of entries: in parts, where the gate watches them, and else in groups, or one after the other.
 fn turn_taken<R: Threads + Wait + Sync, G: Gate + Sync>(
     rt: &R,
     alloc: Global,
@@ -86,7 +67,7 @@ fn turn_taken<R: Threads + Wait + Sync, G: Gate + Sync>(
     kinds: &Kinds,
     now: u32,
     entries: &[Entry],
-    crew: &Crew,
+    workers: Workers,
     gate: &G,
 ) -> Result<(), AllocError>
     requires ready { IsReady (kind_count kinds.now) world.old }
@@ -97,19 +78,18 @@ fn turn_taken<R: Threads + Wait + Sync, G: Gate + Sync>(
     ensures ready { OnOk result (IsReady (kind_count kinds.now) world.new) }
     ensures place { OnOk result (IsSamePlace world.old world.new) }
 {
-    // One worker or few entries pay no plan, no parcels and no ring.
-    if skips_plan(gate, crew, now, entries.len()) {
+    if gate.watches() {
+        let Ok(clusters) = plan(alloc, world, entries) else {
+            return Err(AllocError);
+        };
+        return turn_planned(rt, world, kinds, now, clusters, entries, workers, gate);
+    }
+    // One worker or few entries pay no groups and no threads.
+    let threads = workers.count.min(entries.len() / SHARE);
+    if threads <= 1 {
         return turn_all(world, kinds, now, entries);
     }
-    let Ok(clusters) = plan(alloc, world, entries) else {
-        return Err(AllocError);
-    };
-    // Nothing is moved where all workers but one would soon have nothing to do.
-    if !gate.watches() && is_lopsided(clusters.as_slice(), entries.len()) {
-        crew.planned_in_vain(now);
-        return turn_all(world, kinds, now, entries);
-    }
-    turn_planned(rt, world, kinds, now, clusters, entries, crew, gate)
+    turn_in_groups(rt, alloc, world, kinds, now, entries, threads)
 }
 
 /// Takes what is due, and turns it.
@@ -118,7 +98,7 @@ fn turn_due<R: Threads + Wait + Sync, G: Gate + Sync>(
     world: &mut World,
     kinds: &Kinds,
     now: u32,
-    crew: &Crew,
+    workers: Workers,
     gate: &G,
 ) -> Result<u64, AllocError>
     requires ready { IsReady (kind_count kinds.now) world.old }
@@ -134,7 +114,7 @@ fn turn_due<R: Threads + Wait + Sync, G: Gate + Sync>(
     };
     let alloc = *entries.allocator();
     let due = entries.as_slice();
-    turn_taken(rt, alloc, world, kinds, now, due, crew, gate)?;
+    turn_taken(rt, alloc, world, kinds, now, due, workers, gate)?;
     Ok(entries.len() as u64)
 }
 
@@ -145,7 +125,7 @@ fn work_tick<R: Threads + Wait + Sync, G: Gate + Sync>(
     kinds: &Kinds,
     now: u32,
     edits: &[Edit],
-    crew: &Crew,
+    workers: Workers,
     gate: &G,
 ) -> Result<u64, AllocError>
     requires ready { IsReady (kind_count kinds.now) world.old }
@@ -161,7 +141,7 @@ fn work_tick<R: Threads + Wait + Sync, G: Gate + Sync>(
     let Ok(()) = apply_all(world, kinds, now, edits) else {
         return Err(AllocError);
     };
-    turn_due(rt, world, kinds, now, crew, gate)
+    turn_due(rt, world, kinds, now, workers, gate)
 }
 
 /// Works a tick off, and gives the world up where memory is refused.
@@ -171,7 +151,7 @@ pub(crate) fn tick_or_give_up<R: Threads + Wait + Sync, G: Gate + Sync>(
     kinds: &Kinds,
     now: u32,
     edits: &[Edit],
-    crew: &Crew,
+    workers: Workers,
     gate: &G,
 ) -> Result<u64, AllocError>
     requires ready { IsReady (kind_count kinds.now) world.old }
@@ -185,7 +165,7 @@ pub(crate) fn tick_or_give_up<R: Threads + Wait + Sync, G: Gate + Sync>(
     ensures place { OnOk result (IsSamePlace world.old world.new) }
     ensures broken { OnErr result (is_broken world.new ≡ true) }
 {
-    match work_tick(rt, world, kinds, now, edits, crew, gate) {
+    match work_tick(rt, world, kinds, now, edits, workers, gate) {
         Ok(count) => Ok(count),
         Err(refused) => {
             world.give_up();
@@ -230,6 +210,5 @@ pub fn tick<R: Threads + Wait + Sync, G: Gate + Sync>(
     if world.broken() {
         return Err(Fault::Broken);
     }
-    let crew = Crew::new(workers);
-    Ok(tick_or_give_up(rt, world, kinds, now, edits, &crew, gate)?)
+    Ok(tick_or_give_up(rt, world, kinds, now, edits, workers, gate)?)
 }

@@ -3,7 +3,7 @@ ghost use Rattle.std.specs.Prelude.{IfOk};
 ghost use Rattle.av_world_tests.specs.Flat.{IsPlain};
 
 use crate::crews::{contents, crew_ran, flat_crew_ran};
-use crate::gates::{Counting, Expecting, Holding, Meeting, Untold, Watching};
+use crate::gates::{Counting, Expecting, Holding, Meeting, Watching};
 use av_crew::{Gate, NoGate, Step};
 use av_serial_tests::runs::{edits_and_kinds, world_of};
 use av_types::{ChunkPos, Entry, Fault, Pos};
@@ -192,7 +192,7 @@ const ALONE: RowTick<'static> = RowTick {
     ..TWO_ROWS
 };
 
-/// Thirty-nine entries of two parts, of which one has 26: two thirds.
+/// Thirty-nine entries of two parts, of which one has 26.
 const LOPSIDED: RowTick<'static> = RowTick {
     ranges: &[(0, 13), (37, 63)],
     workers: 2,
@@ -200,7 +200,7 @@ const LOPSIDED: RowTick<'static> = RowTick {
     wet: 120,
 };
 
-/// One less: 25 are not two thirds of 38.
+/// One less.
 const UNEVEN: RowTick<'static> = RowTick {
     ranges: &[(0, 13), (37, 62)],
     workers: 2,
@@ -225,98 +225,12 @@ fn a_watching_gate_is_told_of_each_part(rt: HostRuntime) -> Result<(), Fail> {
     Ok(())
 }
 
-/// For another one few entries, those of which one part has two thirds and those of one worker are turned without jobs, and
-/// others in parts.
+/// Another one is told of none.
 #[test]
-fn another_gate_is_told_of_parts_of_many_entries(rt: HostRuntime) -> Result<(), Fail> {
+fn another_gate_is_told_of_no_part(rt: HostRuntime) -> Result<(), Fail> {
     let alloc = rt.alloc();
-    for (row, parts) in [
-        (FEW, 0),
-        (LONG, 0),
-        (TWO_ROWS, 2),
-        (ALONE, 0),
-        (LOPSIDED, 0),
-        (UNEVEN, 2),
-    ] {
-        assert_eq!(rt; told(&rt, alloc, false, row)?, parts);
-    }
-    Ok(())
-}
-
-/// How many jobs a gate that does not watch is told of in a run up to a tick in which two parts of sixty entries each, high above the
-/// ground, are due beside what is left of a row of thirty-six sources. Those are turned in tick 1, and spread in every fifth tick
-/// until tick 36: no part has two thirds of the entries of that tick.
-fn told_behind<R: Threads + Wait + Sync + Abort>(
-    rt: &R,
-    alloc: Global,
-    tick: u32,
-) -> Result<u64, Fault> {
-    let gate = Counting::of(false);
-    let mut entries = waiting(alloc, &[(0, 36)], 64, 8, 1)?;
-    for z in 6..9 {
-        entries.append(&mut waiting(alloc, &[(0, 20), (44, 64)], 100, z, i64::from(tick))?)?;
-    }
-    let world = with_sources(alloc, entries.as_slice())?;
-    let (_, kinds) = edits_and_kinds(alloc, 1, &world, "", 0)?;
-    let _ = crew_ran(rt, alloc, world, &kinds, &[], tick, 2, &gate)?;
-    Ok(gate.count())
-}
-
-/// After a tick of one part, seven of every fifth ticks go without a plan, and those between them do not.
-#[test]
-fn ticks_go_without_a_plan_behind_one_of_no_use(rt: HostRuntime) -> Result<(), Fail> {
-    for (tick, parts) in [(2, 2), (6, 0), (36, 0), (41, 2)] {
-        assert_eq!(rt; told_behind(&rt, rt.alloc(), tick)?, parts, "tick {tick}");
-    }
-    Ok(())
-}
-
-/// The columns of x of four squares, one in the middle of each chunk of the row. No part of one meets another one's.
-const SQUARES: [(i32, i32); 4] = [(7, 10), (23, 26), (39, 42), (55, 58)];
-
-/// One tick of four squares of three by three sources, at z 7 to 9: thirty-six entries, in four parts of nine. Water comes
-/// to the three blocks along each side of a square, so that it is twenty-one blocks then.
-fn turn_squares<R: Threads + Wait + Sync + Abort, G: Gate + Sync>(
-    rt: &R,
-    alloc: Global,
-    workers: u32,
-    gate: &G,
-) -> Result<(), Fault> {
-    let mut entries = Vec::new(alloc);
-    for z in 7..10 {
-        entries.append(&mut waiting(alloc, &SQUARES, 64, z, 1)?)?;
-    }
-    let world = with_sources(alloc, entries.as_slice())?;
-    let (_, kinds) = edits_and_kinds(alloc, 1, &world, "", 0)?;
-    let after = crew_ran(rt, alloc, world, &kinds, &[], 1, workers, gate)?;
-    assert_eq!(rt; after.count, 36);
-    let (numbers, _) = contents(alloc, &after.world)?;
-    assert_eq!(rt; wet_of(numbers.as_slice()), 84);
-    Ok(())
-}
-
-/// Four workers have four jobs at once, also for a gate that doesn't watch.
-#[test]
-fn four_jobs_meet_unwatched(rt: HostRuntime) -> Result<(), Fail> {
-    let gate = Untold::of(Meeting::of(4));
-    turn_squares(&rt, rt.alloc(), 4, &gate)?;
-    assert_eq!(rt; gate.told().counts(), (4, 0));
-    Ok(())
-}
-
-/// While one worker is held at any of four jobs, the others do the three others, also for a gate that doesn't watch.
-#[test]
-fn three_jobs_are_done_unwatched(rt: HostRuntime) -> Result<(), Fail> {
-    for job in 0..4 {
-        for workers in [2, 4] {
-            let gate = Untold::of(Holding::of(job, 3));
-            turn_squares(&rt, rt.alloc(), workers, &gate)?;
-            assert_eq!(rt;
-                gate.told().counts(),
-                (3, 0),
-                "job {job} of {workers} workers"
-            );
-        }
+    for row in [FEW, LONG, TWO_ROWS, ALONE, LOPSIDED, UNEVEN] {
+        assert_eq!(rt; told(&rt, alloc, false, row)?, 0);
     }
     Ok(())
 }
@@ -345,7 +259,6 @@ fn expect_told<R: Threads + Wait + Sync + Abort>(
 fn a_gate_watches_if_it_says_no_other(rt: HostRuntime) -> Result<(), Fail> {
     assert!(rt; Meeting::of(1).watches());
     assert!(rt; !NoGate.watches());
-    assert!(rt; !Untold::of(Meeting::of(1)).watches());
     Ok(())
 }
 

@@ -97,41 +97,6 @@ impl Gate for Holding {
     }
 }
 
-/// A gate that says that it need not be told of all jobs.
-#[derive(Drop)]
-pub struct Untold<G> {
-    gate: G,
-}
-
-impl<G> Untold<G> {
-    pub fn of(gate: G) -> Untold<G> {
-        Untold { gate }
-    }
-
-    /// The gate that is told of the jobs that there are.
-    pub fn told(&self) -> &G {
-        &self.gate
-    }
-}
-
-impl<G: Gate> Gate for Untold<G> {
-    ghost saw_job = { λ untold job. G.saw_job untold.gate job };
-
-    ghost saw_done = { λ untold done. G.saw_done untold.gate done };
-
-    fn watches(&self) -> bool {
-        false
-    }
-
-    fn before(&self, job: &Job) {
-        self.gate.before(job);
-    }
-
-    fn after(&self, done: &Done) {
-        self.gate.after(done);
-    }
-}
-
 /// How many blocks of water there are at y 64 in the chunks (0, 0) and (1, 0).
 fn wet_in<C: Cells>(cells: &C) -> u64 {
     let mut wet = 0u64;

@@ -7,4 +7,6 @@ mod gate_tests;
 #[cfg(test)]
 mod gates;
 #[cfg(test)]
+mod group_tests;
+#[cfg(test)]
 mod tests;

@@ -105,8 +105,7 @@ fn ran<G: Gate + Sync>(
     Ok((outcome.turns, only_file(outcome)?))
 }
 
-/// So many workers leave the same, and several of them in parts, also for a gate that doesn't watch. One of these is held at its first
-/// job until another job is done.
+/// So many workers leave the same, in parts where the gate watches. Of several one is held at its first job until another job is done.
 fn expect_same(
     rt: &(impl Abort + Threads + Wait + Sync),
     alloc: Global,
@@ -120,8 +119,7 @@ fn expect_same(
     let same = ran(rt, alloc, dry, edits, workers, &gate)? == *alone;
     assert!(rt; same, "{workers} workers");
     let (told, gave_up) = gate.counts();
-    let in_parts = watching || workers > 1;
-    assert_eq!(rt; (told > 0, gave_up), (in_parts, 0), "{workers} workers");
+    assert_eq!(rt; (told > 0, gave_up), (watching, 0), "{workers} workers");
     Ok(())
 }
 

@@ -147,14 +147,9 @@ fn expect_file(
     Ok(())
 }
 
-/// How many jobs there are: where a gate watches one for each part, and else only where there are several workers and more than
-/// 32 entries, since no part has two thirds of them.
-fn jobs_of(worked: &Worked, workers: u32, watching: bool) -> u64 {
-    if watching || workers > 1 && worked.turns > 32 {
-        worked.parts
-    } else {
-        0
-    }
+/// How many jobs a gate is told of: where it watches one for each part, and else none.
+fn jobs_of(worked: &Worked, watching: bool) -> u64 {
+    if watching { worked.parts } else { 0 }
 }
 
 /// So many workers leave the file that was worked out. Where there are several, one of them is held at the first job until the
@@ -167,7 +162,7 @@ fn expect_with(
     watching: bool,
     file: &[u8],
 ) -> Result<(), Fail> {
-    let jobs = jobs_of(worked, workers, watching);
+    let jobs = jobs_of(worked, watching);
     let others = if workers > 1 {
         jobs.saturating_sub(1)
     } else {

@@ -36,7 +36,7 @@ whole_empty h ps g none at = λ i p. (ap is_here (none (section_of p)) ∙ sym (
 
 -- ---- a whole world with a chunk more is whole, if no section of the chunk is out
 
-has_inserted : (ps : List ChunkPos) (i : ℕ) (c d : ChunkPos) → lands.has_chunk (insert ps i c) d ≡ same_chunk c d || lands.has_chunk ps d
+pub has_inserted : (ps : List ChunkPos) (i : ℕ) (c d : ChunkPos) → lands.has_chunk (insert ps i c) d ≡ same_chunk c d || lands.has_chunk ps d
 has_inserted ps zero c d = refl
 has_inserted [] (suc i) c d = refl
 has_inserted (p ∷ ps) (suc i) c d = ap (λ b. same_chunk p d || b) (has_inserted ps i c d) ∙ swap (same_chunk p d) (same_chunk c d) (lands.has_chunk ps d) where

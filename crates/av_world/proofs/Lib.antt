@@ -24,3 +24,6 @@ pub mod ChunkReads
 pub mod Appends
 pub mod Filled
 pub mod Mending
+pub mod ExchangedChunks
+pub mod LentChunks
+pub mod TakenChunks

@@ -16,3 +16,4 @@ pub mod OutOf
 pub mod Inserted
 pub mod Lands
 pub mod Due
+pub mod Lending

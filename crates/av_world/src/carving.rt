@@ -1,5 +1,5 @@
 //! Sections taken out of a world, and put back.
-ghost use Rattle.std.specs.Prelude.{◌≡◌, IsTrue, false, length, OnOk, OnErr, IfOk, IfErr, All, [], if◌then◌else◌};
+ghost use Rattle.std.specs.Prelude.{◌≡◌, IsTrue, false, None, length, OnOk, OnErr, IfOk, IfErr, All, [], if◌then◌else◌};
 ghost use Rattle.std.specs.List.{AllPairs};
 ghost use Rattle.av_types.specs.declared.fault.Fault.TheVariants.{OutOfMemory, Broken};
 ghost use Rattle.av_types.specs.declared.place.SectionPos.{SectionPos};
@@ -23,8 +23,9 @@ use av_types::{Fault, SectionPos};
 use std::alloc::{AllocError, Global};
 
 /// So many slots without sections.
-fn empty_slots(alloc: Global, count: usize) -> Result<Vec<Option<Section>>, AllocError>
+pub(crate) fn empty_slots(alloc: Global, count: usize) -> Result<Vec<Option<Section>>, AllocError>
     ensures count { IfOk result (λ slots. length slots.items ≡ count) }
+    ensures none { IfOk result (λ slots. All (λ o. o ≡ None) slots.items) }
 {
     let mut slots = Vec::with_capacity(alloc, count)?;
     for _ in 0..count {

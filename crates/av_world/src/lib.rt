@@ -8,6 +8,7 @@ mod chunks;
 mod due;
 mod finding;
 pub mod laws;
+mod lending;
 mod notes;
 pub mod parcels;
 mod preparing;

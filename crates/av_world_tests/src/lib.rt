@@ -3,6 +3,8 @@
 
 pub mod flat;
 #[cfg(test)]
+mod lending;
+#[cfg(test)]
 mod parcels;
 pub mod reads;
 #[cfg(test)]

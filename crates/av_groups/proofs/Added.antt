@@ -1,0 +1,108 @@
+-- An open group has one entry more.
+use Rattle.std.proofs.Common.{◌≡◌, ◌∙◌, ℕ, ◌||◌, Bool, true, false, List, [], ◌∷◌, ◌++◌, IsTrue, All, Some, slice_get, refl, sym, ap, subst, arith}
+use Rattle.std.proofs.lemmas.Bool.{true≢false, and_parts, and_from}
+use Rattle.std.proofs.lemmas.List.{append_assoc}
+use Rattle.std.proofs.lemmas.List.Elements.{All-head, All-tail, All-push, All-weaker}
+use Rattle.std.specs.List.{flat_map}
+use Rattle.av_types.specs.Places.{chunk_of, section_of, is_block_of}
+use Rattle.av_types.specs.declared.place.Pos.{Pos}
+use Rattle.av_types.specs.declared.place.ChunkPos.{ChunkPos}
+use Rattle.av_types.specs.declared.place.SectionPos.{SectionPos}
+use Rattle.av_types.specs.declared.tick.Entry.{Entry}
+use Rattle.av_types.proofs.SamePlaces.{same_chunk_is, same_chunk_from}
+use Rattle.av_cells.specs.Positions.{InReach, same_chunk}
+use Rattle.av_land.specs.Land.{Land, has_chunk, is_loaded}
+use Rattle.av_play.specs.Corners.{corner}
+use Rattle.av_play.proofs.Corners.{meets_corner}
+use Rattle.av_world.specs.Lands.{land_of}
+use Rattle.av_world.specs.Near.{has_place}
+use Rattle.av_world.specs.Views.{blocks}
+use Rattle.av_world.specs.declared.worlds.World.{World}
+use Rattle.av_world.proofs.ChunkReads.{has_chunk_there}
+use Rattle.av_groups.specs.declared.cutting.Cutting.{Cutting}
+use Rattle.av_groups.specs.declared.groups.Group.{Group}
+use Rattle.av_groups.specs.declared.groups.Touch.{Touch}
+use Rattle.av_groups.specs.Groups.{IsGroup}
+use Rattle.av_groups.specs.Exact.{IsExact}
+use Rattle.av_groups.specs.Open.{corner_chunks, chunks_in, IsOpen, IsTouched, IsCut}
+use Rattle.av_groups.specs.Parts.{StaysIn}
+
+-- the chunk of a section's block
+chunk_in : SectionPos → ChunkPos
+chunk_in s = record { x = s.x; z = s.z }
+
+or_left : {a : Bool} (b : Bool) → a ≡ true → a || b ≡ true
+or_left b h = rw h refl
+
+or_right : (a : Bool) {b : Bool} → b ≡ true → a || b ≡ true
+or_right true h = refl
+or_right false h = h
+
+-- a chunk of the reach is that of a corner
+reach_chunks : (p q : Pos) → InReach p q → has_chunk (corner_chunks p) (chunk_of q) ≡ true
+unfolding chunk_in
+reach_chunks p q r = by (meets_corner p q r) where
+  here : (east high south : Bool) → section_of (corner p east high south) ≡ section_of q → chunk_of (corner p east false south) ≡ chunk_of q
+  here east high south e = ap chunk_in e
+
+  a : Bool
+  a = same_chunk (chunk_of (corner p false false false)) (chunk_of q)
+
+  b : Bool
+  b = same_chunk (chunk_of (corner p true false false)) (chunk_of q)
+
+  c : Bool
+  c = same_chunk (chunk_of (corner p false false true)) (chunk_of q)
+
+  d : Bool
+  d = same_chunk (chunk_of (corner p true false true)) (chunk_of q)
+
+  same : (east south : Bool) → chunk_of (corner p east false south) ≡ chunk_of q → same_chunk (chunk_of (corner p east false south)) (chunk_of q) ≡ true
+  same east south e = same_chunk_from (chunk_of (corner p east false south)) (chunk_of q) e
+
+  by : (east : Bool) × (high : Bool) × (south : Bool) × (section_of (corner p east high south) ≡ section_of q) → has_chunk (corner_chunks p) (chunk_of q) ≡ true
+  by (false, high, false, e) = or_left (b || (c || (d || false))) (same false false (here false high false e))
+  by (true, high, false, e) = or_right a (or_left (c || (d || false)) (same true false (here true high false e)))
+  by (false, high, true, e) = or_right a (or_right b (or_left (d || false) (same false true (here false high true e))))
+  by (true, high, true, e) = or_right a (or_right b (or_right c (or_left false (same true true (here true high true e)))))
+
+all_has : (P : ChunkPos → Type 0) (cs : List ChunkPos) (c : ChunkPos) → All P cs → has_chunk cs c ≡ true → P c
+all_has P [] c h m = absurd (true≢false (sym m))
+all_has P (d ∷ ds) c h m = by (same_chunk d c) refl m (all_has P ds c (All-tail P d ds h)) where
+  by : (t : Bool) → same_chunk d c ≡ t → t || has_chunk ds c ≡ true → (has_chunk ds c ≡ true → P c) → P c
+  by true e m rest = subst P (same_chunk_is d c e) (All-head P d ds h)
+  by false e m rest = rest m
+
+-- a block of a section that is there is one of the land
+loaded_in_land : (w : World) (p : Pos) → IsTrue ((blocks w).loaded p) → is_loaded (land_of w) p ≡ true
+loaded_in_land w p h =
+    let place = has_place w.height w.positions.items w.chunks.items w.lawful.parallel (section_of p) h in
+    and_from (has_chunk w.positions.items (chunk_of p)) (is_block_of w.height p.y) (has_chunk_there w.positions.items (chunk_of p) place.chunk) place.high
+
+-- the corners' chunks are touched, where they are there
+stays : (w : Land ℕ) (e : Entry) (old new : List Touch) → All (IsTouched w.chunks old new) (corner_chunks e.pos) → StaysIn w (has_chunk (chunks_in new)) e
+stays w e old new touched q reach loaded =
+    let there = and_parts (has_chunk w.chunks (chunk_of q)) (is_block_of w.height q.y) loaded in
+    (all_has (IsTouched w.chunks old new) (corner_chunks e.pos) (chunk_of q) touched (reach_chunks e.pos q reach)).touched there.0
+
+pub added : (w : World) (es : List Entry) (e : Entry) (x y : Cutting) → IsTrue ((blocks w).loaded e.pos) → IsCut (land_of w) es x → y.closed ≡ x.closed → y.gathered.entries.items ≡ x.gathered.entries.items ++ e ∷ []
+    → IsOpen w.positions.items x.closed.items y.marks.last.items y.gathered.touches.items → All (IsTouched w.positions.items x.gathered.touches.items y.gathered.touches.items) (corner_chunks e.pos) → IsCut (land_of w) (es ++ e ∷ []) y
+added w es e x y here is closed entries is_open touched = record {
+  entries_are =
+      (λ i. flat_map (λ g. g.entries.items) (closed i).items ++ entries i)
+      ∙ sym (append_assoc (flat_map (λ g. g.entries.items) x.closed.items) x.gathered.entries.items (e ∷ []))
+      ∙ ap (λ l. l ++ e ∷ []) is.entries_are;
+  each = subst (λ v. (i : ℕ) (g : Group) → slice_get v.items i ≡ Some g → IsGroup (land_of w) v.items i g) (sym closed) is.each;
+  exact = subst (λ v. (i : ℕ) (g : Group) → slice_get v.items i ≡ Some g → All (λ t. IsExact v.items t.chunk t.before) g.touches.items) (sym closed) is.exact;
+  is_open = subst (λ v. IsOpen w.positions.items v.items y.marks.last.items y.gathered.touches.items) (sym closed) is_open;
+  loaded = subst (All (λ e. is_loaded (land_of w) e.pos ≡ true)) (sym entries) (All-push (λ e. is_loaded (land_of w) e.pos ≡ true) x.gathered.entries.items e is.loaded (loaded_in_land w e.pos here));
+  stay = subst (All inside) (sym entries) (All-push inside x.gathered.entries.items e (All-weaker before inside (λ d h q r l. kept.kept (chunk_of q) (h q r l)) x.gathered.entries.items is.stay) (stays (land_of w) e x.gathered.touches.items y.gathered.touches.items touched));
+} where
+  inside : Entry → Type 0
+  inside = StaysIn (land_of w) (has_chunk (chunks_in y.gathered.touches.items))
+
+  before : Entry → Type 0
+  before = StaysIn (land_of w) (has_chunk (chunks_in x.gathered.touches.items))
+
+  kept : IsTouched w.positions.items x.gathered.touches.items y.gathered.touches.items (chunk_of (corner e.pos false false false))
+  kept = touched 0 (chunk_of e.pos) (omega arith)

@@ -1,0 +1,154 @@
+-- An open group is closed.
+use Rattle.std.proofs.Common.{◌≡◌, ◌∙◌, ℕ, zero, suc, ◌+◌, ◌<◌, ◌≤◌, Bool, true, false, List, [], ◌∷◌, ◌++◌, length, replicate, slice_get, All, Some, refl, sym, ap, subst, arith, ◌⊎◌, inl, inr}
+use Rattle.std.proofs.lemmas.Bool.{true≢false}
+use Rattle.std.proofs.lemmas.Option.{slice_get_within, get_or_from_slice_get}
+use Rattle.std.proofs.lemmas.List.{append-nil, flat_map_more, length_push, length-replicate}
+use Rattle.std.proofs.lemmas.List.Elements.{All-nil, All-weaker, All-get_or, All-replicate}
+use Rattle.std.specs.List.{flat_map}
+use Rattle.av_types.specs.declared.place.ChunkPos.{ChunkPos}
+use Rattle.av_types.specs.declared.tick.Entry.{Entry}
+use Rattle.av_land.specs.Land.{Land, has_chunk, is_loaded}
+use Rattle.av_world.specs.Index.{slot}
+use Rattle.av_groups.specs.declared.groups.Group.{Group}
+use Rattle.av_groups.specs.declared.groups.Touch.{Touch}
+use Rattle.av_groups.specs.declared.cutting.Cutting.{Cutting}
+use Rattle.av_groups.specs.Groups.{touched, NoneTouches, IsGroup, AreGroups}
+use Rattle.av_groups.specs.Exact.{IsTouchedBy, IsExact}
+use Rattle.av_groups.specs.Open.{chunks_in, IsLast, IsOpen, IsCut, AreClosed}
+use Rattle.av_groups.specs.Parts.{StaysIn}
+
+-- what stands in a list with one more: it stood there before, or is the last
+push_at : {X : Type 0} (xs : List X) (x y : X) (i : ℕ) → slice_get (xs ++ x ∷ []) i ≡ Some y → ((i < length xs) × (slice_get xs i ≡ Some y)) ⊎ ((i ≡ length xs) × (x ≡ y))
+push_at [] x y zero h = inr (refl, get_or_from_slice_get (x ∷ []) zero y y h)
+push_at [] x y (suc i) h = absurd (omega (arith, slice_get_within [] i y h))
+push_at (z ∷ zs) x y zero h = inl (omega arith, h)
+push_at (z ∷ zs) x y (suc i) h = by (push_at zs x y i h) where
+  by : ((i < length zs) × (slice_get zs i ≡ Some y)) ⊎ ((i ≡ length zs) × (x ≡ y)) → ((suc i < suc (length zs)) × (slice_get zs i ≡ Some y)) ⊎ ((suc i ≡ suc (length zs)) × (x ≡ y))
+  by (inl (l, e)) = inl (omega (arith, l), e)
+  by (inr (l, e)) = inr (ap suc l, e)
+
+at_before : {X : Type 0} (xs : List X) (x y : X) (i : ℕ) → slice_get xs i ≡ Some y → slice_get (xs ++ x ∷ []) i ≡ Some y
+at_before [] x y i h = absurd (omega (arith, slice_get_within [] i y h))
+at_before (z ∷ zs) x y zero h = h
+at_before (z ∷ zs) x y (suc i) h = at_before zs x y i h
+
+at_last : {X : Type 0} (xs : List X) (x : X) → slice_get (xs ++ x ∷ []) (length xs) ≡ Some x
+at_last [] x = refl
+at_last (y ∷ ys) x = at_last ys x
+
+exact_still : (gs : List Group) (g : Group) (c : ChunkPos) (m : ℕ) → IsExact gs c m → IsExact (gs ++ g ∷ []) c m
+exact_still gs g c m is j e = let by = is j e in record { group = by.group; found = at_before gs g by.group j by.found; touches = by.touches }
+
+all_exact : (gs : List Group) (g : Group) (ts : List Touch) → All (λ t. IsExact gs t.chunk t.before) ts → All (λ t. IsExact (gs ++ g ∷ []) t.chunk t.before) ts
+all_exact gs g ts = All-weaker (λ t. IsExact gs t.chunk t.before) (λ t. IsExact (gs ++ g ∷ []) t.chunk t.before) (λ t is. exact_still gs g t.chunk t.before is) ts
+
+-- one group more changes nothing below it
+none_still : (gs : List Group) (g : Group) (a b : ℕ) (c : ChunkPos) → b ≤ length gs → NoneTouches gs a b c → NoneTouches (gs ++ g ∷ []) a b c
+none_still gs g a b c below none j h from to found = by (push_at gs g h j found) where
+  by : ((j < length gs) × (slice_get gs j ≡ Some h)) ⊎ ((j ≡ length gs) × (g ≡ h)) → has_chunk (touched h) c ≡ false
+  by (inl (l, e)) = none j h from to e
+  by (inr (l, e)) = absurd (omega (arith, l, to, below))
+
+group_still : (w : Land ℕ) (gs : List Group) (g h : Group) (i : ℕ) → i ≤ length gs → IsGroup w gs i h → IsGroup w (gs ++ g ∷ []) i h
+group_still w gs g h i below is = record {
+  distinct = is.distinct;
+  there = is.there;
+  loaded = is.loaded;
+  stay = is.stay;
+  behind = All-weaker (λ t. (t.before ≤ i) × NoneTouches gs t.before i t.chunk) (λ t. (t.before ≤ i) × NoneTouches (gs ++ g ∷ []) t.before i t.chunk) (λ t b. (b.0, none_still gs g t.before i t.chunk below b.1)) h.touches.items is.behind;
+}
+
+module _ (w : Land ℕ) (es : List Entry) (x : Cutting) (is : IsCut w es x) where
+  abbrev gs : List Group
+  gs = x.closed.items
+
+  abbrev more : List Group
+  more = x.closed.items ++ x.gathered ∷ []
+
+  is_group : IsGroup w gs (length gs) x.gathered
+  is_group = record { distinct = is.is_open.distinct; there = is.is_open.there; loaded = is.loaded; stay = is.stay; behind = is.is_open.behind }
+
+  each : (i : ℕ) (h : Group) → slice_get more i ≡ Some h → IsGroup w more i h
+  each i h found = by (push_at gs x.gathered h i found) where
+    by : ((i < length gs) × (slice_get gs i ≡ Some h)) ⊎ ((i ≡ length gs) × (x.gathered ≡ h)) → IsGroup w more i h
+    by (inl (l, e)) = group_still w gs x.gathered h i (omega (arith, l)) (is.each i h e)
+    by (inr (l, e)) = group_still w gs x.gathered h i (omega (arith, l)) (subst (λ n. IsGroup w gs n h) (sym l) (subst (IsGroup w gs (length gs)) e is_group))
+
+  behind : (c : ChunkPos) (m : ℕ) → slice_get x.marks.last.items (slot w.chunks c) ≡ Some m → (m ≤ length more) × NoneTouches more m (length more) c
+  behind c m at = by (has_chunk (touched x.gathered) c) refl where
+    old : IsLast gs x.gathered.touches.items c m
+    old = is.is_open.last_is c m at
+
+    long : length more ≡ length gs + 1
+    long = length_push gs x.gathered
+
+    by : (b : Bool) → has_chunk (touched x.gathered) c ≡ b → (m ≤ length more) × NoneTouches more m (length more) c
+    by true e = let f = old.touched e in (omega (arith, long, f), λ j h from to found. absurd (omega (arith, long, f, from, to)))
+    by false e = let f = old.free e in (omega (arith, long, f), λ j h from to found. one j h from (push_at gs x.gathered h j found)) where
+      one : (j : ℕ) (h : Group) → m ≤ j → ((j < length gs) × (slice_get gs j ≡ Some h)) ⊎ ((j ≡ length gs) × (x.gathered ≡ h)) → has_chunk (touched h) c ≡ false
+      one j h from (inl (l, found)) = old.none j h from l found
+      one j h from (inr (l, s)) = subst (λ g. has_chunk (touched g) c ≡ false) s e
+
+  exact_before : (i : ℕ) (h : Group) → slice_get more i ≡ Some h → All (λ t. IsExact more t.chunk t.before) h.touches.items
+  exact_before i h found = by (push_at gs x.gathered h i found) where
+    by : ((i < length gs) × (slice_get gs i ≡ Some h)) ⊎ ((i ≡ length gs) × (x.gathered ≡ h)) → All (λ t. IsExact more t.chunk t.before) h.touches.items
+    by (inl (l, e)) = all_exact gs x.gathered h.touches.items (is.exact i h e)
+    by (inr (l, e)) = subst (λ g. All (λ t. IsExact more t.chunk t.before) g.touches.items) e (all_exact gs x.gathered x.gathered.touches.items is.is_open.exact)
+
+  exact_last : (c : ChunkPos) (m : ℕ) → slice_get x.marks.last.items (slot w.chunks c) ≡ Some m → IsExact more c m
+  exact_last c m at j e = by (has_chunk (touched x.gathered) c) refl where
+    old : IsLast gs x.gathered.touches.items c m
+    old = is.is_open.last_is c m at
+
+    by : (b : Bool) → has_chunk (touched x.gathered) c ≡ b → IsTouchedBy more c j
+    by true t = let f = old.touched t in
+        record { group = x.gathered; found = subst (λ n. slice_get more n ≡ Some x.gathered) (omega (arith, e, f)) (at_last gs x.gathered); touches = t }
+    by false t = exact_still gs x.gathered c m (old.exact t) j e
+
+  are_groups : AreGroups w es (x.closed.items ++ x.gathered ∷ []) x.marks.last.items
+  are_groups = record {
+    entries_are = sym (flat_map_more (λ g. g.entries.items) [] gs x.gathered) ∙ is.entries_are;
+    each = each;
+    long = is.is_open.long;
+    behind = behind;
+  }
+
+  pub are_closed : AreClosed w es (x.closed.items ++ x.gathered ∷ []) x.marks.last.items
+  are_closed = record { groups = are_groups; exact = record { before = exact_before; after = exact_last } }
+
+-- nothing is touched yet
+open_anew : (w : Land ℕ) (es : List Entry) (gs : List Group) (last : List ℕ) → AreClosed w es gs last → IsOpen w.chunks gs last []
+open_anew w es gs last is = record {
+  long = is.groups.long;
+  distinct = grind arith;
+  there = All-nil (λ c. has_chunk w.chunks c ≡ true);
+  behind = All-nil (λ t. (t.before ≤ length gs) × NoneTouches gs t.before (length gs) t.chunk);
+  exact = All-nil (λ t. IsExact gs t.chunk t.before);
+  last_is = λ c m h. record { none = (is.groups.behind c m h).1; touched = λ t. absurd (true≢false (sym t)); free = λ f. (is.groups.behind c m h).0; exact = λ f. is.exact.after c m h };
+}
+
+is_zero : (w : Land ℕ) (i m : ℕ) → slice_get (replicate (length w.chunks) 0) i ≡ Some m → m ≤ 0
+is_zero w i m at = subst (λ n. n ≤ 0) (get_or_from_slice_get (replicate (length w.chunks) 0) i m m at) (All-get_or (λ n. n ≤ 0) (replicate (length w.chunks) 0) i m (slice_get_within (replicate (length w.chunks) 0) i m at) (All-replicate (λ n. n ≤ 0) (length w.chunks) 0 (omega arith)))
+
+-- where there are no entries there are no groups
+no_groups : (w : Land ℕ) → AreGroups w [] [] (replicate (length w.chunks) 0)
+no_groups w = record {
+  entries_are = refl;
+  each = λ i g at. absurd (omega (arith, slice_get_within [] i g at));
+  long = length-replicate (length w.chunks) 0;
+  behind = λ c m at. (is_zero w (slot w.chunks c) m at, λ j g from to at. absurd (omega (arith, to)));
+}
+
+pub none_yet : (w : Land ℕ) → AreClosed w [] [] (replicate (length w.chunks) 0)
+none_yet w = record { groups = no_groups w; exact = record { before = λ i g at. absurd (omega (arith, slice_get_within [] i g at)); after = λ c m at j e. let zero = is_zero w (slot w.chunks c) m at in absurd (omega (arith, zero, e)) } }
+
+-- a new group, without entries
+pub begun : (w : Land ℕ) (es : List Entry) (y : Cutting) → AreClosed w es y.closed.items y.marks.last.items → y.gathered.entries.items ≡ [] → y.gathered.touches.items ≡ [] → IsCut w es y
+begun w es y is e t = record {
+  entries_are = ap (λ l. flat_map (λ g. g.entries.items) y.closed.items ++ l) e ∙ append-nil (flat_map (λ g. g.entries.items) y.closed.items) ∙ is.groups.entries_are;
+  each = is.groups.each;
+  exact = is.exact.before;
+  is_open = subst (IsOpen w.chunks y.closed.items y.marks.last.items) (sym t) (open_anew w es y.closed.items y.marks.last.items is);
+  loaded = subst (All (λ x. is_loaded w x.pos ≡ true)) (sym e) (All-nil (λ x. is_loaded w x.pos ≡ true));
+  stay = subst (All (StaysIn w (has_chunk (chunks_in y.gathered.touches.items)))) (sym e) (All-nil (StaysIn w (has_chunk (chunks_in y.gathered.touches.items))));
+}

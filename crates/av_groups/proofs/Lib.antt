@@ -1,0 +1,5 @@
+pub mod OneTurn
+pub mod Apart
+pub mod Touched
+pub mod Closed
+pub mod Added

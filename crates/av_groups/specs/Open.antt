@@ -1,0 +1,60 @@
+-- Groups of which the last is still open. Working definitions: no public clause cites them.
+use Rattle.std.specs.Prelude.{◌≡◌, ℕ, ◌+◌, ◌≤◌, true, false, List, [], ◌∷◌, ◌++◌, map, length, slice_get, Some}
+use Rattle.std.specs.List.{All, AllPairs, flat_map}
+use Rattle.av_types.specs.Places.{chunk_of}
+use Rattle.av_types.specs.declared.place.Pos.{Pos}
+use Rattle.av_types.specs.declared.place.ChunkPos.{ChunkPos}
+use Rattle.av_types.specs.declared.tick.Entry.{Entry}
+use Rattle.av_cells.specs.Positions.{same_chunk}
+use Rattle.av_land.specs.Land.{Land, has_chunk, is_loaded}
+use Rattle.av_play.specs.Corners.{corner}
+use Rattle.av_world.specs.Index.{slot}
+use Rattle.av_groups.specs.declared.groups.Group.{Group}
+use Rattle.av_groups.specs.declared.groups.Touch.{Touch}
+use Rattle.av_groups.specs.declared.cutting.Cutting.{Cutting}
+use Rattle.av_groups.specs.Groups.{NoneTouches, IsGroup, AreGroups}
+use Rattle.av_groups.specs.Exact.{IsExact, AreExact}
+use Rattle.av_groups.specs.Parts.{StaysIn}
+
+-- each block of the reach of p lies in a chunk of one of its four lower corners
+abbrev pub corner_chunks : Pos → List ChunkPos
+corner_chunks p =
+    chunk_of (corner p false false false) ∷ chunk_of (corner p true false false) ∷ chunk_of (corner p false false true) ∷ chunk_of (corner p true false true) ∷ []
+
+abbrev pub chunks_in : List Touch → List ChunkPos
+chunks_in ts = map (λ t. t.chunk) ts
+
+-- m is one more than the number of the group that touched the chunk last, and 0 where none has
+pub record IsLast (gs : List Group) (ts : List Touch) (c : ChunkPos) (m : ℕ) : Type 0 where
+  pub none : NoneTouches gs m (length gs) c
+  pub touched : has_chunk (chunks_in ts) c ≡ true → m ≡ length gs + 1
+  pub free : has_chunk (chunks_in ts) c ≡ false → m ≤ length gs
+  pub exact : has_chunk (chunks_in ts) c ≡ false → IsExact gs c m
+
+-- what the open group touches, behind the closed ones
+pub record IsOpen (ps : List ChunkPos) (gs : List Group) (last : List ℕ) (ts : List Touch) : Type 0 where
+  pub long : length last ≡ length ps
+  pub distinct : AllPairs (λ c d. same_chunk c d ≡ false) (chunks_in ts)
+  pub there : All (λ c. has_chunk ps c ≡ true) (chunks_in ts)
+  pub behind : All (λ t. (t.before ≤ length gs) × NoneTouches gs t.before (length gs) t.chunk) ts
+  pub exact : All (λ t. IsExact gs t.chunk t.before) ts
+  pub last_is : (c : ChunkPos) (m : ℕ) → slice_get last (slot ps c) ≡ Some m → IsLast gs ts c m
+
+-- the open group touches the chunk, where it is there, and what it touched
+pub record IsTouched (ps : List ChunkPos) (old new : List Touch) (c : ChunkPos) : Type 0 where
+  pub touched : has_chunk ps c ≡ true → has_chunk (chunks_in new) c ≡ true
+  pub kept : (d : ChunkPos) → has_chunk (chunks_in old) d ≡ true → has_chunk (chunks_in new) d ≡ true
+
+-- closed groups and an open one have these entries
+pub record IsCut (w : Land ℕ) (es : List Entry) (x : Cutting) : Type 0 where
+  pub entries_are : flat_map (λ g. g.entries.items) x.closed.items ++ x.gathered.entries.items ≡ es
+  pub each : (i : ℕ) (g : Group) → slice_get x.closed.items i ≡ Some g → IsGroup w x.closed.items i g
+  pub exact : (i : ℕ) (g : Group) → slice_get x.closed.items i ≡ Some g → All (λ t. IsExact x.closed.items t.chunk t.before) g.touches.items
+  pub is_open : IsOpen w.chunks x.closed.items x.marks.last.items x.gathered.touches.items
+  pub loaded : All (λ e. is_loaded w e.pos ≡ true) x.gathered.entries.items
+  pub stay : All (StaysIn w (has_chunk (chunks_in x.gathered.touches.items))) x.gathered.entries.items
+
+-- groups of which none is open
+pub record AreClosed (w : Land ℕ) (es : List Entry) (gs : List Group) (last : List ℕ) : Type 0 where
+  pub groups : AreGroups w es gs last
+  pub exact : AreExact w gs last

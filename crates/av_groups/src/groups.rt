@@ -1,0 +1,25 @@
+//! Groups of a tick's entries.
+use av_types::{ChunkPos, Entry};
+
+/// A chunk that the turns of a group may read or change, and the number of groups that come before it there: one more than
+/// that of the last earlier group that touches it, and 0 where none does.
+#[derive(Clone, Copy, Debug, Drop)]
+pub struct Touch {
+    pub chunk: ChunkPos,
+    pub before: usize,
+}
+
+/// Entries of a tick that come one after the other, and the chunks that their turns may touch.
+#[derive(Drop)]
+pub struct Group {
+    pub entries: Vec<Entry>,
+    pub touches: Vec<Touch>,
+}
+
+/// All entries of a tick in groups. `last` has for each chunk of the world one more than the number of the last group that
+/// touches it, and 0 where none does.
+#[derive(Drop)]
+pub struct Groups {
+    pub groups: Vec<Group>,
+    pub last: Vec<usize>,
+}

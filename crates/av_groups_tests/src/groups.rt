@@ -1,0 +1,35 @@
+//! Groups of the entries of a world.
+ghost use Rattle.std.specs.Prelude.{◌≡◌, true, All, IsTrue, IfOk};
+ghost use Rattle.av_world.specs.Lands.{land_of};
+ghost use Rattle.av_world.specs.Views.{blocks};
+ghost use Rattle.av_groups.specs.Groups.{AreGroups};
+
+use av_cells::Cells;
+use av_groups::cutting::cut;
+use av_groups::groups::Groups;
+use av_types::{Entry, Fault};
+use av_world::World;
+use std::alloc::Global;
+
+/// Whether the block of each entry is loaded.
+fn all_loaded(world: &World, entries: &[Entry]) -> bool
+    ensures { result ≡ true → All (λ e. IsTrue ((blocks world.now).loaded e.pos)) entries.now }
+{
+    for entry in entries {
+        if !world.loaded(entry.pos) {
+            return false;
+        }
+    }
+    true
+}
+
+/// The entries in groups. They must be of loaded blocks.
+pub fn groups_of(alloc: Global, world: &World, entries: &[Entry]) -> Result<Groups, Fault>
+    ensures { IfOk result (λ cut. AreGroups (land_of world.now) entries.now
+        cut.groups.items cut.last.items) }
+{
+    if !all_loaded(world, entries) {
+        return Err(Fault::EditOutside(0));
+    }
+    Ok(cut(alloc, world, entries)?)
+}

@@ -1,0 +1,5 @@
+pub mod Stages
+pub mod After
+pub mod Turning
+pub mod Chunks
+pub mod Ends

@@ -1,0 +1,14 @@
+use Rattle.std.proofs.Common.{map, take, sym, ap, subst, ◌∙◌}
+use Rattle.std.proofs.lemmas.List.{take_more}
+use Rattle.std.proofs.lemmas.List.{map-append}
+use Rattle.av_world.specs.Views.{positions_of}
+use Rattle.av_groups.specs.declared.groups.Touch.{Touch}
+use Rattle.av_lending.specs.Plans.{IsBringing}
+use Rattle.av_lending.proofs.lender.bring.Goals as goal
+
+pub loop-touch-preserved : goal.loop-touch-preserved
+loop-touch-preserved c =
+    let ts = c.args.touches.now in
+    let i = c.loop-touch.touch-index in
+    subst (λ cs. IsBringing (positions_of c.args.world.now) cs c.args.stage c.args.stages.now.items c.bring_one.new.stages.items) (sym (ap (map (λ (t : Touch). t.chunk)) (take_more ts i _ c.loop-touch-test.true) ∙ map-append (λ (t : Touch). t.chunk) (take i ts) _))
+    (c.bring_one.ensures (map (λ t. t.chunk) (take i ts)) c.args.stages.now.items c.loop-touch.invariant)

@@ -1,0 +1,94 @@
+-- A tick in groups, and the worlds that are lent for them.
+use Rattle.std.specs.Prelude.{◌≡◌, ℕ, true, false, ◌⊎◌, List, length, take, slice_get, slice_index_or, Option, Some, None}
+use Rattle.std.specs.List.{All, flat_map}
+use Rattle.av_types.specs.Places.{chunk_of}
+use Rattle.av_types.specs.declared.place.Pos.{Pos}
+use Rattle.av_types.specs.declared.place.ChunkPos.{ChunkPos}
+use Rattle.av_rules.specs.Kinds.{kind_count}
+use Rattle.av_rules.specs.declared.kinds.Kinds.{Kinds}
+use Rattle.av_cells.specs.Kinds.{kinds_of}
+use Rattle.av_cells.specs.Rule.{HasKinds}
+use Rattle.av_land.specs.Land.{Land, has_chunk, is_loaded}
+use Rattle.av_land.specs.Tick.{turned_all}
+use Rattle.av_world.specs.Index.{slot}
+use Rattle.av_world.specs.Lands.{land_of}
+use Rattle.av_world.specs.Views.{blocks, lists, height_of, positions_of, is_broken}
+use Rattle.av_world.specs.declared.worlds.World.{World}
+use Rattle.av_serial.specs.Ready.{IsReady, IsSamePlace}
+use Rattle.av_groups.specs.declared.groups.Group.{Group}
+use Rattle.av_groups.specs.Groups.{touched, IsGroup}
+use Rattle.av_groups.specs.Parts.{IsPart}
+use Rattle.av_lending.specs.declared.plans.Plan.{Plan}
+
+abbrev pub groups_of : Plan → List Group
+groups_of p = p.groups.value.items
+
+abbrev pub kinds_in : Plan → Kinds
+kinds_in p = p.kinds.value
+
+-- the land with which the turns begin
+abbrev pub start_of : Plan → Land ℕ
+start_of p = land_of p.start.value
+
+-- the land after the first m groups
+abbrev pub after : Plan → ℕ → Land ℕ
+after p m = turned_all (kinds_of (kinds_in p)) p.tick (flat_map (λ g. g.entries.items) (take m (groups_of p))) (start_of p)
+
+-- the world is ready, and each group is one
+pub record IsPlan (p : Plan) : Type 0 where
+  pub ready : IsReady (kind_count (kinds_in p)) p.start.value
+  pub each : (i : ℕ) (g : Group) → slice_get (groups_of p) i ≡ Some g → IsGroup (start_of p) (groups_of p) i g
+
+-- the plan is one of these kinds and groups
+pub record IsPlanOf (p : Plan) (k : Kinds) (gs : List Group) : Type 0 where
+  pub kinds_are : k ≡ kinds_in p
+  pub groups_are : gs ≡ groups_of p
+  pub is_plan : IsPlan p
+
+-- The world u has of the chunks that group i touches what the land has after the first m groups, and no other chunk.
+pub record IsLentAfter (p : Plan) (i m : ℕ) (u : World) : Type 0 where
+  pub group : Group
+  pub is : slice_get (groups_of p) i ≡ Some group
+  pub chunks : (c : ChunkPos) → has_chunk (positions_of u) c ≡ has_chunk (touched group) c
+  pub part : IsPart (has_chunk (touched group)) (after p m) (land_of u)
+  pub height_is : height_of u ≡ height_of p.start.value
+  pub ready : IsReady (kind_count (kinds_in p)) u
+
+-- chunk c of the world w is as it is after the first m groups
+pub record IsAtStage (p : Plan) (m : ℕ) (w : World) (c : ChunkPos) : Type 0 where
+  pub at : (q : Pos) → chunk_of q ≡ c → (blocks w).number q ≡ (after p m).at q
+  pub loaded : (q : Pos) → chunk_of q ≡ c → (blocks w).loaded q ≡ is_loaded (start_of p) q
+  pub list : lists w c ≡ (after p m).lists c
+
+-- after how many groups a chunk is, as `stages` tells it of the chunks ps
+abbrev pub stage_of : List ChunkPos → List (Option ℕ) → ChunkPos → Option ℕ
+stage_of ps stages c = slice_index_or stages (slot ps c) None
+
+-- `stages` has for each chunk of the world after how many groups it is, and None where it may be lent
+pub record IsUnderWay (p : Plan) (w : World) (stages : List (Option ℕ)) : Type 0 where
+  pub height_is : height_of w ≡ height_of p.start.value
+  pub positions_are : positions_of w ≡ positions_of p.start.value
+  pub broken_is : is_broken w ≡ is_broken p.start.value
+  pub long : length stages ≡ length (positions_of p.start.value)
+  pub numbers : HasKinds (kind_count (kinds_in p)) (blocks w)
+  pub absent : (c : ChunkPos) → has_chunk (positions_of p.start.value) c ≡ false → IsAtStage p 0 w c
+  pub known : (c : ChunkPos) (m : ℕ) → stage_of (positions_of p.start.value) stages c ≡ Some m → IsAtStage p m w c
+
+-- each chunk that the group touches is as its groups before it leave it
+abbrev pub IsNext : List ChunkPos → List (Option ℕ) → Group → Type 0
+IsNext ps stages g = All (λ t. stage_of ps stages t.chunk ≡ Some t.before) g.touches.items
+
+-- The chunks cs came to a stage, and all others are where they were. It tells of chunks of which a stage is known then.
+abbrev pub CameTo : List ChunkPos → List ChunkPos → Option ℕ → List (Option ℕ) → List (Option ℕ) → Type 0
+CameTo ps cs stage old new = (c : ChunkPos) (m : ℕ) → stage_of ps new c ≡ Some m
+    → ((has_chunk cs c ≡ true) × (stage ≡ Some m)) ⊎ ((has_chunk cs c ≡ false) × (stage_of ps old c ≡ Some m))
+
+pub record IsBringing (ps cs : List ChunkPos) (stage : Option ℕ) (old new : List (Option ℕ)) : Type 0 where
+  pub long : length new ≡ length ps
+  pub came : CameTo ps cs stage old new
+
+-- the world w is what all groups leave of the one with which they began
+pub record IsFinished (p : Plan) (w : World) : Type 0 where
+  pub land_is : land_of w ≡ after p (length (groups_of p))
+  pub ready : IsReady (kind_count (kinds_in p)) w
+  pub place : IsSamePlace p.start.value w

@@ -1,0 +1,274 @@
+//! What of a tick's world is lent, and taking it back.
+ghost use Rattle.std.specs.Prelude.{◌≡◌, ◌<◌, ℕ, ◌+◌, ◌++◌, ◌∷◌, [], true, List, Option, Some, IfOk, OnOk, IfNone, IfSome, All, length, map, slice_get};
+ghost use Rattle.av_world.specs.Lands.{land_of};
+ghost use Rattle.av_world.specs.Views.{positions_of};
+ghost use Rattle.av_types.specs.declared.place.ChunkPos.{ChunkPos};
+ghost use Rattle.av_types.specs.declared.tick.Entry.{Entry};
+ghost use Rattle.av_groups.specs.Groups.{AreGroups};
+ghost use Rattle.av_groups.specs.declared.groups.Group.{Group};
+ghost use Rattle.av_lending.specs.Plans.{IsPlanOf, IsLentAfter, IsUnderWay, IsNext, IsFinished, IsPlan, IsBringing, stage_of};
+
+use crate::lent::Lent;
+use crate::plans::Plan;
+use crate::waiting::Waiting;
+use av_groups::groups::{Group, Groups, Touch};
+use av_rules::Kinds;
+use av_types::ChunkPos;
+use av_world::World;
+use std::alloc::{AllocError, Global};
+use std::marker::Model;
+
+/// What of a tick's world is lent. It lends for each group the chunks that it touches, once all groups that come before it
+/// there are taken back.
+#[derive(Drop)]
+pub struct Lender {
+    /// Of each chunk, after how many groups it is. None: it may be lent.
+    stages: Vec<Option<usize>>,
+    waiting: Waiting,
+    /// How many groups are still to be taken back.
+    left: usize,
+}
+
+impl Model for Lender {
+    ghost Value = { List (Option ℕ) };
+
+    ghost view = { λ lender. lender.stages.items };
+}
+
+/// The chunks that a group touches.
+fn chunks_of(alloc: Global, touches: &[Touch]) -> Result<Vec<ChunkPos>, AllocError>
+    ensures { IfOk result (λ chunks. chunks.items ≡ map (λ touch. touch.chunk) touches.now) }
+{
+    let mut chunks = Vec::with_capacity(alloc, touches.len())?;
+    for touch in touches {
+        chunks.push(touch.chunk)?;
+    }
+    Ok(chunks)
+}
+
+/// The index of a touched chunk, if it is not yet as the group needs it.
+#[tactic(auto, using(crate::proofs::Stages::stage_is))]
+fn other_stage(stages: &[Option<usize>], world: &World, touch: &Touch) -> Option<usize>
+    ensures { IfNone result (stage_of (positions_of world.now) stages.now touch.now.chunk
+        ≡ Some touch.now.before) }
+{
+    let Some(index) = world.index_of(touch.chunk) else {
+        return Some(stages.len());
+    };
+    if index >= stages.len() {
+        return Some(index);
+    }
+    match stages[index] {
+        Some(stage) if stage == touch.before => None,
+        _ => Some(index),
+    }
+}
+
+/// The index of a chunk that is not yet as a group needs it. None: the group is ready.
+fn blocked(stages: &[Option<usize>], world: &World, touches: &[Touch]) -> Option<usize>
+    ensures { IfNone result (All (λ touch. stage_of (positions_of world.now) stages.now touch.chunk
+        ≡ Some touch.before) touches.now) }
+{
+    for touch in touches {
+        if let Some(index) = other_stage(stages, world, touch) {
+            return Some(index);
+        }
+    }
+    None
+}
+
+/// The next group that is ready.
+fn find(
+    stages: &[Option<usize>],
+    waiting: &mut Waiting,
+    world: &World,
+    groups: &[Group],
+) -> Option<usize>
+    ensures { IfSome result (λ number. (group : Group) × (slice_get groups.now number ≡ Some group)
+        × IsNext (positions_of world.now) stages.now group) }
+{
+    for _ in 0..=groups.len() {
+        let number = waiting.take()?;
+        if number >= groups.len() {
+            return None;
+        }
+        match blocked(stages, world, groups[number].touches.as_slice()) {
+            Some(chunk) => waiting.wait(number, chunk),
+            None => return Some(number),
+        }
+    }
+    None
+}
+
+/// A chunk comes to a stage.
+#[tactic(auto, using(crate::proofs::Stages::one_more, crate::proofs::Stages::absent_more))]
+fn bring_one(stages: &mut Vec<Option<usize>>, world: &World, at: ChunkPos, stage: Option<usize>)
+    requires long { length stages.old.items ≡ length (positions_of world.now) }
+    ensures { (chunks : List ChunkPos) (before : List (Option ℕ))
+        → IsBringing (positions_of world.now) chunks stage before stages.old.items
+        → IsBringing (positions_of world.now) (chunks ++ at ∷ []) stage before stages.new.items }
+{
+    if let Some(index) = world.index_of(at) {
+        stages[index] = stage;
+    }
+}
+
+/// The chunks that a group touches come to a stage.
+fn bring(stages: &mut Vec<Option<usize>>, world: &World, touches: &[Touch], stage: Option<usize>)
+    requires long { length stages.old.items ≡ length (positions_of world.now) }
+    ensures { IsBringing (positions_of world.now) (map (λ touch. touch.chunk) touches.now) stage
+        stages.old.items stages.new.items }
+{
+    for touch in touches {
+        bring_one(stages, world, touch.chunk, stage);
+    }
+}
+
+/// The groups that wait for one of these chunks may be ready.
+fn release(waiting: &mut Waiting, world: &World, touches: &[Touch]) {
+    for touch in touches {
+        if let Some(index) = world.index_of(touch.chunk) {
+            waiting.release(index);
+        }
+    }
+}
+
+/// Whether all chunks are at their last stages.
+fn are_at(stages: &[Option<usize>], last: &[usize]) -> bool
+    ensures { result ≡ true → stages.now ≡ map Some last.now }
+{
+    if stages.len() != last.len() {
+        return false;
+    }
+    for (index, stage) in last.iter().enumerate() {
+        if stages[index] != Some(*stage) {
+            return false;
+        }
+    }
+    true
+}
+
+/// So many chunks that no group has turned.
+fn unturned(alloc: Global, chunks: usize) -> Result<Vec<Option<usize>>, AllocError>
+    ensures long { IfOk result (λ stages. length stages.items ≡ chunks) }
+    ensures zero { IfOk result (λ stages. All (λ stage. stage ≡ Some 0) stages.items) }
+{
+    let mut stages = Vec::with_capacity(alloc, chunks)?;
+    for _ in 0..chunks {
+        stages.push(Some(0))?;
+    }
+    Ok(stages)
+}
+
+impl Lender {
+    /// Nothing of the world with which the plan begins is lent.
+    ///
+    /// # Errors
+    /// Where memory is refused.
+    pub fn new(
+        alloc: Global,
+        plan: &Plan,
+        world: &World,
+        groups: &[Group],
+    ) -> Result<Self, AllocError>
+        requires start { plan.now.start.value ≡ world.now }
+        requires plan { IsPlan plan.now }
+        ensures { IfOk result (IsUnderWay plan.now world.now) }
+    {
+        let chunks = world.positions().len();
+        Ok(Lender {
+            stages: unturned(alloc, chunks)?,
+            waiting: Waiting::new(alloc, chunks, groups.len())?,
+            left: groups.len(),
+        })
+    }
+
+    /// Lends the chunks of a group that is ready.
+    fn lend_group(
+        &mut self,
+        alloc: Global,
+        plan: &Plan,
+        world: &mut World,
+        kinds: &Kinds,
+        groups: &[Group],
+        number: usize,
+    ) -> Result<Lent, AllocError>
+        requires plan { IsPlanOf plan.now kinds.now groups.now }
+        requires under_way { IsUnderWay plan.now world.old self.old }
+        requires next { (group : Group) × (slice_get groups.now number ≡ Some group)
+            × IsNext (positions_of world.old) self.old group }
+        ensures under_way { OnOk result (IsUnderWay plan.now world.new self.new) }
+        ensures lent { IfOk result (λ lent. IsLentAfter plan.now lent.number lent.number lent.world) }
+    {
+        let touches = groups[number].touches.as_slice();
+        let chunks = chunks_of(alloc, touches)?;
+        let lent = world.lend(chunks.as_slice())?;
+        bring(&mut self.stages, world, touches, None);
+        Ok(Lent {
+            number,
+            world: lent,
+        })
+    }
+
+    /// Lends the chunks of the next group that is ready. None: those that are left wait for groups that are not taken back.
+    ///
+    /// # Errors
+    /// Where memory is refused. Then chunks may be gone, and the world is to be given up.
+    pub fn lend(
+        &mut self,
+        alloc: Global,
+        plan: &Plan,
+        world: &mut World,
+        kinds: &Kinds,
+        groups: &[Group],
+    ) -> Result<Option<Lent>, AllocError>
+        requires plan { IsPlanOf plan.now kinds.now groups.now }
+        requires under_way { IsUnderWay plan.now world.old self.old }
+        ensures under_way { OnOk result (IsUnderWay plan.now world.new self.new) }
+        ensures lent { IfOk result (λ some. IfSome some
+            (λ lent. IsLentAfter plan.now lent.number lent.number lent.world)) }
+    {
+        match find(self.stages.as_slice(), &mut self.waiting, world, groups) {
+            Some(number) => {
+                let lent = self.lend_group(alloc, plan, world, kinds, groups, number)?;
+                Ok(Some(lent))
+            }
+            None => Ok(None),
+        }
+    }
+
+    /// Takes back what was lent for a group, after its turns.
+    pub fn take_back(
+        &mut self,
+        plan: &Plan,
+        world: &mut World,
+        kinds: &Kinds,
+        groups: &[Group],
+        number: usize,
+        back: World,
+    )
+        requires plan { IsPlanOf plan.now kinds.now groups.now }
+        requires under_way { IsUnderWay plan.now world.old self.old }
+        requires turned { IsLentAfter plan.now number (number + 1) back }
+        ensures { IsUnderWay plan.now world.new self.new }
+    {
+        let touches = groups[number].touches.as_slice();
+        let stage = Some(number + 1);
+        world.take_back(back);
+        bring(&mut self.stages, world, touches, stage);
+        release(&mut self.waiting, world, touches);
+        self.left = self.left.saturating_sub(1);
+    }
+
+    /// Whether all groups are taken back.
+    pub fn is_done(&self, plan: &Plan, world: &World, kinds: &Kinds, groups: &Groups) -> bool
+        requires plan { IsPlanOf plan.now kinds.now groups.now.groups.items }
+        requires groups { (entries : List Entry) × AreGroups (land_of plan.now.start.value) entries
+            groups.now.groups.items groups.now.last.items }
+        requires under_way { IsUnderWay plan.now world.now self.now }
+        ensures { result ≡ true → IsFinished plan.now world.now }
+    {
+        // All chunks are looked at once only.
+        self.left == 0 && are_at(self.stages.as_slice(), groups.last.as_slice())
+    }
+}

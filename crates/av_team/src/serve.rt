@@ -1,0 +1,86 @@
+//! Threads that turn groups.
+ghost use Rattle.std.specs.Prelude.{◌≡◌};
+ghost use Rattle.av_team.specs.Lines.{ArePassesOf, IsDeskOf, IsPassOf};
+
+use crate::lines::{Desk, Passes, another, put_in};
+use av_lending::{Work, turn_lent};
+use av_rules::Kinds;
+use std::alloc::AllocError;
+use std::sync::Wait;
+use std::thread;
+use std::thread::Scope;
+
+/// Turns the groups that are handed out, until the end is.
+fn serve<R: Wait>(rt: &R, desk: &Desk, mut passes: Passes, kinds: &Kinds)
+    requires desk { IsDeskOf desk.now kinds.now }
+    requires passes { ArePassesOf desk.now passes }
+{
+    let groups = desk.groups.groups.as_slice();
+    for _ in rt.forever() {
+        match desk.works.take(rt, &mut passes.works) {
+            Some(Work::Turn(lent)) => {
+                let turned = turn_lent(&desk.plan, kinds, groups, lent);
+                put_in(rt, &desk.backs, &mut passes.backs, turned);
+            }
+            Some(Work::End) => break,
+            None => thread::yield_now(),
+        }
+    }
+}
+
+/// Starts a thread that turns groups. It ends once the end is handed to it.
+fn start_one<'s, E, R: Wait + Sync>(
+    scope: &'s Scope<'s, E>,
+    rt: &'s R,
+    desk: &'s Desk,
+    passes: Passes,
+    kinds: &'s Kinds,
+) -> Result<(), AllocError>
+    requires desk { IsDeskOf desk.now kinds.now }
+    requires passes { ArePassesOf desk.now passes }
+{
+    let Passes { works, backs } = passes;
+    let started = scope.spawn(
+        move ||
+            requires { IsDeskOf desk.now kinds.now × IsPassOf desk.now.works desk.now.plan works
+                × IsPassOf desk.now.backs desk.now.plan backs }
+        { serve(rt, desk, Passes { works, backs }, kinds) },
+    );
+    match started {
+        Ok(_) => Ok(()),
+        Err(_) => Err(AllocError),
+    }
+}
+
+/// Starts so many threads that turn groups.
+///
+/// # Errors
+/// Where one can't be started. Those that are started run.
+pub(crate) fn start_all<'s, E, R: Wait + Sync>(
+    scope: &'s Scope<'s, E>,
+    rt: &'s R,
+    desk: &'s Desk,
+    passes: &mut Passes,
+    kinds: &'s Kinds,
+    threads: usize,
+) -> Result<(), AllocError>
+    requires desk { IsDeskOf desk.now kinds.now }
+    requires passes { ArePassesOf desk.now passes.old }
+    ensures { passes.new ≡ passes.old }
+{
+    for _ in 0..threads {
+        let theirs = another(desk, passes);
+        start_one(scope, rt, desk, theirs, kinds)?;
+    }
+    Ok(())
+}
+
+/// Hands the end to so many threads.
+pub(crate) fn end_all<R: Wait>(rt: &R, desk: &Desk, passes: &mut Passes, threads: usize)
+    requires { passes.old.works.line ≡ desk.now.works.line }
+    ensures { passes.new ≡ passes.old }
+{
+    for _ in 0..threads {
+        put_in(rt, &desk.works, &mut passes.works, Work::End);
+    }
+}

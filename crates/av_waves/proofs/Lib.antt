@@ -1,4 +1,0 @@
-pub mod OneTurn
-pub mod Apart
-pub mod Orders
-pub mod Groups

@@ -1,5 +1,0 @@
-use Rattle.av_waves.proofs.Apart.{turned_apart}
-use Rattle.av_waves.proofs.turns_stay_in_their_part.Goals as goal
-
-pub returns : goal.returns
-returns c = turned_apart
