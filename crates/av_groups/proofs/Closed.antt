@@ -12,7 +12,7 @@ use Rattle.av_world.specs.Index.{slot}
 use Rattle.av_groups.specs.declared.groups.Group.{Group}
 use Rattle.av_groups.specs.declared.groups.Touch.{Touch}
 use Rattle.av_groups.specs.declared.cutting.Cutting.{Cutting}
-use Rattle.av_groups.specs.Groups.{touched, NoneTouches, IsGroup, AreGroups}
+use Rattle.av_groups.specs.Groups.{touched, NoneTouches, IsPlaced, IsGroup, AreGroups}
 use Rattle.av_groups.specs.Exact.{IsTouchedBy, IsExact}
 use Rattle.av_groups.specs.Open.{chunks_in, IsLast, IsOpen, IsCut, AreClosed}
 use Rattle.av_groups.specs.Parts.{StaysIn}
@@ -53,6 +53,7 @@ group_still : (w : Land ℕ) (gs : List Group) (g h : Group) (i : ℕ) → i ≤
 group_still w gs g h i below is = record {
   distinct = is.distinct;
   there = is.there;
+  placed = is.placed;
   loaded = is.loaded;
   stay = is.stay;
   behind = All-weaker (λ t. (t.before ≤ i) × NoneTouches gs t.before i t.chunk) (λ t. (t.before ≤ i) × NoneTouches (gs ++ g ∷ []) t.before i t.chunk) (λ t b. (b.0, none_still gs g t.before i t.chunk below b.1)) h.touches.items is.behind;
@@ -66,7 +67,7 @@ module _ (w : Land ℕ) (es : List Entry) (x : Cutting) (is : IsCut w es x) wher
   more = x.closed.items ++ x.gathered ∷ []
 
   is_group : IsGroup w gs (length gs) x.gathered
-  is_group = record { distinct = is.is_open.distinct; there = is.is_open.there; loaded = is.loaded; stay = is.stay; behind = is.is_open.behind }
+  is_group = record { distinct = is.is_open.distinct; there = is.is_open.there; placed = is.is_open.placed; loaded = is.loaded; stay = is.stay; behind = is.is_open.behind }
 
   each : (i : ℕ) (h : Group) → slice_get more i ≡ Some h → IsGroup w more i h
   each i h found = by (push_at gs x.gathered h i found) where
@@ -122,6 +123,7 @@ open_anew w es gs last is = record {
   long = is.groups.long;
   distinct = grind arith;
   there = All-nil (λ c. has_chunk w.chunks c ≡ true);
+  placed = All-nil (IsPlaced w.chunks);
   behind = All-nil (λ t. (t.before ≤ length gs) × NoneTouches gs t.before (length gs) t.chunk);
   exact = All-nil (λ t. IsExact gs t.chunk t.before);
   last_is = λ c m h. record { none = (is.groups.behind c m h).1; touched = λ t. absurd (true≢false (sym t)); free = λ f. (is.groups.behind c m h).0; exact = λ f. is.exact.after c m h };

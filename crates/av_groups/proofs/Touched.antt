@@ -14,7 +14,7 @@ use Rattle.av_world.specs.Index.{slot, IsRising}
 use Rattle.av_world.proofs.ChunkReads.{slot_of_index, slot_there}
 use Rattle.av_groups.specs.declared.groups.Group.{Group}
 use Rattle.av_groups.specs.declared.groups.Touch.{Touch}
-use Rattle.av_groups.specs.Groups.{NoneTouches}
+use Rattle.av_groups.specs.Groups.{NoneTouches, IsPlaced}
 use Rattle.av_groups.specs.Exact.{IsExact}
 use Rattle.av_groups.specs.Open.{chunks_in, IsLast, IsOpen, IsTouched}
 
@@ -52,7 +52,7 @@ is_touched ps ts t = record { touched = λ h. has_more ts t t.chunk ∙ own (has
   own true h = refl
   own false h = h
 
-module _ (ps : List ChunkPos) (gs : List Group) (last : List ℕ) (ts : List Touch) (t : Touch) (i : ℕ) (rising : IsRising ps) (at : slice_get ps i ≡ Some t.chunk) (was : slice_get last i ≡ Some t.before) (there : has_chunk ps t.chunk ≡ true)
+module _ (ps : List ChunkPos) (gs : List Group) (last : List ℕ) (ts : List Touch) (t : Touch) (i : ℕ) (rising : IsRising ps) (at : slice_get ps i ≡ Some t.chunk) (index : t.index ≡ i) (was : slice_get last i ≡ Some t.before) (there : has_chunk ps t.chunk ≡ true)
     (new : has_chunk (chunks_in ts) t.chunk ≡ false) (is : IsOpen ps gs last ts) where
   here : slot ps t.chunk ≡ i
   here = slot_of_index ps t.chunk i rising (slice_get_within ps i t.chunk at) at
@@ -98,6 +98,7 @@ module _ (ps : List ChunkPos) (gs : List Group) (last : List ℕ) (ts : List Tou
     long = length-set last i (length gs + 1) ∙ is.long;
     distinct = subst (AllPairs (λ c d. same_chunk c d ≡ false)) (sym pushed) (all_pairs_push (λ c d. same_chunk c d ≡ false) (chunks_in ts) t.chunk is.distinct (λ k d l. apart (chunks_in ts) t.chunk new k d l));
     there = subst (All (λ c. has_chunk ps c ≡ true)) (sym pushed) (All-push (λ c. has_chunk ps c ≡ true) (chunks_in ts) t.chunk is.there there);
+    placed = All-push (IsPlaced ps) ts t is.placed (ap (slice_get ps) index ∙ at);
     behind = All-push (λ t. (t.before ≤ length gs) × NoneTouches gs t.before (length gs) t.chunk) ts t is.behind (is_last.free new, is_last.none);
     exact = All-push (λ t. IsExact gs t.chunk t.before) ts t is.exact (is_last.exact new);
     last_is = λ d m h. by d m h (cases_eq (slot ps d) i);

@@ -7,6 +7,7 @@ use Rattle.av_cells.specs.Positions.{same_chunk}
 use Rattle.av_land.specs.Land.{Land, has_chunk, is_loaded}
 use Rattle.av_world.specs.Index.{slot}
 use Rattle.av_groups.specs.declared.groups.Group.{Group}
+use Rattle.av_groups.specs.declared.groups.Touch.{Touch}
 use Rattle.av_groups.specs.Parts.{StaysIn}
 
 -- the chunks that a group touches
@@ -17,10 +18,15 @@ touched g = map (λ t. t.chunk) g.touches.items
 abbrev pub NoneTouches : List Group → ℕ → ℕ → ChunkPos → Type 0
 NoneTouches gs a b c = (j : ℕ) (g : Group) → a ≤ j → j < b → slice_get gs j ≡ Some g → has_chunk (touched g) c ≡ false
 
+-- the chunk stands at its index
+abbrev pub IsPlaced : List ChunkPos → Touch → Type 0
+IsPlaced ps t = slice_get ps t.index ≡ Some t.chunk
+
 -- The turns of group i stay in the chunks that it touches. Each of these was touched last before it by the group before `before`.
 pub record IsGroup (w : Land ℕ) (gs : List Group) (i : ℕ) (g : Group) : Type 0 where
   pub distinct : AllPairs (λ c d. same_chunk c d ≡ false) (touched g)
   pub there : All (λ c. has_chunk w.chunks c ≡ true) (touched g)
+  pub placed : All (IsPlaced w.chunks) g.touches.items
   pub loaded : All (λ e. is_loaded w e.pos ≡ true) g.entries.items
   pub stay : All (StaysIn w (has_chunk (touched g))) g.entries.items
   pub behind : All (λ t. (t.before ≤ i) × NoneTouches gs t.before i t.chunk) g.touches.items

@@ -12,7 +12,7 @@ use Rattle.av_world.specs.Index.{slot}
 use Rattle.av_groups.specs.declared.groups.Group.{Group}
 use Rattle.av_groups.specs.declared.groups.Touch.{Touch}
 use Rattle.av_groups.specs.declared.cutting.Cutting.{Cutting}
-use Rattle.av_groups.specs.Groups.{NoneTouches, IsGroup, AreGroups}
+use Rattle.av_groups.specs.Groups.{NoneTouches, IsPlaced, IsGroup, AreGroups}
 use Rattle.av_groups.specs.Exact.{IsExact, AreExact}
 use Rattle.av_groups.specs.Parts.{StaysIn}
 
@@ -36,6 +36,7 @@ pub record IsOpen (ps : List ChunkPos) (gs : List Group) (last : List ℕ) (ts :
   pub long : length last ≡ length ps
   pub distinct : AllPairs (λ c d. same_chunk c d ≡ false) (chunks_in ts)
   pub there : All (λ c. has_chunk ps c ≡ true) (chunks_in ts)
+  pub placed : All (IsPlaced ps) ts
   pub behind : All (λ t. (t.before ≤ length gs) × NoneTouches gs t.before (length gs) t.chunk) ts
   pub exact : All (λ t. IsExact gs t.chunk t.before) ts
   pub last_is : (c : ChunkPos) (m : ℕ) → slice_get last (slot ps c) ≡ Some m → IsLast gs ts c m

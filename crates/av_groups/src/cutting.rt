@@ -93,6 +93,7 @@ fn touch(
     marks.near[near] = touches.len();
     touches.push(Touch {
         chunk,
+        index,
         before: marks.last[index],
     })?;
     marks.last[index] = closed.len() + 1;

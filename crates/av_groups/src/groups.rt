@@ -1,11 +1,12 @@
 //! Groups of a tick's entries.
 use av_types::{ChunkPos, Entry};
 
-/// A chunk that the turns of a group may read or change, and the number of groups that come before it there: one more than
-/// that of the last earlier group that touches it, and 0 where none does.
+/// A chunk that the turns of a group may read or change, its index among the world's positions, and the number of groups that
+/// come before it there: one more than that of the last earlier group that touches it, and 0 where none does.
 #[derive(Clone, Copy, Debug, Drop)]
 pub struct Touch {
     pub chunk: ChunkPos,
+    pub index: usize,
     pub before: usize,
 }
 

@@ -138,6 +138,24 @@ fn the_edge_of_the_world(rt: HostRuntime) -> Result<(), Fail> {
     Ok(())
 }
 
+/// At which indices the chunks stand that a group touches.
+fn expect_indices(rt: &impl Abort, group: &Group, indices: &[usize]) {
+    assert_eq!(rt; group.touches.len(), indices.len());
+    for (touch, want) in group.touches.iter().zip(indices) {
+        assert_eq!(rt; touch.index, *want);
+    }
+}
+
+/// A chunk's index counts those before it by z and then by x.
+#[test]
+fn the_index_of_a_touched_chunk(rt: HostRuntime) -> Result<(), Fail> {
+    let cut = cut_of(rt.alloc(), &SQUARE, &[entry(16, 16), entry(40, 24)])?;
+    assert_eq!(rt; cut.groups.len(), 2);
+    expect_indices(&rt, &cut.groups[0], &[0, 1, 3, 4]);
+    expect_indices(&rt, &cut.groups[1], &[5]);
+    Ok(())
+}
+
 /// With no entries there is no group, and no chunk has a last one.
 #[test]
 fn no_entries(rt: HostRuntime) -> Result<(), Fail> {

@@ -25,6 +25,7 @@ use Rattle.av_groups.specs.Parts.{IsPart}
 use Rattle.av_lending.specs.declared.plans.Plan.{Plan}
 use Rattle.av_lending.specs.Plans.{groups_of, kinds_in, start_of, after, stage_of, IsPlan, IsLentAfter, IsAtStage, IsUnderWay, IsNext, CameTo}
 use Rattle.av_lending.proofs.After.{same_after, loaded_after, IsSameAt}
+use Rattle.av_lending.proofs.Stages.{slot_is}
 
 -- a chunk that is among those touched is that of a touch
 touch_of : (P Q : Touch → Type 0) (ts : List Touch) (c : ChunkPos) → All P ts → All Q ts → has_chunk (map (λ t. t.chunk) ts) c ≡ true → (t : Touch) × (t.chunk ≡ c) × P t × Q t
@@ -65,7 +66,14 @@ kept p m old new c sections list was = record {
 
 -- ---- lending
 
-module _ (p : Plan) (is : IsPlan p) (i : ℕ) (g : Group) (at : slice_get (groups_of p) i ≡ Some g) (old new lent : World) (stages : List (Option ℕ)) (way : IsUnderWay p old stages) (next : IsNext (positions_of p.start.value) stages g)
+-- each chunk that the group touches is as its groups before it leave it, by where it stands among these
+abbrev pub IsNextIn : List ChunkPos → List (Option ℕ) → Group → Type 0
+IsNextIn ps stages g = All (λ t. stage_of ps stages t.chunk ≡ Some t.before) g.touches.items
+
+pub next_in : (p : Plan) → IsPlan p → (i : ℕ) (g : Group) → slice_get (groups_of p) i ≡ Some g → (stages : List (Option ℕ)) → IsNext stages g → IsNextIn (positions_of p.start.value) stages g
+next_in p is i g at stages next k d l = let t = get_or g.touches.items k d in ap (λ n. get_or stages n None) (slot_is p.start.value t.chunk t.index ((is.each i g at).placed k d l)) ∙ next k d l
+
+module _ (p : Plan) (is : IsPlan p) (i : ℕ) (g : Group) (at : slice_get (groups_of p) i ≡ Some g) (old new lent : World) (stages : List (Option ℕ)) (way : IsUnderWay p old stages) (next : IsNextIn (positions_of p.start.value) stages g)
     (l : IsLent old new lent) (has : (c : ChunkPos) → has_chunk (positions_of lent) c ≡ has_chunk (touched g) c) where
   -- the group's chunks are as the groups before it leave them
   staged : (c : ChunkPos) → has_chunk (touched g) c ≡ true → IsAtStage p i old c

@@ -1,7 +1,6 @@
 -- Chunks that come to a stage.
 use Rattle.std.proofs.Common.{get_or-set_same, get_or-set_other, length-set, ◌≡◌, ◌≢◌, ℕ, zero, suc, ◌<◌, ◌≤◌, ◌||◌, ◌++◌, ◌∷◌, [], List, length, get_or, slice_get, slice_set, Bool, true, false, Option, Some, None, refl, sym, ap, subst, ◌∙◌, arith, ◌⊎◌, inl, inr}
-use Rattle.std.proofs.lemmas.Bool.{true≢false, cases_lt}
-use Rattle.std.proofs.lemmas.List.{get_or_default}
+use Rattle.std.proofs.lemmas.Bool.{true≢false}
 use Rattle.std.proofs.lemmas.Option.{slice_get_within, get_or_from_slice_get}
 use Rattle.av_types.specs.declared.place.ChunkPos.{ChunkPos}
 use Rattle.av_types.proofs.SamePlaces.{same_chunk_is, same_chunk_from}
@@ -10,7 +9,7 @@ use Rattle.av_land.specs.Land.{has_chunk}
 use Rattle.av_world.specs.Index.{slot}
 use Rattle.av_world.specs.Views.{positions_of}
 use Rattle.av_world.specs.declared.worlds.World.{World}
-use Rattle.av_world.proofs.ChunkReads.{slot_of_index, has_chunk_there}
+use Rattle.av_world.proofs.ChunkReads.{slot_of_index}
 use Rattle.av_world.specs.Near.{slot_at}
 use Rattle.av_lending.specs.Plans.{stage_of, CameTo, IsBringing}
 
@@ -44,13 +43,6 @@ some_past [] i m h e = true≢false (ap (λ (o : Option ℕ). is_none o) e) wher
 some_past (x ∷ xs) zero m h e = omega (arith, h)
 some_past (x ∷ xs) (suc i) m h e = some_past xs i m (omega (arith, h)) e
 
--- a chunk that is not there stands past the end
-past : (ps : List ChunkPos) (c : ChunkPos) → has_chunk ps c ≡ false → length ps ≤ slot ps c
-past ps c out = by (cases_lt (slot ps c) (length ps)) where
-  by : (slot ps c < length ps) ⊎ (length ps ≤ slot ps c) → length ps ≤ slot ps c
-  by (inl l) = absurd (true≢false (sym (has_chunk_there ps c l) ∙ out))
-  by (inr p) = p
-
 -- one chunk more comes to the stage
 pub one_more : (w : World) (cs : List ChunkPos) (c : ChunkPos) (i : ℕ) (stage : Option ℕ) (old new : List (Option ℕ)) → slice_get (positions_of w) i ≡ Some c → IsBringing (positions_of w) cs stage old new
     → IsBringing (positions_of w) (cs ++ c ∷ []) stage old (slice_set new i stage)
@@ -82,24 +74,6 @@ one_more w cs c i stage old new at was = record { long = length-set new i stage 
       other : ((has_chunk cs d ≡ true) × (stage ≡ Some m)) ⊎ ((has_chunk cs d ≡ false) × (stage_of (positions_of w) old d ≡ Some m)) → ((has_chunk (cs ++ c ∷ []) d ≡ true) × (stage ≡ Some m)) ⊎ ((has_chunk (cs ++ c ∷ []) d ≡ false) × (stage_of (positions_of w) old d ≡ Some m))
       other (inl (t, s)) = inl (none ∙ t, s)
       other (inr (t, s)) = inr (none ∙ t, s)
-
--- a chunk that is not there comes to no stage
-pub absent_more : (ps cs : List ChunkPos) (c : ChunkPos) (stage : Option ℕ) (old new : List (Option ℕ)) → has_chunk ps c ≡ false → IsBringing ps cs stage old new → IsBringing ps (cs ++ c ∷ []) stage old new
-absent_more ps cs c stage old new out was = record { long = was.long; came = came } where
-  came : CameTo ps (cs ++ c ∷ []) stage old new
-  came d m h = by (same_chunk c d) refl where
-    by : (t : Bool) → same_chunk c d ≡ t → ((has_chunk (cs ++ c ∷ []) d ≡ true) × (stage ≡ Some m)) ⊎ ((has_chunk (cs ++ c ∷ []) d ≡ false) × (stage_of ps old d ≡ Some m))
-    by true e = absurd (some_past new (slot ps d) m (subst (λ n. n ≤ slot ps d) (sym was.long) (past ps d (ap (has_chunk ps) (sym (same_chunk_is c d e)) ∙ out))) h)
-    by false e = other (was.came d m h) where
-      none : has_chunk (cs ++ c ∷ []) d ≡ has_chunk cs d
-      none = has_last cs c d ∙ ap (λ t. has_chunk cs d || t) e ∙ or_false (has_chunk cs d)
-
-      other : ((has_chunk cs d ≡ true) × (stage ≡ Some m)) ⊎ ((has_chunk cs d ≡ false) × (stage_of ps old d ≡ Some m)) → ((has_chunk (cs ++ c ∷ []) d ≡ true) × (stage ≡ Some m)) ⊎ ((has_chunk (cs ++ c ∷ []) d ≡ false) × (stage_of ps old d ≡ Some m))
-      other (inl (t, s)) = inl (none ∙ t, s)
-      other (inr (t, s)) = inr (none ∙ t, s)
-
-pub stage_is : (w : World) (stages : List (Option ℕ)) (c : ChunkPos) (i : ℕ) (o d : Option ℕ) → slice_get (positions_of w) i ≡ Some c → i < length stages → get_or stages i d ≡ o → stage_of (positions_of w) stages c ≡ o
-stage_is w stages c i o d at below is = ap (λ n. get_or stages n None) (slot_is w c i at) ∙ get_or_default stages i None d below ∙ is
 
 pub nothing_yet : (ps : List ChunkPos) (stage : Option ℕ) (old : List (Option ℕ)) → length old ≡ length ps → IsBringing ps [] stage old old
 nothing_yet ps stage old long = record { long = long; came = λ c m h. inr (refl, h) }

@@ -4,9 +4,10 @@ ghost use Rattle.av_world.specs.Lands.{land_of};
 ghost use Rattle.av_world.specs.Views.{positions_of};
 ghost use Rattle.av_types.specs.declared.place.ChunkPos.{ChunkPos};
 ghost use Rattle.av_types.specs.declared.tick.Entry.{Entry};
-ghost use Rattle.av_groups.specs.Groups.{AreGroups};
+ghost use Rattle.av_world.specs.declared.worlds.World.{World};
+ghost use Rattle.av_groups.specs.Groups.{AreGroups, IsPlaced};
 ghost use Rattle.av_groups.specs.declared.groups.Group.{Group};
-ghost use Rattle.av_lending.specs.Plans.{IsPlanOf, IsLentAfter, IsUnderWay, IsNext, IsFinished, IsPlan, IsBringing, stage_of};
+ghost use Rattle.av_lending.specs.Plans.{IsPlanOf, IsLentAfter, IsUnderWay, IsReadyAt, IsNext, IsFinished, IsPlan, IsBringing, AreBrought};
 
 use crate::lent::Lent;
 use crate::plans::Plan;
@@ -46,53 +47,42 @@ fn chunks_of(alloc: Global, touches: &[Touch]) -> Result<Vec<ChunkPos>, AllocErr
     Ok(chunks)
 }
 
-/// The index of a touched chunk, if it is not yet as the group needs it.
-#[tactic(auto, using(crate::proofs::Stages::stage_is))]
-fn other_stage(stages: &[Option<usize>], world: &World, touch: &Touch) -> Option<usize>
-    ensures { IfNone result (stage_of (positions_of world.now) stages.now touch.now.chunk
-        ≡ Some touch.now.before) }
+/// Whether a chunk is as a group that touches it needs it.
+fn is_ready(stages: &[Option<usize>], touch: &Touch) -> bool
+    ensures { result ≡ true → IsReadyAt stages.now touch.now }
 {
-    let Some(index) = world.index_of(touch.chunk) else {
-        return Some(stages.len());
-    };
-    if index >= stages.len() {
-        return Some(index);
+    if touch.index >= stages.len() {
+        return false;
     }
-    match stages[index] {
-        Some(stage) if stage == touch.before => None,
-        _ => Some(index),
+    match stages[touch.index] {
+        Some(stage) => stage == touch.before,
+        None => false,
     }
 }
 
 /// The index of a chunk that is not yet as a group needs it. None: the group is ready.
-fn blocked(stages: &[Option<usize>], world: &World, touches: &[Touch]) -> Option<usize>
-    ensures { IfNone result (All (λ touch. stage_of (positions_of world.now) stages.now touch.chunk
-        ≡ Some touch.before) touches.now) }
+fn blocked(stages: &[Option<usize>], touches: &[Touch]) -> Option<usize>
+    ensures { IfNone result (All (IsReadyAt stages.now) touches.now) }
 {
     for touch in touches {
-        if let Some(index) = other_stage(stages, world, touch) {
-            return Some(index);
+        if !is_ready(stages, touch) {
+            return Some(touch.index);
         }
     }
     None
 }
 
 /// The next group that is ready.
-fn find(
-    stages: &[Option<usize>],
-    waiting: &mut Waiting,
-    world: &World,
-    groups: &[Group],
-) -> Option<usize>
+fn find(stages: &[Option<usize>], waiting: &mut Waiting, groups: &[Group]) -> Option<usize>
     ensures { IfSome result (λ number. (group : Group) × (slice_get groups.now number ≡ Some group)
-        × IsNext (positions_of world.now) stages.now group) }
+        × IsNext stages.now group) }
 {
     for _ in 0..=groups.len() {
         let number = waiting.take()?;
         if number >= groups.len() {
             return None;
         }
-        match blocked(stages, world, groups[number].touches.as_slice()) {
+        match blocked(stages, groups[number].touches.as_slice()) {
             Some(chunk) => waiting.wait(number, chunk),
             None => return Some(number),
         }
@@ -101,35 +91,30 @@ fn find(
 }
 
 /// A chunk comes to a stage.
-#[tactic(auto, using(crate::proofs::Stages::one_more, crate::proofs::Stages::absent_more))]
-fn bring_one(stages: &mut Vec<Option<usize>>, world: &World, at: ChunkPos, stage: Option<usize>)
-    requires long { length stages.old.items ≡ length (positions_of world.now) }
-    ensures { (chunks : List ChunkPos) (before : List (Option ℕ))
-        → IsBringing (positions_of world.now) chunks stage before stages.old.items
-        → IsBringing (positions_of world.now) (chunks ++ at ∷ []) stage before stages.new.items }
+fn bring_one(stages: &mut Vec<Option<usize>>, touch: &Touch, stage: Option<usize>)
+    ensures { (w : World) (chunks : List ChunkPos) (before : List (Option ℕ))
+        → IsPlaced (positions_of w) touch.now
+        → IsBringing (positions_of w) chunks stage before stages.old.items
+        → IsBringing (positions_of w) (chunks ++ touch.now.chunk ∷ []) stage before stages.new.items }
 {
-    if let Some(index) = world.index_of(at) {
-        stages[index] = stage;
+    if touch.index < stages.len() {
+        stages[touch.index] = stage;
     }
 }
 
 /// The chunks that a group touches come to a stage.
-fn bring(stages: &mut Vec<Option<usize>>, world: &World, touches: &[Touch], stage: Option<usize>)
-    requires long { length stages.old.items ≡ length (positions_of world.now) }
-    ensures { IsBringing (positions_of world.now) (map (λ touch. touch.chunk) touches.now) stage
-        stages.old.items stages.new.items }
+fn bring(stages: &mut Vec<Option<usize>>, touches: &[Touch], stage: Option<usize>)
+    ensures { AreBrought touches.now stage stages.old.items stages.new.items }
 {
     for touch in touches {
-        bring_one(stages, world, touch.chunk, stage);
+        bring_one(stages, touch, stage);
     }
 }
 
 /// The groups that wait for one of these chunks may be ready.
-fn release(waiting: &mut Waiting, world: &World, touches: &[Touch]) {
+fn release(waiting: &mut Waiting, touches: &[Touch]) {
     for touch in touches {
-        if let Some(index) = world.index_of(touch.chunk) {
-            waiting.release(index);
-        }
+        waiting.release(touch.index);
     }
 }
 
@@ -196,14 +181,14 @@ impl Lender {
         requires plan { IsPlanOf plan.now kinds.now groups.now }
         requires under_way { IsUnderWay plan.now world.old self.old }
         requires next { (group : Group) × (slice_get groups.now number ≡ Some group)
-            × IsNext (positions_of world.old) self.old group }
+            × IsNext self.old group }
         ensures under_way { OnOk result (IsUnderWay plan.now world.new self.new) }
         ensures lent { IfOk result (λ lent. IsLentAfter plan.now lent.number lent.number lent.world) }
     {
         let touches = groups[number].touches.as_slice();
         let chunks = chunks_of(alloc, touches)?;
         let lent = world.lend(chunks.as_slice())?;
-        bring(&mut self.stages, world, touches, None);
+        bring(&mut self.stages, touches, None);
         Ok(Lent {
             number,
             world: lent,
@@ -228,7 +213,7 @@ impl Lender {
         ensures lent { IfOk result (λ some. IfSome some
             (λ lent. IsLentAfter plan.now lent.number lent.number lent.world)) }
     {
-        match find(self.stages.as_slice(), &mut self.waiting, world, groups) {
+        match find(self.stages.as_slice(), &mut self.waiting, groups) {
             Some(number) => {
                 let lent = self.lend_group(alloc, plan, world, kinds, groups, number)?;
                 Ok(Some(lent))
@@ -255,8 +240,8 @@ impl Lender {
         let touches = groups[number].touches.as_slice();
         let stage = Some(number + 1);
         world.take_back(back);
-        bring(&mut self.stages, world, touches, stage);
-        release(&mut self.waiting, world, touches);
+        bring(&mut self.stages, touches, stage);
+        release(&mut self.waiting, touches);
         self.left = self.left.saturating_sub(1);
     }
 

@@ -8,7 +8,7 @@ pub mod lent;
 pub mod plans;
 mod waiting;
 
-pub use handed::Work;
+pub use handed::{Keeper, Work};
 pub use lender::Lender;
 pub use lent::{Lent, Turned, turn_lent};
 pub use plans::Plan;

@@ -1,6 +1,5 @@
 //! A tick in groups, as clauses see it.
 ghost use Rattle.std.specs.Prelude.{◌≡◌};
-ghost use Rattle.std.specs.Prelude.{◌≡◌};
 
 use av_groups::groups::Group;
 use av_rules::Kinds;

@@ -20,7 +20,8 @@ pub record IsPassOf (line : LineShown) (p : Plan) (q : PassShown Plan) : Type 0 
   pub line_is : q.line ≡ line.line
   pub plan_is : q.plan ≡ p
 
--- a pass of the line of work, and one of the line of what comes back
+-- a pass of the line of work, one of the line of what comes back, and one of that of the tick's world
 pub record ArePassesOf (d : Desk) (q : Passes) : Type 0 where
   pub of_works : IsPassOf d.works d.plan q.works
   pub of_backs : IsPassOf d.backs d.plan q.backs
+  pub of_keepers : IsPassOf d.keepers d.plan q.keepers

@@ -1,9 +1,9 @@
 //! The entries of a tick turned by several threads, which share its groups out among them.
 #![tactic(auto)]
 
-mod lead;
 mod lines;
 mod serve;
 mod team;
+mod tend;
 
 pub use team::turn_in_groups;

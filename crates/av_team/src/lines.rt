@@ -2,37 +2,43 @@
 ghost use Rattle.std.specs.Prelude.{◌≡◌};
 
 use av_groups::groups::Groups;
-use av_lending::{Plan, Turned, Work};
+use av_lending::{Keeper, Plan, Turned, Work};
 use av_line::{Fits, Line, LinePass};
 use std::sync::Wait;
 
-/// What the threads of a tick share: the line of groups that may be turned, that of groups that are, and the tick's plan and
-/// groups.
+/// What the threads of a tick share: the line of groups that may be turned, that of groups that are, that of the tick's world,
+/// which is empty while a thread has it, and the tick's plan and groups.
 #[derive(Drop)]
 pub(crate) struct Desk {
     pub(crate) works: Line<Work, Plan>,
     pub(crate) backs: Line<Turned, Plan>,
+    pub(crate) keepers: Line<Keeper, Plan>,
     pub(crate) plan: Plan,
     pub(crate) groups: Groups,
+    /// How many threads there are, with the calling one.
+    pub(crate) threads: usize,
 }
 
-/// A thread's passes of both lines.
+/// A thread's passes of the lines.
 #[derive(Drop)]
 pub(crate) struct Passes {
     pub(crate) works: LinePass<Work, Plan>,
     pub(crate) backs: LinePass<Turned, Plan>,
+    pub(crate) keepers: LinePass<Keeper, Plan>,
 }
 
 /// Passes for one thread more.
 pub(crate) fn another(desk: &Desk, passes: &mut Passes) -> Passes
     requires works { passes.old.works.line ≡ desk.now.works.line }
     requires backs { passes.old.backs.line ≡ desk.now.backs.line }
+    requires keepers { passes.old.keepers.line ≡ desk.now.keepers.line }
     ensures same { passes.new ≡ passes.old }
     ensures another { result ≡ passes.old }
 {
     Passes {
         works: desk.works.another(&mut passes.works),
         backs: desk.backs.another(&mut passes.backs),
+        keepers: desk.keepers.another(&mut passes.keepers),
     }
 }
 
@@ -53,5 +59,15 @@ pub(crate) fn put_in<T: Fits<Plan> + Drop + Send, R: Wait>(
             Ok(()) => return,
             Err(back) => item = back,
         }
+    }
+}
+
+/// Hands the end out, once for each thread.
+pub(crate) fn end_all<R: Wait>(rt: &R, desk: &Desk, passes: &mut Passes)
+    requires { passes.old.works.line ≡ desk.now.works.line }
+    ensures { passes.new ≡ passes.old }
+{
+    for _ in 0..desk.threads {
+        put_in(rt, &desk.works, &mut passes.works, Work::End);
     }
 }

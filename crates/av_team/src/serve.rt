@@ -1,8 +1,9 @@
 //! Threads that turn groups.
 ghost use Rattle.std.specs.Prelude.{◌≡◌};
-ghost use Rattle.av_team.specs.Lines.{ArePassesOf, IsDeskOf, IsPassOf};
+ghost use Rattle.av_team.specs.Lines.{ArePassesOf, IsDeskOf};
 
 use crate::lines::{Desk, Passes, another, put_in};
+use crate::tend::tend;
 use av_lending::{Work, turn_lent};
 use av_rules::Kinds;
 use std::alloc::AllocError;
@@ -10,13 +11,15 @@ use std::sync::Wait;
 use std::thread;
 use std::thread::Scope;
 
-/// Turns the groups that are handed out, until the end is.
-fn serve<R: Wait>(rt: &R, desk: &Desk, mut passes: Passes, kinds: &Kinds)
+/// Turns the groups that are handed out, and tends the tick's world while no other thread does, until the end is handed out.
+pub(crate) fn serve<R: Wait>(rt: &R, desk: &Desk, mut passes: Passes, kinds: &Kinds)
     requires desk { IsDeskOf desk.now kinds.now }
     requires passes { ArePassesOf desk.now passes }
 {
+    let alloc = *desk.groups.groups.allocator();
     let groups = desk.groups.groups.as_slice();
     for _ in rt.forever() {
+        tend(rt, alloc, desk, &mut passes, kinds);
         match desk.works.take(rt, &mut passes.works) {
             Some(Work::Turn(lent)) => {
                 let turned = turn_lent(&desk.plan, kinds, groups, lent);
@@ -39,12 +42,10 @@ fn start_one<'s, E, R: Wait + Sync>(
     requires desk { IsDeskOf desk.now kinds.now }
     requires passes { ArePassesOf desk.now passes }
 {
-    let Passes { works, backs } = passes;
     let started = scope.spawn(
         move ||
-            requires { IsDeskOf desk.now kinds.now × IsPassOf desk.now.works desk.now.plan works
-                × IsPassOf desk.now.backs desk.now.plan backs }
-        { serve(rt, desk, Passes { works, backs }, kinds) },
+            requires { IsDeskOf desk.now kinds.now × ArePassesOf desk.now passes }
+        { serve(rt, desk, passes, kinds) },
     );
     match started {
         Ok(_) => Ok(()),
@@ -52,7 +53,7 @@ fn start_one<'s, E, R: Wait + Sync>(
     }
 }
 
-/// Starts so many threads that turn groups.
+/// Starts all threads but the calling one.
 ///
 /// # Errors
 /// Where one can't be started. Those that are started run.
@@ -62,25 +63,14 @@ pub(crate) fn start_all<'s, E, R: Wait + Sync>(
     desk: &'s Desk,
     passes: &mut Passes,
     kinds: &'s Kinds,
-    threads: usize,
 ) -> Result<(), AllocError>
     requires desk { IsDeskOf desk.now kinds.now }
     requires passes { ArePassesOf desk.now passes.old }
     ensures { passes.new ≡ passes.old }
 {
-    for _ in 0..threads {
+    for _ in 1..desk.threads {
         let theirs = another(desk, passes);
         start_one(scope, rt, desk, theirs, kinds)?;
     }
     Ok(())
-}
-
-/// Hands the end to so many threads.
-pub(crate) fn end_all<R: Wait>(rt: &R, desk: &Desk, passes: &mut Passes, threads: usize)
-    requires { passes.old.works.line ≡ desk.now.works.line }
-    ensures { passes.new ≡ passes.old }
-{
-    for _ in 0..threads {
-        put_in(rt, &desk.works, &mut passes.works, Work::End);
-    }
 }

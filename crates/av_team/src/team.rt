@@ -7,15 +7,15 @@ ghost use Rattle.av_land.specs.Tick.{turned_all};
 ghost use Rattle.av_world.specs.Lands.{land_of};
 ghost use Rattle.av_world.specs.Views.{blocks};
 ghost use Rattle.av_serial.specs.Ready.{IsReady, IsSamePlace};
-ghost use Rattle.av_lending.specs.Plans.{IsUnderWay, IsFinished};
-ghost use Rattle.av_team.specs.Lines.{ArePassesOf, IsDeskOf};
+ghost use Rattle.av_lending.specs.Handed.{IsKeeperOf};
+ghost use Rattle.av_lending.specs.Plans.{IsFinished};
+ghost use Rattle.av_team.specs.Lines.{ArePassesOf, IsDeskOf, IsPassOf};
 
-use crate::lead::lead;
-use crate::lines::{Desk, Passes};
-use crate::serve::{end_all, start_all};
+use crate::lines::{Desk, Passes, end_all, put_in};
+use crate::serve::{serve, start_all};
 use av_groups::cutting::cut;
-use av_lending::{Lender, Plan};
-use av_line::Line;
+use av_lending::{Keeper, Lender, Plan};
+use av_line::{Line, LinePass};
 use av_rules::Kinds;
 use av_types::Entry;
 use av_world::World;
@@ -24,57 +24,71 @@ use std::sync::Wait;
 use std::thread::{Scope, Threads};
 use std::{mem, thread};
 
-/// Turns all groups, by this thread and so many more, which end before it returns.
+/// Turns all groups, by this thread and the others, which end before it returns. The keeper is in its line once they are started.
 fn in_scope<'s, E, R: Wait + Sync>(
     scope: &'s Scope<'s, E>,
     rt: &'s R,
-    alloc: Global,
     desk: &'s Desk,
     mut passes: Passes,
     kinds: &'s Kinds,
-    lender: Lender,
-    world: World,
-    more: usize,
-) -> Result<World, AllocError>
+    keeper: Keeper,
+)
     requires desk { IsDeskOf desk.now kinds.now }
     requires passes { ArePassesOf desk.now passes }
-    requires under_way { IsUnderWay desk.now.plan world lender }
-    ensures { IfOk result (IsFinished desk.now.plan) }
+    requires keeper { IsKeeperOf desk.now.plan keeper }
 {
-    let started = start_all(scope, rt, desk, &mut passes, kinds, more);
-    let led = match started {
-        Ok(()) => lead(rt, alloc, desk, &mut passes, kinds, lender, world),
-        Err(refused) => Err(refused),
-    };
-    end_all(rt, desk, &mut passes, more);
-    led
+    match start_all(scope, rt, desk, &mut passes, kinds) {
+        Ok(()) => put_in(rt, &desk.keepers, &mut passes.keepers, keeper),
+        Err(_) => end_all(rt, desk, &mut passes),
+    }
+    serve(rt, desk, passes, kinds);
 }
 
-/// Turns all groups, by this thread and so many more.
+/// Turns all groups, by this thread and the others. Then the keeper is in its line again, unless memory was refused.
 fn in_threads<R: Threads + Wait + Sync>(
     rt: &R,
-    alloc: Global,
     desk: &Desk,
     passes: Passes,
     kinds: &Kinds,
-    lender: Lender,
-    world: World,
-    more: usize,
-) -> Result<World, AllocError>
+    keeper: Keeper,
+)
     requires desk { IsDeskOf desk.now kinds.now }
     requires passes { ArePassesOf desk.now passes }
-    requires under_way { IsUnderWay desk.now.plan world lender }
-    ensures { IfOk result (IsFinished desk.now.plan) }
+    requires keeper { IsKeeperOf desk.now.plan keeper }
 {
     thread::scope(
         thread::scope_env(),
         rt,
-        |scope| -> Result<World, AllocError>
+        |scope|
             requires { IsDeskOf desk.now kinds.now × ArePassesOf desk.now passes
-                × IsUnderWay desk.now.plan world lender }
-            ensures { IfOk result (IsFinished desk.entry.now.plan) }
-        { in_scope(scope, rt, alloc, desk, passes, kinds, lender, world, more) },
+                × IsKeeperOf desk.now.plan keeper }
+        { in_scope(scope, rt, desk, passes, kinds, keeper) },
     )
+}
+
+/// The world that the keeper leaves in its line.
+///
+/// # Errors
+/// Where there is none: memory was refused to a thread.
+fn finish<R: Wait>(
+    rt: &R,
+    desk: &Desk,
+    mut pass: LinePass<Keeper, Plan>,
+    kinds: &Kinds,
+) -> Result<World, AllocError>
+    requires desk { IsDeskOf desk.now kinds.now }
+    requires pass { IsPassOf desk.now.keepers desk.now.plan pass }
+    ensures { IfOk result (IsFinished desk.now.plan) }
+{
+    let Some(keeper) = desk.keepers.take(rt, &mut pass) else {
+        return Err(AllocError);
+    };
+    let Keeper { lender, world, .. } = keeper;
+    if lender.is_done(&desk.plan, &world, kinds, &desk.groups) {
+        Ok(world)
+    } else {
+        Err(AllocError)
+    }
 }
 
 /// Turns the blocks of some entries in tick `now`, one after the other, in groups that the calling thread and others share
@@ -103,28 +117,35 @@ pub fn turn_in_groups<R: Threads + Wait + Sync>(
     let count = groups.groups.len();
     let plan = Plan::new(now, kinds, world, &groups.groups);
     let lender = Lender::new(alloc, &plan, world, groups.groups.as_slice())?;
-    let room = count.saturating_add(workers);
+    let threads = workers.min(count).max(1);
+    let room = count.saturating_add(threads);
     let works_plan = Plan::new(now, kinds, world, &groups.groups);
     let (works, works_pass) = Line::open(rt, alloc, works_plan, room)?;
     let backs_plan = Plan::new(now, kinds, world, &groups.groups);
     let (backs, backs_pass) = Line::open(rt, alloc, backs_plan, room)?;
+    let keepers_plan = Plan::new(now, kinds, world, &groups.groups);
+    let (keepers, mut keepers_pass) = Line::open(rt, alloc, keepers_plan, 1)?;
+    let last_pass = keepers.another(&mut keepers_pass);
     let desk = Desk {
         works,
         backs,
+        keepers,
         plan,
         groups,
+        threads,
     };
     let passes = Passes {
         works: works_pass,
         backs: backs_pass,
+        keepers: keepers_pass,
     };
     let height = world.height();
-    let given = mem::replace(world, World::new(alloc, height));
-    let more = workers.min(count).saturating_sub(1);
-    let turned = in_threads(rt, alloc, &desk, passes, kinds, lender, given, more);
-    let Ok(turned) = turned else {
-        return Err(AllocError);
+    let keeper = Keeper {
+        lender,
+        world: mem::replace(world, World::new(alloc, height)),
+        has_ended: false,
     };
-    *world = turned;
+    in_threads(rt, &desk, passes, kinds, keeper);
+    *world = finish(rt, &desk, last_pass, kinds)?;
     Ok(())
 }

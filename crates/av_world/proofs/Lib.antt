@@ -27,3 +27,4 @@ pub mod Mending
 pub mod ExchangedChunks
 pub mod LentChunks
 pub mod TakenChunks
+pub mod Crossings

@@ -1,5 +1,5 @@
 //! Chunks that are lent out of a world, and taken back.
-ghost use Rattle.std.specs.Prelude.{◌≡◌, ◌<◌, ◌||◌, false, true, length, All, IfOk, OnOk};
+ghost use Rattle.std.specs.Prelude.{◌≡◌, ◌<◌, ◌||◌, false, true, length, None, All, IfOk, OnOk};
 ghost use Rattle.std.specs.List.{AllPairs};
 ghost use Rattle.av_types.specs.declared.place.ChunkPos.{ChunkPos};
 ghost use Rattle.av_world.specs.declared.worlds.World.{World};
@@ -9,18 +9,47 @@ ghost use Rattle.av_world.specs.Chunks.{IsChunkOf};
 ghost use Rattle.av_world.specs.Index.{slot};
 ghost use Rattle.av_world.specs.Inserted.{IsNewChunk};
 ghost use Rattle.av_world.specs.Lending.{IsBare, IsExchanged, IsLent, IsTakenBack};
-ghost use Rattle.av_world.specs.Views.{height_of, is_broken, positions_of};
+ghost use Rattle.av_world.specs.Views.{grid, height_of, is_broken, lists, positions_of};
 
 use crate::carving::empty_slots;
 use crate::worlds::World;
 use av_chunk::Chunk;
+use av_section::Section;
 use av_ticks::TickList;
 use av_types::{ChunkPos, Height};
 use std::alloc::{AllocError, Global};
 use std::mem;
 
-/// A chunk of which all sections are out, without entries.
-fn bare_chunk(alloc: Global, height: Height) -> Result<Chunk, AllocError>
+/// Whether a section is out.
+fn is_out(section: &Option<Section>) -> bool
+    ensures { result ≡ true → section.now ≡ None }
+{
+    section.is_none()
+}
+
+/// Whether all sections are out.
+fn are_out(sections: &[Option<Section>]) -> bool
+    ensures { result ≡ true → All (λ o. o ≡ None) sections.now }
+{
+    for section in sections {
+        if !is_out(section) {
+            return false;
+        }
+    }
+    true
+}
+
+/// Whether all sections of a chunk are out, and it has no entries.
+fn is_bare(chunk: &Chunk, height: Height) -> bool
+    ensures { result ≡ true → IsBare height chunk.now }
+{
+    chunk.sections.len() == height.sections as usize
+        && chunk.ticks.is_empty()
+        && are_out(chunk.sections.as_slice())
+}
+
+/// A new chunk of which all sections are out, without entries.
+fn new_bare(alloc: Global, height: Height) -> Result<Chunk, AllocError>
     ensures { IfOk result (IsBare height) }
 {
     let sections = empty_slots(alloc, height.sections as usize)?;
@@ -28,6 +57,24 @@ fn bare_chunk(alloc: Global, height: Height) -> Result<Chunk, AllocError>
         sections,
         ticks: TickList::new(alloc),
     })
+}
+
+/// A chunk of which all sections are out, without entries: the last of the spare ones, if it is one, so that no memory is asked
+/// for again and again.
+fn bare_chunk(spares: &mut Vec<Chunk>, alloc: Global, height: Height) -> Result<Chunk, AllocError>
+    ensures { IfOk result (IsBare height) }
+{
+    if let Some(spare) = spares.pop() {
+        if is_bare(&spare, height) {
+            return Ok(spare);
+        }
+    }
+    new_bare(alloc, height)
+}
+
+/// Keeps a chunk, unless memory is refused: then it goes.
+fn keep(spares: &mut Vec<Chunk>, chunk: Chunk) {
+    let _ = spares.push(chunk);
 }
 
 impl World {
@@ -43,6 +90,19 @@ impl World {
         mem::replace(&mut self.chunks[index], chunk)
     }
 
+    /// Makes room for so many chunks more.
+    fn make_room(&mut self, count: usize) -> Result<(), AllocError>
+        ensures grid { grid self.new ≡ grid self.old }
+        ensures lists { lists self.new ≡ lists self.old }
+        ensures height { height_of self.new ≡ height_of self.old }
+        ensures positions { positions_of self.new ≡ positions_of self.old }
+        ensures broken { is_broken self.new ≡ is_broken self.old }
+    {
+        self.positions.reserve(count)?;
+        self.chunks.reserve(count)?;
+        Ok(())
+    }
+
     /// Lends a chunk more.
     fn lend_one(&mut self, at: ChunkPos, lent: &mut World) -> Result<(), AllocError>
         requires there { slot (positions_of self.old) at < length (positions_of self.old) }
@@ -54,7 +114,8 @@ impl World {
             ≡ (same_chunk at c || has_chunk (positions_of lent.old) c)) }
         ensures sound { is_broken lent.new ≡ is_broken lent.old }
     {
-        let bare = bare_chunk(*self.positions.allocator(), self.height)?;
+        let alloc = *self.positions.allocator();
+        let bare = bare_chunk(&mut self.spares, alloc, self.height)?;
         let chunk = self.exchange_chunk(at, bare);
         let Ok(()) = lent.insert(at, chunk) else {
             return Err(AllocError);
@@ -77,6 +138,7 @@ impl World {
         ensures sound { IfOk result (λ lent. is_broken lent ≡ false) }
     {
         let mut lent = World::new(*self.positions.allocator(), self.height);
+        lent.make_room(at.len())?;
         for at in at {
             self.lend_one(*at, &mut lent)?;
         }
@@ -97,7 +159,8 @@ impl World {
         } = lent;
         let mut index = 0;
         for chunk in chunks {
-            self.exchange_chunk(positions[index], chunk);
+            let out = self.exchange_chunk(positions[index], chunk);
+            keep(&mut self.spares, out);
             index += 1;
         }
     }

@@ -254,6 +254,21 @@ fn a_chunk_is_lent_twice(rt: HostRuntime) -> Result<(), Fail> {
     Ok(())
 }
 
+/// A world takes chunks back that it never lent. What stood there is gone, and is not left there by what is lent afterwards.
+#[test]
+fn a_chunk_comes_from_another_world(rt: HostRuntime) -> Result<(), Fail> {
+    let mut world = three_chunks(rt.alloc())?;
+    let other = flat_world(rt.alloc(), Height::game(), &[EAST])?;
+    take_back(&mut world, other)?;
+    expect_numbers(&rt, &world, &[(AT_SOURCE.pos, Some(0))]);
+    expect_lists(&rt, &world, &[HERE], &[], &[]);
+    let _ = lend_one(&mut world, EAST)?;
+    let blocks = [(AT_SOURCE.pos, false), (at(20, 63, 5), false)];
+    expect_loaded(&rt, &world, blocks.as_slice());
+    expect_lists(&rt, &world, &[HERE], &[], &[]);
+    Ok(())
+}
+
 /// A world comes back, and then another. A block of each is loaded from then on.
 fn take_both(
     rt: &impl Abort,

@@ -30,10 +30,10 @@ returns-clause-gathered c =
     let told : c.is_touched.result ≡ list_any (λ t. same_chunk t.chunk c.args.chunk) ts = c.is_touched.ensures ∙ ap (list_any (λ t. same_chunk t.chunk c.args.chunk)) c.as_slice.ensures.value in
     let new : has_chunk (chunks_in ts) c.args.chunk ≡ false = has_any ts c.args.chunk ∙ sym told ∙ c.if-is_touched.false in
     subst (λ xs. IsOpen ps c.args.closed.now (slice_set last i (length c.args.closed.now + 1)) xs) (sym c.in_ok-push.ensures.items)
-    (open_more ps c.args.closed.now last ts (record { chunk = c.args.chunk; before = c.index.result.now }) i c.args.world.now.lawful.rising c.in-Some.ensures.found was c.in-Some.ensures.there new c.requires)
+    (open_more ps c.args.closed.now last ts (record { chunk = c.args.chunk; index = i; before = c.index.result.now }) i c.args.world.now.lawful.rising c.in-Some.ensures.found refl was c.in-Some.ensures.there new c.requires)
 
 pub returns-clause-touched : goal.returns-clause-touched
 returns-clause-touched c =
     let ps = positions_of c.args.world.now in
     let ts = c.args.touches.now.items in
-    subst (λ xs. IsTouched ps ts xs c.args.chunk) (sym c.in_ok-push.ensures.items) (is_touched ps ts (record { chunk = c.args.chunk; before = c.index.result.now }))
+    subst (λ xs. IsTouched ps ts xs c.args.chunk) (sym c.in_ok-push.ensures.items) (is_touched ps ts (record { chunk = c.args.chunk; index = c.in-Some.index; before = c.index.result.now }))

@@ -7,8 +7,9 @@ use Rattle.av_lending.specs.Plans.{IsBringing}
 use Rattle.av_lending.proofs.lender.bring.Goals as goal
 
 pub loop-touch-preserved : goal.loop-touch-preserved
-loop-touch-preserved c =
+loop-touch-preserved c = λ w placed long.
     let ts = c.args.touches.now in
     let i = c.loop-touch.touch-index in
-    subst (λ cs. IsBringing (positions_of c.args.world.now) cs c.args.stage c.args.stages.now.items c.bring_one.new.stages.items) (sym (ap (map (λ (t : Touch). t.chunk)) (take_more ts i _ c.loop-touch-test.true) ∙ map-append (λ (t : Touch). t.chunk) (take i ts) _))
-    (c.bring_one.ensures (map (λ t. t.chunk) (take i ts)) c.args.stages.now.items c.loop-touch.invariant)
+    subst (λ cs. IsBringing (positions_of w) cs c.args.stage c.args.stages.now.items c.bring_one.new.stages.items)
+    (sym (ap (map (λ (t : Touch). t.chunk)) (take_more ts i _ c.loop-touch-test.true) ∙ map-append (λ (t : Touch). t.chunk) (take i ts) _))
+    (c.bring_one.ensures w (map (λ t. t.chunk) (take i ts)) c.args.stages.now.items (placed i _ c.loop-touch-test.true) (c.loop-touch.invariant w placed long))

@@ -2,7 +2,8 @@ use Rattle.std.proofs.Common.{sym, subst}
 use Rattle.std.specs.List.{All}
 use Rattle.std.proofs.Crossing.{crosses}
 use denote.Param.Send.{sendable}
-use Rattle.av_image.proofs.Crossings.{world_sync, region_sync}
+use Rattle.av_world.proofs.Crossings.{world_sync}
+use Rattle.av_image.proofs.Crossings.{region_sync}
 use Rattle.av_dealt.specs.Dealt.{IsTaken}
 use Rattle.av_dealt.proofs.Given.{all_given}
 use Rattle.av_image.specs.Making.{IsMade}

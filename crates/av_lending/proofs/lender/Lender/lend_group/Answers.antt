@@ -8,9 +8,9 @@ use Rattle.av_world.specs.Index.{slot}
 use Rattle.av_world.specs.Views.{positions_of}
 use Rattle.av_groups.specs.declared.groups.Group.{Group}
 use Rattle.av_groups.specs.declared.groups.Touch.{Touch}
-use Rattle.av_groups.specs.Groups.{touched}
-use Rattle.av_lending.specs.Plans.{IsBringing, IsNext}
-use Rattle.av_lending.proofs.Chunks.{given, still_under_way, all_there}
+use Rattle.av_groups.specs.Groups.{touched, IsPlaced}
+use Rattle.av_lending.specs.Plans.{IsBringing}
+use Rattle.av_lending.proofs.Chunks.{given, still_under_way, all_there, next_in}
 use Rattle.av_lending.proofs.lender.Lender.lend_group.Goals as goal
 
 -- what is lent are the chunks that the group touches
@@ -39,7 +39,7 @@ returns-clause-lent c =
     let at = ap (λ gs. slice_get gs c.args.number) (sym c.requires.plan.groups_are) ∙ c.requires.next.1 in
     let chunks = its_chunks c.args.groups.now c.args.number g c.index-groups-number.result c.as_slice-touches.result.now [] c.in_ok-chunks.chunks.items c.as_slice.result.now c.requires.next.1 c.as_slice-touches.ensures.value c.as_slice.ensures.value c.in_ok-chunks.ensures in
     given c.args.plan.now c.requires.plan.is_plan c.args.number g at c.args.world.now c.lend.new.self c.in_ok-lent.lent c.args.self.now c.requires.under_way
-    (subst (λ ps. IsNext ps c.args.self.now g) c.requires.under_way.positions_are c.requires.next.2) c.in_ok-lent.ensures.lent (λ d. c.in_ok-lent.ensures.chunks d ∙ ap (λ cs. has_chunk cs d) chunks)
+    (next_in c.args.plan.now c.requires.plan.is_plan c.args.number g at c.args.self.now c.requires.next.2) c.in_ok-lent.ensures.lent (λ d. c.in_ok-lent.ensures.chunks d ∙ ap (λ cs. has_chunk cs d) chunks)
 
 pub returns-clause-under_way : goal.returns-clause-under_way
 returns-clause-under_way c =
@@ -47,10 +47,11 @@ returns-clause-under_way c =
     let p = c.args.plan.now in
     let at = ap (λ gs. slice_get gs c.args.number) (sym c.requires.plan.groups_are) ∙ c.requires.next.1 in
     let chunks = its_chunks c.args.groups.now c.args.number g c.index-groups-number.result c.as_slice-touches.result.now [] c.in_ok-chunks.chunks.items c.as_slice.result.now c.requires.next.1 c.as_slice-touches.ensures.value c.as_slice.ensures.value c.in_ok-chunks.ensures in
-    let same = ap (map (λ (t : Touch). t.chunk)) (c.as_slice-touches.ensures.value ∙ ap (λ (h : Group). h.touches.items) (get_or_from_slice_get c.args.groups.now c.args.number g c.index-groups-number.result c.requires.next.1)) in
+    let ps = positions_of p.start.value in
+    let ts = c.as_slice-touches.ensures.value ∙ ap (λ (h : Group). h.touches.items) (get_or_from_slice_get c.args.groups.now c.args.number g c.index-groups-number.result c.requires.next.1) in
     let brought =
-    subst (λ ps. IsBringing ps (touched g) None c.args.self.now c.bring.new.stages.items) (c.in_ok-lent.ensures.lent.positions_are ∙ c.requires.under_way.positions_are)
-    (subst (λ cs. IsBringing (positions_of c.lend.new.self) cs None c.args.self.now c.bring.new.stages.items) same
-    (subst (λ old. IsBringing (positions_of c.lend.new.self) (map (λ (t : Touch). t.chunk) c.as_slice-touches.result.now) None old c.bring.new.stages.items) c.self.view_is c.bring.ensures)) in
+    subst (λ (us : List Touch). IsBringing ps (map (λ t. t.chunk) us) None c.args.self.now c.bring.new.stages.items) ts
+    (subst (λ old. IsBringing ps (map (λ (t : Touch). t.chunk) c.as_slice-touches.result.now) None old c.bring.new.stages.items) c.self.view_is
+    (c.bring.ensures p.start.value (subst (All (IsPlaced ps)) (sym ts) (c.requires.plan.is_plan.each c.args.number g at).placed) (ap length c.self.view_is ∙ c.requires.under_way.long))) in
     still_under_way p c.requires.plan.is_plan c.args.number g at c.args.world.now c.lend.new.self c.in_ok-lent.lent c.args.self.now c.requires.under_way
-    (subst (λ ps. IsNext ps c.args.self.now g) c.requires.under_way.positions_are c.requires.next.2) c.in_ok-lent.ensures.lent (λ d. c.in_ok-lent.ensures.chunks d ∙ ap (λ cs. has_chunk cs d) chunks) c.bring.new.stages.items brought.long brought.came
+    (next_in c.args.plan.now c.requires.plan.is_plan c.args.number g at c.args.self.now c.requires.next.2) c.in_ok-lent.ensures.lent (λ d. c.in_ok-lent.ensures.chunks d ∙ ap (λ cs. has_chunk cs d) chunks) c.bring.new.stages.items brought.long brought.came

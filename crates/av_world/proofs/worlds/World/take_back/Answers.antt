@@ -6,8 +6,8 @@ use Rattle.av_world.proofs.ExchangedChunks.{chunk_fits}
 use Rattle.av_world.proofs.TakenChunks.{IsNextChunk, mid_length, next_chunk, taken_next}
 use Rattle.av_world.proofs.worlds.World.take_back.Goals as goal
 
-pub exchange_chunk-requires-clause-fits : goal.exchange_chunk-requires-clause-fits
-exchange_chunk-requires-clause-fits c =
+pub exchange_chunk-out-requires-clause-fits : goal.exchange_chunk-out-requires-clause-fits
+exchange_chunk-out-requires-clause-fits c =
     let i = c.loop-chunk.invariant in
     let n : IsNextChunk c.args.lent c.loop-chunk.index c.index.result.now c.in-Some.chunk =
     next_chunk c.args.lent c.loop-chunk.index c.index.result.now c.in-Some.chunk c.loop-chunk.yielded c.next.new.self.rest.items i.2 (i.3 ∙ ap (λ l. c.loop-chunk.yielded ++ l) c.in-Some.ensures.steps.0) c.index.ensures in
@@ -22,6 +22,8 @@ loop-chunk-preserved c =
       tt,
       (let m = mid_length c.loop-chunk.yielded (c.in-Some.chunk ∷ []) in let k = i.2 in omega (arith, m, k)),
       i.3 ∙ ap (λ l. c.loop-chunk.yielded ++ l) c.in-Some.ensures.steps.0 ∙ sym (append_assoc c.loop-chunk.yielded (c.in-Some.chunk ∷ []) c.next.new.self.rest.items),
-      taken_next c.args.self.now c.loop-chunk.self c.exchange_chunk.new.self c.args.lent c.loop-chunk.index c.index.result.now c.in-Some.chunk i.4 n.below c.requires.height
-          (subst (λ d. IsChunkOf c.args.lent d c.in-Some.chunk) n.is n.of) (subst (λ d. IsExchanged c.loop-chunk.self c.exchange_chunk.new.self d c.in-Some.chunk) n.is c.exchange_chunk.ensures.exchanged),
+      (let t =
+          taken_next c.args.self.now c.loop-chunk.self c.exchange_chunk-out.new.self c.args.lent c.loop-chunk.index c.index.result.now c.in-Some.chunk i.4 n.below c.requires.height
+          (subst (λ d. IsChunkOf c.args.lent d c.in-Some.chunk) n.is n.of) (subst (λ d. IsExchanged c.loop-chunk.self c.exchange_chunk-out.new.self d c.in-Some.chunk) n.is c.exchange_chunk-out.ensures.exchanged) in
+          record { grid_is = t.grid_is; lists_are = t.lists_are; height_is = t.height_is; positions_are = t.positions_are; broken_is = t.broken_is }),
     )

@@ -1,0 +1,138 @@
+//! What a thread does with the tick's world while it has it: it takes groups back and lends others.
+ghost use Rattle.std.specs.Prelude.{◌≡◌, IfOk, OnOk};
+ghost use Rattle.av_lending.specs.Handed.{IsKeeperOf, IsTurnedOf};
+ghost use Rattle.av_team.specs.Lines.{ArePassesOf, IsDeskOf};
+
+use crate::lines::{Desk, Passes, end_all, put_in};
+use av_lending::{Keeper, Turned, Work};
+use av_rules::Kinds;
+use std::alloc::{AllocError, Global};
+use std::sync::Wait;
+
+/// Takes a group back.
+///
+/// # Errors
+/// Where memory was refused to its turns.
+fn take_back(
+    desk: &Desk,
+    kinds: &Kinds,
+    keeper: &mut Keeper,
+    turned: Turned,
+) -> Result<(), AllocError>
+    requires desk { IsDeskOf desk.now kinds.now }
+    requires keeper { IsKeeperOf desk.now.plan keeper.old }
+    requires turned { IsTurnedOf desk.now.plan turned }
+    ensures { OnOk result (IsKeeperOf desk.now.plan keeper.new) }
+{
+    let Turned {
+        number,
+        world: back,
+    } = turned;
+    let Ok(back) = back else {
+        return Err(AllocError);
+    };
+    let groups = desk.groups.groups.as_slice();
+    keeper
+        .lender
+        .take_back(&desk.plan, &mut keeper.world, kinds, groups, number, back);
+    Ok(())
+}
+
+/// Takes all groups back that are turned.
+fn take_all_back<R: Wait>(
+    rt: &R,
+    desk: &Desk,
+    passes: &mut Passes,
+    kinds: &Kinds,
+    keeper: &mut Keeper,
+) -> Result<(), AllocError>
+    requires desk { IsDeskOf desk.now kinds.now }
+    requires passes { ArePassesOf desk.now passes.old }
+    requires keeper { IsKeeperOf desk.now.plan keeper.old }
+    ensures passes { passes.new ≡ passes.old }
+    ensures keeper { OnOk result (IsKeeperOf desk.now.plan keeper.new) }
+{
+    for _ in rt.forever() {
+        let Some(turned) = desk.backs.take(rt, &mut passes.backs) else {
+            break;
+        };
+        take_back(desk, kinds, keeper, turned)?;
+    }
+    Ok(())
+}
+
+/// Lends all groups that are ready, and hands them out.
+fn hand_out<R: Wait>(
+    rt: &R,
+    alloc: Global,
+    desk: &Desk,
+    passes: &mut Passes,
+    kinds: &Kinds,
+    keeper: &mut Keeper,
+) -> Result<(), AllocError>
+    requires desk { IsDeskOf desk.now kinds.now }
+    requires passes { ArePassesOf desk.now passes.old }
+    requires keeper { IsKeeperOf desk.now.plan keeper.old }
+    ensures passes { passes.new ≡ passes.old }
+    ensures keeper { OnOk result (IsKeeperOf desk.now.plan keeper.new) }
+{
+    let groups = desk.groups.groups.as_slice();
+    for _ in rt.forever() {
+        let lent = keeper
+            .lender
+            .lend(alloc, &desk.plan, &mut keeper.world, kinds, groups)?;
+        let Some(lent) = lent else {
+            break;
+        };
+        put_in(rt, &desk.works, &mut passes.works, Work::Turn(lent));
+    }
+    Ok(())
+}
+
+/// Takes back what is turned, hands out what is ready, and where all groups are taken back hands the end out, once.
+///
+/// # Errors
+/// Where memory is refused, here or to a group's turns. Then the world is lost.
+fn tended<R: Wait>(
+    rt: &R,
+    alloc: Global,
+    desk: &Desk,
+    passes: &mut Passes,
+    kinds: &Kinds,
+    keeper: Keeper,
+) -> Result<Keeper, AllocError>
+    requires desk { IsDeskOf desk.now kinds.now }
+    requires passes { ArePassesOf desk.now passes.old }
+    requires keeper { IsKeeperOf desk.now.plan keeper }
+    ensures passes { passes.new ≡ passes.old }
+    ensures keeper { IfOk result (IsKeeperOf desk.now.plan) }
+{
+    let mut keeper = keeper;
+    take_all_back(rt, desk, passes, kinds, &mut keeper)?;
+    hand_out(rt, alloc, desk, passes, kinds, &mut keeper)?;
+    if !keeper.has_ended
+        && keeper
+            .lender
+            .is_done(&desk.plan, &keeper.world, kinds, &desk.groups)
+    {
+        keeper.has_ended = true;
+        end_all(rt, desk, passes);
+    }
+    Ok(keeper)
+}
+
+/// Takes back what is turned and hands out what is ready, unless another thread does.
+pub(crate) fn tend<R: Wait>(rt: &R, alloc: Global, desk: &Desk, passes: &mut Passes, kinds: &Kinds)
+    requires desk { IsDeskOf desk.now kinds.now }
+    requires passes { ArePassesOf desk.now passes.old }
+    ensures { passes.new ≡ passes.old }
+{
+    let Some(keeper) = desk.keepers.take(rt, &mut passes.keepers) else {
+        return;
+    };
+    match tended(rt, alloc, desk, passes, kinds, keeper) {
+        Ok(keeper) => put_in(rt, &desk.keepers, &mut passes.keepers, keeper),
+        // without a keeper nothing more is handed out
+        Err(_) => end_all(rt, desk, passes),
+    }
+}
