@@ -4,8 +4,8 @@ answers want of memory, or exactly what it answers when nothing is refused. Want
 as a call of the system that failed; all files are then written or none, once the next command has looked at the folder. Where memory is
 refused in a tick, the world then answers 26 to each call.
 
-Of a run of many chunks, whose threads read chunks ahead and give memory back, each start of a thread is refused in turn, and every
-STEP-th growth.
+Of a run of many chunks, whose threads read chunks ahead and give memory back, and of one with a tick of many entries, which threads turn
+in groups, each start of a thread is refused in turn, and every so many-th growth.
 
     scripts/check_memory.py PROGRAM BENCH   as crates/av_main/out/av_main and crates/av_bench/out/av_bench
 
@@ -23,8 +23,9 @@ sys.dont_write_bytecode = True
 from flat_runs import TABLE, WATER, edit, flat, many_chunks, said
 from preloads import built_library
 
-# A run of many chunks has some ten thousand growths: this many are passed over from one that is refused to the next.
-STEP = 499
+# A run of many chunks has some ten thousand growths, and one of many entries some thousands: so many from one that is refused to the next.
+CHUNKS_STEP = 499
+ENTRIES_STEP = 29
 
 # The faults of a run in which a growth was refused: that of a path is one of its file or of the folder, which is called OUT here.
 REFUSALS = ["fault 01: OutOfMemory", "fault 25: Device r.0.0.mca", "fault 25: Device OUT"]
@@ -153,10 +154,16 @@ def main():
             folder = os.path.join(work, name.replace(" ", "_"))
             counts.append(check_run(name, line, Run(program, library, folder, data, edits, workers)))
         world = many_chunks()
-        for name, refuse, step in (("many chunks", "REFUSE", STEP), ("many chunks and threads", "REFUSE_START", 1)):
+        # three groups, of which the first two share chunks
+        apart = flat(chunks=((3, 0), (4, 0), (9, 0)))
+        rain = "".join(edit(1, x, 72, z, WATER) for x in (*range(50, 78), *range(146, 158)) for z in range(1, 15))
+        for name, line, data, edits, table, refuse, step in (
+                ("many chunks", "chunks 128 turns 64", world.data, world.edits, world.table, "REFUSE", CHUNKS_STEP),
+                ("many chunks and threads", "chunks 128 turns 64", world.data, world.edits, world.table, "REFUSE_START", 1),
+                ("many entries", "chunks 3 turns 560", apart, rain, TABLE, "REFUSE", ENTRIES_STEP),
+                ("many entries and threads", "chunks 3 turns 560", apart, rain, TABLE, "REFUSE_START", 1)):
             folder = os.path.join(work, name.replace(" ", "_"))
-            case = Run(program, library, folder, world.data, world.edits, 2, world.table, refuse)
-            counts.append(check_run(name, "chunks 128 turns 64", case, step))
+            counts.append(check_run(name, line, Run(program, library, folder, data, edits, 2, table, refuse), step))
         for name, workers in (("one thread", 0), ("one worker", 1), ("two workers", 2)):
             counts.append(check_ticks(name, Ticks(bench, library, work, workers)))
     asked, wrong = map(sum, zip(*counts))

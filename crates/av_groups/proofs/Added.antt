@@ -1,5 +1,5 @@
 -- An open group has one entry more.
-use Rattle.std.proofs.Common.{◌≡◌, ◌∙◌, ℕ, ◌||◌, Bool, true, false, List, [], ◌∷◌, ◌++◌, IsTrue, All, Some, slice_get, refl, sym, ap, subst, arith}
+use Rattle.std.proofs.Common.{◌≡◌, ◌∙◌, ℕ, ◌||◌, Bool, true, false, List, [], ◌∷◌, ◌++◌, IsTrue, All, Some, slice_get, refl, sym, ap, subst}
 use Rattle.std.proofs.lemmas.Bool.{true≢false, and_parts, and_from}
 use Rattle.std.proofs.lemmas.List.{append_assoc}
 use Rattle.std.proofs.lemmas.List.Elements.{All-head, All-tail, All-push, All-weaker}
@@ -24,7 +24,7 @@ use Rattle.av_groups.specs.declared.groups.Group.{Group}
 use Rattle.av_groups.specs.declared.groups.Touch.{Touch}
 use Rattle.av_groups.specs.Groups.{IsGroup}
 use Rattle.av_groups.specs.Exact.{IsExact}
-use Rattle.av_groups.specs.Open.{corner_chunks, chunks_in, IsOpen, IsTouched, IsCut}
+use Rattle.av_groups.specs.Open.{corner_chunks, chunks_in, IsOpen, IsCovered, AreKept, AreNoted, IsCut}
 use Rattle.av_groups.specs.Parts.{StaysIn}
 
 -- the chunk of a section's block
@@ -80,14 +80,15 @@ loaded_in_land w p h =
     and_from (has_chunk w.positions.items (chunk_of p)) (is_block_of w.height p.y) (has_chunk_there w.positions.items (chunk_of p) place.chunk) place.high
 
 -- the corners' chunks are touched, where they are there
-stays : (w : Land ℕ) (e : Entry) (old new : List Touch) → All (IsTouched w.chunks old new) (corner_chunks e.pos) → StaysIn w (has_chunk (chunks_in new)) e
-stays w e old new touched q reach loaded =
+stays : (w : Land ℕ) (e : Entry) (new : List Touch) → All (IsCovered w.chunks new) (corner_chunks e.pos) → StaysIn w (has_chunk (chunks_in new)) e
+stays w e new covered q reach loaded =
     let there = and_parts (has_chunk w.chunks (chunk_of q)) (is_block_of w.height q.y) loaded in
-    (all_has (IsTouched w.chunks old new) (corner_chunks e.pos) (chunk_of q) touched (reach_chunks e.pos q reach)).touched there.0
+    all_has (IsCovered w.chunks new) (corner_chunks e.pos) (chunk_of q) covered (reach_chunks e.pos q reach) there.0
 
 pub added : (w : World) (es : List Entry) (e : Entry) (x y : Cutting) → IsTrue ((blocks w).loaded e.pos) → IsCut (land_of w) es x → y.closed ≡ x.closed → y.gathered.entries.items ≡ x.gathered.entries.items ++ e ∷ []
-    → IsOpen w.positions.items x.closed.items y.marks.last.items y.gathered.touches.items → All (IsTouched w.positions.items x.gathered.touches.items y.gathered.touches.items) (corner_chunks e.pos) → IsCut (land_of w) (es ++ e ∷ []) y
-added w es e x y here is closed entries is_open touched = record {
+    → IsOpen w.positions.items x.closed.items y.marks.last.items y.gathered.touches.items → All (IsCovered w.positions.items y.gathered.touches.items) (corner_chunks e.pos)
+    → AreKept x.gathered.touches.items y.gathered.touches.items → AreNoted w.positions.items y.gathered.touches.items y.noted → IsCut (land_of w) (es ++ e ∷ []) y
+added w es e x y here is closed entries is_open covered kept noted = record {
   entries_are =
       (λ i. flat_map (λ g. g.entries.items) (closed i).items ++ entries i)
       ∙ sym (append_assoc (flat_map (λ g. g.entries.items) x.closed.items) x.gathered.entries.items (e ∷ []))
@@ -96,13 +97,11 @@ added w es e x y here is closed entries is_open touched = record {
   exact = subst (λ v. (i : ℕ) (g : Group) → slice_get v.items i ≡ Some g → All (λ t. IsExact v.items t.chunk t.before) g.touches.items) (sym closed) is.exact;
   is_open = subst (λ v. IsOpen w.positions.items v.items y.marks.last.items y.gathered.touches.items) (sym closed) is_open;
   loaded = subst (All (λ e. is_loaded (land_of w) e.pos ≡ true)) (sym entries) (All-push (λ e. is_loaded (land_of w) e.pos ≡ true) x.gathered.entries.items e is.loaded (loaded_in_land w e.pos here));
-  stay = subst (All inside) (sym entries) (All-push inside x.gathered.entries.items e (All-weaker before inside (λ d h q r l. kept.kept (chunk_of q) (h q r l)) x.gathered.entries.items is.stay) (stays (land_of w) e x.gathered.touches.items y.gathered.touches.items touched));
+  stay = subst (All inside) (sym entries) (All-push inside x.gathered.entries.items e (All-weaker before inside (λ d h q r l. kept (chunk_of q) (h q r l)) x.gathered.entries.items is.stay) (stays (land_of w) e y.gathered.touches.items covered));
+  noted = noted;
 } where
   inside : Entry → Type 0
   inside = StaysIn (land_of w) (has_chunk (chunks_in y.gathered.touches.items))
 
   before : Entry → Type 0
   before = StaysIn (land_of w) (has_chunk (chunks_in x.gathered.touches.items))
-
-  kept : IsTouched w.positions.items x.gathered.touches.items y.gathered.touches.items (chunk_of (corner e.pos false false false))
-  kept = touched 0 (chunk_of e.pos) (omega arith)

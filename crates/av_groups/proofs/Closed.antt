@@ -1,5 +1,5 @@
 -- An open group is closed.
-use Rattle.std.proofs.Common.{◌≡◌, ◌∙◌, ℕ, zero, suc, ◌+◌, ◌<◌, ◌≤◌, Bool, true, false, List, [], ◌∷◌, ◌++◌, length, replicate, slice_get, All, Some, refl, sym, ap, subst, arith, ◌⊎◌, inl, inr}
+use Rattle.std.proofs.Common.{◌≡◌, ◌∙◌, ℕ, zero, suc, ◌+◌, ◌<◌, ◌≤◌, Bool, true, false, List, [], ◌∷◌, ◌++◌, length, replicate, slice_get, All, Option, None, Some, refl, sym, ap, subst, arith, ◌⊎◌, inl, inr}
 use Rattle.std.proofs.lemmas.Bool.{true≢false}
 use Rattle.std.proofs.lemmas.Option.{slice_get_within, get_or_from_slice_get}
 use Rattle.std.proofs.lemmas.List.{append-nil, flat_map_more, length_push, length-replicate}
@@ -11,10 +11,11 @@ use Rattle.av_land.specs.Land.{Land, has_chunk, is_loaded}
 use Rattle.av_world.specs.Index.{slot}
 use Rattle.av_groups.specs.declared.groups.Group.{Group}
 use Rattle.av_groups.specs.declared.groups.Touch.{Touch}
+use Rattle.av_groups.specs.declared.corners.Reach.{Reach}
 use Rattle.av_groups.specs.declared.cutting.Cutting.{Cutting}
 use Rattle.av_groups.specs.Groups.{touched, NoneTouches, IsPlaced, IsGroup, AreGroups}
 use Rattle.av_groups.specs.Exact.{IsTouchedBy, IsExact}
-use Rattle.av_groups.specs.Open.{chunks_in, IsLast, IsOpen, IsCut, AreClosed}
+use Rattle.av_groups.specs.Open.{chunks_in, IsLast, IsOpen, AreNoted, IsCut, AreClosed}
 use Rattle.av_groups.specs.Parts.{StaysIn}
 
 -- what stands in a list with one more: it stood there before, or is the last
@@ -144,13 +145,23 @@ no_groups w = record {
 pub none_yet : (w : Land ℕ) → AreClosed w [] [] (replicate (length w.chunks) 0)
 none_yet w = record { groups = no_groups w; exact = record { before = λ i g at. absurd (omega (arith, slice_get_within [] i g at)); after = λ c m at j e. let zero = is_zero w (slot w.chunks c) m at in absurd (omega (arith, zero, e)) } }
 
+none_noted_at : (xs : List (Option Reach)) (k : ℕ) (r : Reach) → All (λ o. o ≡ None) xs → slice_get xs k ≡ Some (Some r) → ⊥
+none_noted_at xs k r none at = true≢false (ap is_one (sym (get_or_from_slice_get xs k (Some r) None at) ∙ none k None (slice_get_within xs k (Some r) at))) where
+  is_one : Option Reach → Bool
+  is_one None = false
+  is_one (Some q) = true
+
+nothing_noted : (ps : List ChunkPos) (ts : List Touch) (xs : List (Option Reach)) → All (λ o. o ≡ None) xs → AreNoted ps ts xs
+nothing_noted ps ts xs none k r at = absurd (none_noted_at xs k r none at)
+
 -- a new group, without entries
-pub begun : (w : Land ℕ) (es : List Entry) (y : Cutting) → AreClosed w es y.closed.items y.marks.last.items → y.gathered.entries.items ≡ [] → y.gathered.touches.items ≡ [] → IsCut w es y
-begun w es y is e t = record {
+pub begun : (w : Land ℕ) (es : List Entry) (y : Cutting) → AreClosed w es y.closed.items y.marks.last.items → y.gathered.entries.items ≡ [] → y.gathered.touches.items ≡ [] → All (λ o. o ≡ None) y.noted → IsCut w es y
+begun w es y is e t none = record {
   entries_are = ap (λ l. flat_map (λ g. g.entries.items) y.closed.items ++ l) e ∙ append-nil (flat_map (λ g. g.entries.items) y.closed.items) ∙ is.groups.entries_are;
   each = is.groups.each;
   exact = is.exact.before;
   is_open = subst (IsOpen w.chunks y.closed.items y.marks.last.items) (sym t) (open_anew w es y.closed.items y.marks.last.items is);
   loaded = subst (All (λ x. is_loaded w x.pos ≡ true)) (sym e) (All-nil (λ x. is_loaded w x.pos ≡ true));
   stay = subst (All (StaysIn w (has_chunk (chunks_in y.gathered.touches.items)))) (sym e) (All-nil (StaysIn w (has_chunk (chunks_in y.gathered.touches.items))));
+  noted = nothing_noted w.chunks y.gathered.touches.items y.noted none;
 }

@@ -1,9 +1,9 @@
 -- An open group touches one chunk more.
-use Rattle.std.proofs.Common.{get_or-set_same, get_or-set_other, length-set, ◌≡◌, ◌≢◌, ◌∙◌, ℕ, ◌+◌, ◌<◌, ◌≤◌, ◌||◌, Bool, true, false, List, [], ◌∷◌, ◌++◌, length, get_or, slice_get, slice_set, All, Some, refl, sym, ap, subst, arith, ◌⊎◌, inl, inr}
+use Rattle.std.proofs.Common.{get_or-set_same, get_or-set_other, length-set, ◌≡◌, ◌≢◌, ◌∙◌, ℕ, zero, suc, ◌+◌, ◌<◌, ◌≤◌, ◌||◌, Bool, true, false, List, [], ◌∷◌, ◌++◌, length, get_or, slice_get, slice_set, All, Option, None, Some, refl, sym, ap, subst, arith, ◌⊎◌, inl, inr}
 use Rattle.std.proofs.lemmas.Bool.{true≢false, cases_eq, cases_lt}
 use Rattle.std.proofs.lemmas.Option.{slice_get_read, slice_get_within, get_or_from_slice_get}
 use Rattle.std.proofs.lemmas.List.{map_push, get_or_default}
-use Rattle.std.proofs.lemmas.List.Elements.{All-nil, All-cons, All-push}
+use Rattle.std.proofs.lemmas.List.Elements.{All-nil, All-cons, All-push, All-weaker}
 use Rattle.std.proofs.lemmas.List.Quantifiers.{all_pairs_push}
 use Rattle.std.specs.List.{AllPairs, list_any}
 use Rattle.av_types.specs.declared.place.ChunkPos.{ChunkPos}
@@ -12,11 +12,13 @@ use Rattle.av_cells.specs.Positions.{same_chunk}
 use Rattle.av_land.specs.Land.{has_chunk}
 use Rattle.av_world.specs.Index.{slot, IsRising}
 use Rattle.av_world.proofs.ChunkReads.{slot_of_index, slot_there}
+use Rattle.av_world.proofs.Moved.{get_set_same, get_set_other}
+use Rattle.av_groups.specs.declared.corners.Reach.{Reach}
 use Rattle.av_groups.specs.declared.groups.Group.{Group}
 use Rattle.av_groups.specs.declared.groups.Touch.{Touch}
 use Rattle.av_groups.specs.Groups.{NoneTouches, IsPlaced}
 use Rattle.av_groups.specs.Exact.{IsExact}
-use Rattle.av_groups.specs.Open.{chunks_in, IsLast, IsOpen, IsTouched}
+use Rattle.av_groups.specs.Open.{chunks_in, chunks_in_reach, IsLast, IsOpen, IsTouched, IsCovered, AreKept, AreNoted}
 
 or_parts : (a b : Bool) → a || b ≡ false → (a ≡ false) × (b ≡ false)
 or_parts true b h = absurd (true≢false h)
@@ -120,3 +122,29 @@ touched_more ps cs a b ts i d kept was inside new k e l = by (cases_lt k i) wher
   by : (k < i) ⊎ (i ≤ k) → IsTouched ps a ts (get_or cs k e)
   by (inl below) = record { touched = λ h. new.kept (get_or cs k e) ((was k e below).touched h); kept = kept_now }
   by (inr above) = subst (IsTouched ps a ts) (get_or_default cs i d e inside ∙ ap (λ n. get_or cs n e) (omega (arith, above, l))) (record { touched = new.touched; kept = kept_now })
+
+-- a reach that is noted at a place stands there
+pub noted_at : (xs : List (Option Reach)) (i : ℕ) (r : Reach) → get_or xs i None ≡ Some r → slice_get xs i ≡ Some (Some r)
+noted_at [] i r e = absurd (true≢false (sym (ap is_one e))) where
+  is_one : Option Reach → Bool
+  is_one None = false
+  is_one (Some q) = true
+noted_at (x ∷ xs) zero r e = ap Some e
+noted_at (x ∷ xs) (suc i) r e = noted_at xs i r e
+
+-- a reach more is noted
+pub noted_more : (ps : List ChunkPos) (old new : List Touch) (xs : List (Option Reach)) (i : ℕ) (r : Reach) → AreKept old new → All (IsCovered ps new) (chunks_in_reach r) → AreNoted ps old xs → AreNoted ps new (slice_set xs i (Some r))
+noted_more ps old new xs i r kept covered was k q at = by (cases_eq k i) where
+  some_is : Some (Some r) ≡ Some (Some q) → r ≡ q
+  some_is e = ap (λ (o : Option (Option Reach)). value r o) e where
+    value : Reach → Option (Option Reach) → Reach
+    value d None = d
+    value d (Some None) = d
+    value d (Some (Some x)) = x
+
+  inside : k ≡ i → i < length xs
+  inside e = let w = slice_get_within (slice_set xs i (Some r)) k (Some q) at in let l = length-set xs i (Some r) in omega (arith, w, l, e)
+
+  by : (k ≡ i) ⊎ (k ≢ i) → All (IsCovered ps new) (chunks_in_reach q)
+  by (inl e) = subst (λ x. All (IsCovered ps new) (chunks_in_reach x)) (some_is (sym (get_set_same xs i (Some r) (inside e)) ∙ ap (slice_get (slice_set xs i (Some r))) (sym e) ∙ at)) covered
+  by (inr n) = All-weaker (IsCovered ps old) (IsCovered ps new) (λ c h there. kept c (h there)) (chunks_in_reach q) (was k q (sym (get_set_other xs i k (Some r) n) ∙ at))

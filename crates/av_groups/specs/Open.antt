@@ -1,5 +1,5 @@
 -- Groups of which the last is still open. Working definitions: no public clause cites them.
-use Rattle.std.specs.Prelude.{◌≡◌, ℕ, ◌+◌, ◌≤◌, true, false, List, [], ◌∷◌, ◌++◌, map, length, slice_get, Some}
+use Rattle.std.specs.Prelude.{◌≡◌, ℕ, ◌+◌, ◌≤◌, true, false, List, [], ◌∷◌, ◌++◌, map, length, slice_get, Option, Some}
 use Rattle.std.specs.List.{All, AllPairs, flat_map}
 use Rattle.av_types.specs.Places.{chunk_of}
 use Rattle.av_types.specs.declared.place.Pos.{Pos}
@@ -11,15 +11,21 @@ use Rattle.av_play.specs.Corners.{corner}
 use Rattle.av_world.specs.Index.{slot}
 use Rattle.av_groups.specs.declared.groups.Group.{Group}
 use Rattle.av_groups.specs.declared.groups.Touch.{Touch}
+use Rattle.av_groups.specs.declared.corners.Reach.{Reach}
 use Rattle.av_groups.specs.declared.cutting.Cutting.{Cutting}
 use Rattle.av_groups.specs.Groups.{NoneTouches, IsPlaced, IsGroup, AreGroups}
 use Rattle.av_groups.specs.Exact.{IsExact, AreExact}
 use Rattle.av_groups.specs.Parts.{StaysIn}
 
 -- each block of the reach of p lies in a chunk of one of its four lower corners
+abbrev pub reach_of : Pos → Reach
+reach_of p = record { north_west = chunk_of (corner p false false false); south_east = chunk_of (corner p true false true) }
+
+abbrev pub chunks_in_reach : Reach → List ChunkPos
+chunks_in_reach r = r.north_west ∷ record { x = r.south_east.x; z = r.north_west.z } ∷ record { x = r.north_west.x; z = r.south_east.z } ∷ r.south_east ∷ []
+
 abbrev pub corner_chunks : Pos → List ChunkPos
-corner_chunks p =
-    chunk_of (corner p false false false) ∷ chunk_of (corner p true false false) ∷ chunk_of (corner p false false true) ∷ chunk_of (corner p true false true) ∷ []
+corner_chunks p = chunks_in_reach (reach_of p)
 
 abbrev pub chunks_in : List Touch → List ChunkPos
 chunks_in ts = map (λ t. t.chunk) ts
@@ -46,6 +52,18 @@ pub record IsTouched (ps : List ChunkPos) (old new : List Touch) (c : ChunkPos) 
   pub touched : has_chunk ps c ≡ true → has_chunk (chunks_in new) c ≡ true
   pub kept : (d : ChunkPos) → has_chunk (chunks_in old) d ≡ true → has_chunk (chunks_in new) d ≡ true
 
+-- the open group touches the chunk, where it is there
+abbrev pub IsCovered : List ChunkPos → List Touch → ChunkPos → Type 0
+IsCovered ps ts c = has_chunk ps c ≡ true → has_chunk (chunks_in ts) c ≡ true
+
+-- it touches what it touched
+abbrev pub AreKept : List Touch → List Touch → Type 0
+AreKept old new = (c : ChunkPos) → has_chunk (chunks_in old) c ≡ true → has_chunk (chunks_in new) c ≡ true
+
+-- the open group touches the chunks of each reach that is noted, where they are there
+abbrev pub AreNoted : List ChunkPos → List Touch → List (Option Reach) → Type 0
+AreNoted ps ts noted = (k : ℕ) (r : Reach) → slice_get noted k ≡ Some (Some r) → All (IsCovered ps ts) (chunks_in_reach r)
+
 -- closed groups and an open one have these entries
 pub record IsCut (w : Land ℕ) (es : List Entry) (x : Cutting) : Type 0 where
   pub entries_are : flat_map (λ g. g.entries.items) x.closed.items ++ x.gathered.entries.items ≡ es
@@ -54,6 +72,7 @@ pub record IsCut (w : Land ℕ) (es : List Entry) (x : Cutting) : Type 0 where
   pub is_open : IsOpen w.chunks x.closed.items x.marks.last.items x.gathered.touches.items
   pub loaded : All (λ e. is_loaded w e.pos ≡ true) x.gathered.entries.items
   pub stay : All (StaysIn w (has_chunk (chunks_in x.gathered.touches.items))) x.gathered.entries.items
+  pub noted : AreNoted w.chunks x.gathered.touches.items x.noted
 
 -- groups of which none is open
 pub record AreClosed (w : Land ℕ) (es : List Entry) (gs : List Group) (last : List ℕ) : Type 0 where

@@ -3,9 +3,16 @@ ghost use Rattle.std.specs.Prelude.{◌≡◌, true, false, pos, ◌+ℤ◌, ◌
 ghost use Rattle.av_types.specs.Places.{chunk_of};
 ghost use Rattle.av_cells.specs.Positions.{IsNearOrigin};
 ghost use Rattle.av_play.specs.Corners.{corner};
-ghost use Rattle.av_groups.specs.Open.{corner_chunks};
+ghost use Rattle.av_groups.specs.Open.{reach_of, chunks_in_reach};
 
 use av_types::{ChunkPos, Pos};
+
+/// The chunks of a block's reach: those from one in the north-west to one in the south-east, which are one, two or four.
+#[derive(Clone, Copy, Drop)]
+pub(crate) struct Reach {
+    pub(crate) north_west: ChunkPos,
+    pub(crate) south_east: ChunkPos,
+}
 
 /// The x of a corner of a block's reach.
 fn corner_x(at: Pos, east: bool) -> i32
@@ -43,15 +50,32 @@ fn corner_of(at: Pos, east: bool, south: bool) -> Pos
     }
 }
 
-/// The chunks of the corners of a block's reach: each block of the reach lies in one of them.
-pub(crate) fn corner_chunks(at: Pos) -> [ChunkPos; 4]
+/// The chunks of a block's reach.
+pub(crate) fn reach_of(at: Pos) -> Reach
     requires { IsNearOrigin at }
-    ensures { result ≡ corner_chunks at }
+    ensures { result ≡ reach_of at }
 {
-    [
-        corner_of(at, false, false).chunk(),
-        corner_of(at, true, false).chunk(),
-        corner_of(at, false, true).chunk(),
-        corner_of(at, true, true).chunk(),
-    ]
+    Reach {
+        north_west: corner_of(at, false, false).chunk(),
+        south_east: corner_of(at, true, true).chunk(),
+    }
+}
+
+/// The chunks of a reach, that to the north-west first, then that to the east, and so those to the south.
+pub(crate) fn chunks_of(reach: Reach) -> [ChunkPos; 4]
+    ensures { result ≡ chunks_in_reach reach }
+{
+    let Reach {
+        north_west,
+        south_east,
+    } = reach;
+    let north_east = ChunkPos {
+        x: south_east.x,
+        z: north_west.z,
+    };
+    let south_west = ChunkPos {
+        x: north_west.x,
+        z: south_east.z,
+    };
+    [north_west, north_east, south_west, south_east]
 }

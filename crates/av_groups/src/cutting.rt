@@ -8,10 +8,11 @@ ghost use Rattle.av_world.specs.Lands.{land_of};
 ghost use Rattle.av_world.specs.Views.{positions_of, blocks};
 ghost use Rattle.av_groups.specs.Exact.{AreExact};
 ghost use Rattle.av_groups.specs.Groups.{AreGroups};
-ghost use Rattle.av_groups.specs.Open.{IsOpen, IsTouched, IsCut, AreClosed};
+ghost use Rattle.av_groups.specs.Open.{IsOpen, IsTouched, IsCovered, AreKept, AreNoted, IsCut, AreClosed, chunks_in_reach};
 
-use crate::corners::corner_chunks;
+use crate::corners::{Reach, chunks_of, reach_of};
 use crate::groups::{Group, Groups, Touch};
+use crate::noting::{Noted, is_noted, none_noted, place_of};
 use av_types::{ChunkPos, Entry};
 use av_world::World;
 use std::alloc::{AllocError, Global};
@@ -50,6 +51,7 @@ struct Cutting {
     gathered: Group,
     tile: Tile,
     marks: Marks,
+    noted: Noted,
 }
 
 /// A chunk's place in `near`: those that a group touches have each another one.
@@ -120,6 +122,34 @@ fn touch_all(
     Ok(())
 }
 
+/// The open group touches the chunks of a reach, where they are there. Most entries have a reach that was noted.
+fn touch_reach(
+    world: &World,
+    closed: &[Group],
+    marks: &mut Marks,
+    touches: &mut Vec<Touch>,
+    noted: &mut Noted,
+    reach: Reach,
+) -> Result<(), AllocError>
+    requires gathered { IsOpen (positions_of world.now) closed.now marks.old.last.items touches.old.items }
+    requires noted { AreNoted (positions_of world.now) touches.old.items noted.old }
+    ensures gathered { OnOk result (IsOpen (positions_of world.now) closed.now
+        marks.new.last.items touches.new.items) }
+    ensures noted { OnOk result (AreNoted (positions_of world.now) touches.new.items noted.new) }
+    ensures covered { OnOk result (All (IsCovered (positions_of world.now) touches.new.items)
+        (chunks_in_reach reach)) }
+    ensures kept { OnOk result (AreKept touches.old.items touches.new.items) }
+{
+    let place = place_of(reach);
+    if is_noted(noted[place], reach) {
+        return Ok(());
+    }
+    let chunks = chunks_of(reach);
+    touch_all(world, closed, marks, touches, chunks.as_slice())?;
+    noted[place] = Some(reach);
+    Ok(())
+}
+
 /// For each chunk of the world 0: no group touches it yet.
 fn untouched(alloc: Global, world: &World) -> Result<Vec<usize>, AllocError>
     ensures { IfOk result (λ last. AreClosed (land_of world.now) [] [] last.items) }
@@ -143,6 +173,7 @@ impl Cutting {
                 last,
                 near: [0; 32],
             },
+            noted: none_noted(),
         }
     }
 
@@ -161,6 +192,7 @@ impl Cutting {
         let gathered = mem::replace(&mut self.gathered, next);
         self.closed.push(gathered)?;
         self.tile = tile;
+        self.noted = none_noted();
         Ok(())
     }
 
@@ -169,16 +201,17 @@ impl Cutting {
         requires loaded { IsTrue ((blocks world.now).loaded entry.pos) }
         requires gathered { IsOpen (positions_of world.now) self.old.closed.items
             self.old.marks.last.items self.old.gathered.touches.items }
+        requires noted { AreNoted (positions_of world.now) self.old.gathered.touches.items self.old.noted }
         ensures { OnOk result ((es : List Entry) → IsCut (land_of world.now) es self.old
             → IsCut (land_of world.now) (es ++ entry ∷ []) self.new) }
     {
-        let chunks = corner_chunks(entry.pos);
-        touch_all(
+        touch_reach(
             world,
             self.closed.as_slice(),
             &mut self.marks,
             &mut self.gathered.touches,
-            chunks.as_slice(),
+            &mut self.noted,
+            reach_of(entry.pos),
         )?;
         self.gathered.entries.push(entry)?;
         Ok(())

@@ -4,6 +4,7 @@
 mod corners;
 pub mod cutting;
 pub mod groups;
+mod noting;
 
 ghost use Rattle.av_groups.specs.Parts.{TurnsStayInTheirPart};
 

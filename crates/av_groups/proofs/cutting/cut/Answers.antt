@@ -10,6 +10,9 @@ use Rattle.av_groups.proofs.cutting.cut.Goals as goal
 pub add-requires-clause-gathered : goal.add-requires-clause-gathered
 add-requires-clause-gathered c = (c.in_ok-come_to.ensures (land_of c.args.world.now) _ c.loop-entry.invariant).is_open
 
+pub add-requires-clause-noted : goal.add-requires-clause-noted
+add-requires-clause-noted c = (c.in_ok-come_to.ensures (land_of c.args.world.now) _ c.loop-entry.invariant).noted
+
 pub loop-entry-preserved : goal.loop-entry-preserved
 loop-entry-preserved c =
     let es = c.args.entries.now in

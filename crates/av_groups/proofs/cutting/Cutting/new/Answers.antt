@@ -4,4 +4,4 @@ use Rattle.std.proofs.Common.{[], sym, subst}
 use Rattle.av_groups.proofs.cutting.Cutting.new.Goals as goal
 
 pub returns : goal.returns
-returns c w are = begun w [] _ (subst (λ gs. AreClosed w [] gs c.args.last.items) (sym c.new.ensures.items) are) c.new-2.ensures.items c.new-3.ensures.items
+returns c w are = begun w [] _ (subst (λ gs. AreClosed w [] gs c.args.last.items) (sym c.new.ensures.items) are) c.new-2.ensures.items c.new-3.ensures.items c.none_noted.ensures
