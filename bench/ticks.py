@@ -4,8 +4,10 @@ asked by turns, after a rest each, and each best of several counts: of those in 
 away (Linux counts that time as stolen), or of all where there is none.
 
     bench/ticks.py TIMES                        100 ticks of a region in which 200 lakes spread at once: by the tick of one thread,
-                                                and by the crew with some numbers of workers. First each lake is a source, and
-                                                then it is 5 by 5 sources
+                                                and by the crew with some numbers of workers. First each lake is a source, then it
+                                                is 5 by 5 sources, and then 15 by 15
+    bench/ticks.py TIMES flood                  200 ticks of a region into which 50,000 edits pour water: whole runs with some numbers of
+                                                workers, each less the best run of one tick, over those with one worker
     bench/ticks.py TIMES REGION EDITS PLAIN     20 ticks of a region with edits: by the plain program, by the tick of one thread, and by
                                                 the crew with one worker
 """
@@ -16,6 +18,7 @@ import time
 
 TOP = os.path.dirname(os.path.dirname(os.path.abspath(__file__)))
 PROGRAM = os.path.join(TOP, "crates/av_bench/out/av_bench")
+WORKLOADS = os.path.join(TOP, "crates/av_workloads/out/av_workloads")
 TABLE = os.path.join(TOP, "tables/blocks.toml")
 
 # Seconds before each program: a host that shares its processors out often lets one that rested have more of them.
@@ -86,11 +89,45 @@ def measure(commands, times):
     return len(turns) == 1
 
 
+def flooded(ticks, workers):
+    """What a run of a flood prints, its seconds, and the most memory in MB."""
+    time.sleep(REST)
+    began = time.monotonic()
+    words = [WORKLOADS, "flood", "1", "32", "50000", str(ticks), str(workers)]
+    process = subprocess.Popen(words, stdout=subprocess.PIPE, text=True)
+    line = process.stdout.read()
+    _, status, usage = os.wait4(process.pid, 0)
+    if status != 0:
+        sys.exit("%s: status %d" % (" ".join(words), os.waitstatus_to_exitcode(status)))
+    return line, time.monotonic() - began, usage.ru_maxrss / 1024
+
+
+def measure_flood(times):
+    """Prints ratios of a flood's ticks to those with one worker, and answers whether all runs left the same."""
+    lines, seconds, memory = set(), {}, {}
+    for _ in range(times):
+        for case in ((1, 1), *((200, workers) for workers in (1, 2, 4, 8))):
+            line, whole, most = flooded(*case)
+            seconds.setdefault(case, []).append(whole)
+            memory[case] = max(memory.get(case, 0), most)
+            if case[0] == 200:
+                lines.add(line)
+    start = min(seconds[1, 1])
+    alone = min(seconds[200, 1]) - start
+    print("a run of one tick: %.2f s" % start)
+    for workers in (1, 2, 4, 8):
+        best = min(seconds[200, workers])
+        print("%d workers  run %.2f s, ticks %.2f s, ratio %.2f; %.0f MB" % (workers, best, best - start, (best - start) / alone, memory[200, workers]))
+    return len(lines) == 1
+
+
 def main(times, given):
+    if given == ["flood"]:
+        return measure_flood(times)
     if given:
         return measure(region(*given), times)
     are_same = []
-    for width in (1, 5):
+    for width in (1, 5, 15):
         print("lakes of %d by %d sources" % (width, width))
         are_same.append(measure(lakes(width), times))
     return all(are_same)

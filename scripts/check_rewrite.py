@@ -65,9 +65,13 @@ def document(payload):
 
 
 def region(path):
-    """The payloads, None where there is no chunk, and the timestamps."""
+    """Those of a file, as `region_of` has them."""
     with open(path, "rb") as file:
-        data = file.read()
+        return region_of(file.read())
+
+
+def region_of(data):
+    """The payloads, None where there is no chunk, and the timestamps."""
     payloads = []
     for location in struct.unpack_from(">1024I", data):
         if location == 0:

@@ -119,29 +119,38 @@ def said(errors):
     return "\n".join(line for line in errors.splitlines() if " states have no row in the table and " not in line)
 
 
-class Run:
-    """What the program printed and wrote for the region (0, 0). Other files of the folder are given by their names."""
+def asked(program, data, edits, ticks, *, workers, table=TABLE, others=()):
+    """What the program prints to each of its outputs, and the file that it writes, for the region (0, 0). Other files of the folder are
+    given by their names."""
+    with tempfile.TemporaryDirectory() as work:
+        for name in ("in", "out"):
+            os.mkdir(os.path.join(work, name))
+        named = [("in/" + name, content) for name, content in dict(others).items()]
+        for name, content in [("in/r.0.0.mca", data), ("table", table.encode()), ("edits", edits.encode()), *named]:
+            with open(os.path.join(work, name), "wb") as file:
+                file.write(content)
+        words = [program, "run", "--in", "in", "--out", "out", "--table", "table", "--edits", "edits",
+                 "--ticks", str(ticks), "--workers", str(workers)]
+        done = subprocess.run(words, cwd=work, capture_output=True, text=True)
+        path = os.path.join(work, "out", "r.0.0.mca")
+        written = None
+        if os.path.exists(path):
+            with open(path, "rb") as file:
+                written = file.read()
+        return done.stdout.strip(), said(done.stderr), written
 
-    def __init__(self, program, data, edits="", ticks=0, *, workers, table=TABLE, others=()):
-        with tempfile.TemporaryDirectory() as work:
-            for name in ("in", "out"):
-                os.mkdir(os.path.join(work, name))
-            named = [("in/" + name, content) for name, content in dict(others).items()]
-            for name, content in [("in/r.0.0.mca", data), ("table", table.encode()), ("edits", edits.encode()), *named]:
-                with open(os.path.join(work, name), "wb") as file:
-                    file.write(content)
-            words = [program, "run", "--in", "in", "--out", "out", "--table", "table", "--edits", "edits",
-                     "--ticks", str(ticks), "--workers", str(workers)]
-            done = subprocess.run(words, cwd=work, capture_output=True, text=True)
-            self.line, self.fault = done.stdout.strip(), said(done.stderr)
-            self.path = os.path.join(work, "out", "r.0.0.mca")
-            self.data = open(self.path, "rb").read() if os.path.exists(self.path) else None
-            self.chunks = {}
-            if self.data is not None:
-                self.payloads, self.stamps = check_rewrite.region(self.path)
-                for index, payload in enumerate(self.payloads):
-                    if payload is not None:
-                        self.chunks[index % 32, index // 32] = dict(check_rewrite.document(payload)[1])
+
+class Run:
+    """What the program printed and wrote for the region (0, 0), with what was asked."""
+
+    def __init__(self, program, data, edits="", ticks=0, **named):
+        self.line, self.fault, self.data = asked(program, data, edits, ticks, **named)
+        self.chunks = {}
+        if self.data is not None:
+            self.payloads, self.stamps = check_rewrite.region_of(self.data)
+            for index, payload in enumerate(self.payloads):
+                if payload is not None:
+                    self.chunks[index % 32, index // 32] = dict(check_rewrite.document(payload)[1])
 
     def answer(self):
         return self.line, self.fault, self.data
