@@ -5,7 +5,8 @@ as a call of the system that failed; all files are then written or none, once th
 refused in a tick, the world then answers 26 to each call.
 
 Of a run of many chunks, whose threads read chunks ahead and give memory back, and of one with a tick of many entries, which threads turn
-in groups, each start of a thread is refused in turn, and every so many-th growth.
+in groups, each start of a thread is refused in turn, and every so many-th growth. With each worker more one thread more is started for that
+tick, up to its number of groups.
 
     scripts/check_memory.py PROGRAM BENCH   as crates/av_main/out/av_main and crates/av_bench/out/av_bench
 
@@ -160,10 +161,18 @@ def main():
         for name, line, data, edits, table, refuse, step in (
                 ("many chunks", "chunks 128 turns 64", world.data, world.edits, world.table, "REFUSE", CHUNKS_STEP),
                 ("many chunks and threads", "chunks 128 turns 64", world.data, world.edits, world.table, "REFUSE_START", 1),
-                ("many entries", "chunks 3 turns 560", apart, rain, TABLE, "REFUSE", ENTRIES_STEP),
-                ("many entries and threads", "chunks 3 turns 560", apart, rain, TABLE, "REFUSE_START", 1)):
+                ("many entries", "chunks 3 turns 560", apart, rain, TABLE, "REFUSE", ENTRIES_STEP)):
             folder = os.path.join(work, name.replace(" ", "_"))
             counts.append(check_run(name, line, Run(program, library, folder, data, edits, 2, table, refuse), step))
+        starts = []
+        for workers in (1, 2, 3, 4):
+            folder = os.path.join(work, "starts_%d" % workers)
+            case = Run(program, library, folder, apart, rain, workers, TABLE, "REFUSE_START")
+            counts.append(check_run("many entries and %d workers" % workers, "chunks 3 turns 560", case))
+            starts.append(counts[-1][0])
+        if starts != [starts[0], starts[0] + 1, starts[0] + 2, starts[0] + 2]:
+            counts.append((1, 1))
+            print("threads that are started for three groups by 1 to 4 workers: %s" % starts)
         for name, workers in (("one thread", 0), ("one worker", 1), ("two workers", 2)):
             counts.append(check_ticks(name, Ticks(bench, library, work, workers)))
     asked, wrong = map(sum, zip(*counts))
