@@ -1,4 +1,4 @@
-//! Ticks whose parts are turned by several workers.
+//! Ticks that are turned by several workers.
 #![tactic(auto)]
 
 pub mod counts;

@@ -175,8 +175,8 @@ pub(crate) fn tick_or_give_up<R: Threads + Wait + Sync, G: Gate + Sync>(
 }
 
 /// Tick `now` on 1 to 8 workers, of which the calling thread is one: its edits, in order, and then the entries that are
-/// due leave their lists and are turned, those of each part of the plan by one worker. Returns how many they are. What
-/// is left is that of the tick on one thread.
+/// due leave their lists and are turned, where the gate watches those of each part of the plan by one worker. Returns how
+/// many they are. What is left is that of the tick on one thread.
 ///
 /// # Errors
 /// `BadCount` where the workers are not 1 to 8, and else `Broken` of a broken world; then the world stays as it is.

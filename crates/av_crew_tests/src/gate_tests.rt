@@ -200,7 +200,7 @@ const LOPSIDED: RowTick<'static> = RowTick {
     wet: 120,
 };
 
-/// One less.
+/// Thirty-eight, of which one part has 25.
 const UNEVEN: RowTick<'static> = RowTick {
     ranges: &[(0, 13), (37, 62)],
     workers: 2,

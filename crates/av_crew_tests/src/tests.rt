@@ -104,7 +104,7 @@ fn expect_four_with<R: Threads + Wait + Sync + Abort, G: Gate + Sync>(
     Ok(())
 }
 
-/// Four parts, which are worked off where a gate watches, and else without a plan.
+/// Four parts, which are worked off where a gate watches; else the world itself is turned.
 #[test]
 fn four_sources_spread(rt: HostRuntime) -> Result<(), Fail> {
     let alloc = rt.alloc();

@@ -126,10 +126,9 @@ pub fn run_checked<R: Threads + Wait + Sync, G: Gate + Sync>(
 
 /// Runs edits and water over the world of region files, lights it, and answers the files that it is written as. `table`
 /// is a block table, `edits` are lines of edits, and `workers` is how many threads turn blocks at most, the calling one
-/// among them; the answer is the same for each number of them. One worker's blocks, and in a tick those of few entries, of
-/// one large part, or like such a tick before, are turned by the calling thread on the world itself; else the workers turn
-/// the tick's parts. Where `gate` watches, all ticks are turned in parts. It is told of each part before and after its
-/// turns. A refused run hands out nothing.
+/// among them; the answer is the same for each number of them. One worker's blocks, and in a tick those of few entries, are
+/// turned by the calling thread on the world itself; else the workers turn the tick's groups. Where `gate` watches, all
+/// ticks are turned in parts. It is told of each part before and after its turns. A refused run hands out nothing.
 ///
 /// # Errors
 /// The first of these: `BadCount` where there are not 1 to 8 workers, or more than 1,000,000 ticks or 1,024 files;
