@@ -1,5 +1,5 @@
 #!/usr/bin/env python3
-"""Times ticks alone, by the programs' own clocks: what comes before them, as the reading of a region, is not counted. All programs are
+"""Times ticks alone, but for a flood's by the programs' own clocks: what comes before them, as the reading of a region, is not counted. All programs are
 asked by turns, after a rest each, and each best of several counts: of those in which the host of a virtual machine took no processor
 away (Linux counts that time as stolen), or of all where there is none.
 
@@ -7,7 +7,8 @@ away (Linux counts that time as stolen), or of all where there is none.
                                                 and by the crew with some numbers of workers. First each lake is a source, then it
                                                 is 5 by 5 sources, and then 15 by 15
     bench/ticks.py TIMES flood                  200 ticks of a region into which 50,000 edits pour water: whole runs with some numbers of
-                                                workers, each less the best run of one tick, over those with one worker
+                                                workers, each less the best run of one tick, over those with one worker; the
+                                                best of all, whether time was stolen or not
     bench/ticks.py TIMES REGION EDITS PLAIN     20 ticks of a region with edits: by the plain program, by the tick of one thread, and by
                                                 the crew with one worker
 """
@@ -23,6 +24,10 @@ TABLE = os.path.join(TOP, "tables/blocks.toml")
 
 # Seconds before each program: a host that shares its processors out often lets one that rested have more of them.
 REST = 0.5
+
+# With how many workers ticks are timed, and how many ticks of a flood.
+WORKERS = (1, 2, 4, 8)
+FLOOD_TICKS = 200
 
 
 def stolen():
@@ -55,7 +60,7 @@ def lakes(width):
     """Of so many sources along x and as many along z."""
     command = [PROGRAM, "tick", str(width), "100"]
     commands = {"one thread": [*command, "0"]}
-    for workers in (1, 2, 4, 8):
+    for workers in WORKERS:
         commands["%d workers" % workers] = [*command, str(workers)]
     return commands
 
@@ -106,18 +111,19 @@ def measure_flood(times):
     """Prints ratios of a flood's ticks to those with one worker, and answers whether all runs left the same."""
     lines, seconds, memory = set(), {}, {}
     for _ in range(times):
-        for case in ((1, 1), *((200, workers) for workers in (1, 2, 4, 8))):
+        for case in ((1, 1), *((FLOOD_TICKS, workers) for workers in WORKERS)):
             line, whole, most = flooded(*case)
             seconds.setdefault(case, []).append(whole)
             memory[case] = max(memory.get(case, 0), most)
-            if case[0] == 200:
+            if case[0] == FLOOD_TICKS:
                 lines.add(line)
     start = min(seconds[1, 1])
-    alone = min(seconds[200, 1]) - start
+    alone = min(seconds[FLOOD_TICKS, 1]) - start
     print("a run of one tick: %.2f s" % start)
-    for workers in (1, 2, 4, 8):
-        best = min(seconds[200, workers])
-        print("%d workers  run %.2f s, ticks %.2f s, ratio %.2f; %.0f MB" % (workers, best, best - start, (best - start) / alone, memory[200, workers]))
+    for workers in WORKERS:
+        case = FLOOD_TICKS, workers
+        ticks = min(seconds[case]) - start
+        print("%d workers  run %.2f s, ticks %.2f s, ratio %.2f; %.0f MB" % (workers, start + ticks, ticks, ticks / alone, memory[case]))
     return len(lines) == 1
 
 

@@ -5,7 +5,7 @@ as a call of the system that failed; all files are then written or none, once th
 refused in a tick, the world then answers 26 to each call.
 
 Of a run of many chunks, whose threads read chunks ahead and give memory back, and of one with a tick of many entries, which threads turn
-in groups, each start of a thread is refused in turn, and every so many-th growth. With each worker more one thread more is started for that
+in groups, each start of a thread is refused in turn, and one growth of so many. With each worker more one thread more is started for that
 tick, up to its number of groups.
 
     scripts/check_memory.py PROGRAM BENCH   as crates/av_main/out/av_main and crates/av_bench/out/av_bench
@@ -24,7 +24,7 @@ sys.dont_write_bytecode = True
 from flat_runs import TABLE, WATER, edit, flat, many_chunks, said
 from preloads import built_library
 
-# A run of many chunks has some ten thousand growths, and one of many entries some thousands: so many from one that is refused to the next.
+# A run of many chunks has some ten thousand growths, and one of many entries twice as many: so many from one that is refused to the next.
 CHUNKS_STEP = 499
 ENTRIES_STEP = 29
 
@@ -145,7 +145,7 @@ def main():
             return
         source = edit(1, 8, 64, 8, WATER)
         one_chunk = edit(1, 8, 72, 8, WATER) + edit(1, 8, 40, 8, WATER)
-        # more entries than are turned without a plan
+        # entries of two lakes, in two sections of a chunk
         lakes = "".join(edit(1, x, y, z, WATER) for x in range(5, 11) for y in (72, 40) for z in range(6, 9))
         for name, line, data, edits, workers in (
                 ("one worker", "chunks 1 turns 1", flat(), source, 1),
@@ -171,6 +171,7 @@ def main():
             counts.append(check_run("many entries and %d workers" % workers, "chunks 3 turns 560", case))
             starts.append(counts[-1][0])
         if starts != [starts[0], starts[0] + 1, starts[0] + 2, starts[0] + 2]:
+            # one question more, answered wrong
             counts.append((1, 1))
             print("threads that are started for three groups by 1 to 4 workers: %s" % starts)
         for name, workers in (("one thread", 0), ("one worker", 1), ("two workers", 2)):

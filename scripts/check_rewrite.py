@@ -65,7 +65,7 @@ def document(payload):
 
 
 def region(path):
-    """Those of a file, as `region_of` has them."""
+    """The payloads and the timestamps of a file."""
     with open(path, "rb") as file:
         return region_of(file.read())
 

@@ -110,7 +110,7 @@ for x in 5 6 7 8 9 10; do
     printf '1 %d %d %d minecraft:water[level=0]\n' "$x" 104 "$z" "$x" 88 "$z"
   done
 done > "$work/lake_edits"
-# 36 entries of two lakes are due in tick 6, more than are turned without a plan.
+# 36 entries of two lakes are due in tick 6. Ticks of 256 and more are those of check_workers.py.
 run "$top/samples" lakes "$work/lake_edits" 20 1 > /dev/null
 for workers in 2 3 5 8; do
   run "$top/samples" "lakes_by_$workers" "$work/lake_edits" 20 "$workers" > /dev/null

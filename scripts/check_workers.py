@@ -1,10 +1,11 @@
 #!/usr/bin/env python3
-"""Runs a thousand drawn worlds, each with one worker and with a drawn number of 2 to 8, and compares what is printed and written.
+"""Runs ten drawn regions with a hundred drawn lists of edits each, every time with one worker and with a drawn number of 2 to 8, and
+compares what is printed and written.
 
     scripts/check_workers.py PROGRAM        as crates/av_main/out/av_main
 
-A world is some flat chunks, among them gaps, with holes and stones near the ground, into which water, stone and air are put in ticks 1 to 3.
-Entries are due in seven of its 16 ticks, and together they are so many that one of these has 256 or more, which several workers turn in
+A region is some flat chunks, among them gaps, with holes and stones near the ground, into which water, stone and air are put in ticks 1 to 3.
+Entries are due in seven of 16 ticks, and together they are so many that one of these has 256 or more, which several workers turn in
 groups.
 """
 import os
@@ -15,12 +16,13 @@ from concurrent.futures import ThreadPoolExecutor
 sys.dont_write_bytecode = True
 from flat_runs import ROWS, WATER, asked, edit, flat
 
-WORLDS = 1000
+RUNS = 1000
 REGIONS = 10
 EDITS = 700
+TICKS = 16
 TABLE = "version = 3\nmin_section = 3\nsections = 2\n" + ROWS
 
-# The ticks in which entries are due, and how many entries are enough for several workers.
+# In how many of the ticks entries are due, and how many entries are enough for several workers.
 DUE_TICKS = 7
 MANY = 256
 
@@ -46,18 +48,19 @@ def drawn_edits(draw, chunks):
 
 
 def is_same(program, number, region, chunks):
-    """Whether a world is the same by one worker and by several, and has enough entries for several. Says what differs."""
+    """Whether a run leaves the same by one worker and by several, and has enough entries for several. Says what differs."""
     draw = random.Random(number)
     edits = drawn_edits(draw, chunks)
     workers = draw.randrange(2, 9)
-    alone = asked(program, region, edits, 16, workers=1, table=TABLE)
+    alone = asked(program, region, edits, TICKS, workers=1, table=TABLE)
     words = alone[0].split()
-    if len(words) != 4 or words[2] != "turns" or int(words[3]) <= DUE_TICKS * (MANY - 1):
-        print("world %d: %s, which are too few turns" % (number, alone[:2]))
+    least = DUE_TICKS * (MANY - 1) + 1
+    if len(words) != 4 or words[2] != "turns" or int(words[3]) < least:
+        print("run %d by one worker: %s, where at least %d turns were to be" % (number, alone[:2], least))
         return False
-    shared = asked(program, region, edits, 16, workers=workers, table=TABLE)
+    shared = asked(program, region, edits, TICKS, workers=workers, table=TABLE)
     if shared != alone:
-        print("world %d by %d workers: %s for %s, or another file" % (number, workers, shared[:2], alone[:2]))
+        print("run %d by %d workers: %s for %s, or another file" % (number, workers, shared[:2], alone[:2]))
         return False
     return True
 
@@ -66,7 +69,7 @@ def main():
     program = os.path.abspath(sys.argv[1])
     regions = [drawn_region(random.Random("region %d" % number)) for number in range(REGIONS)]
     with ThreadPoolExecutor(os.cpu_count()) as pool:
-        same = list(pool.map(lambda number: is_same(program, number, *regions[number % REGIONS]), range(WORLDS)))
+        same = list(pool.map(lambda number: is_same(program, number, *regions[number % REGIONS]), range(RUNS)))
     wrong = same.count(False)
     print("%d asked of numbers of workers, %d wrong" % (len(same), wrong))
     sys.exit(wrong > 0)

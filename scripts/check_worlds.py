@@ -66,7 +66,7 @@ def board(x, y, z):
 
 
 def parts(run):
-    """Ticks of more than 32 entries, in two parts or more."""
+    """Ticks of some dozens of entries, which lie in two parts or more."""
     # 18 sources in each of two sections of a chunk, far enough from each other that none meets another's water
     sources = [(x, y, z) for x in range(0, 16, 3) for z in (2, 7, 12) for y in (72, 40)]
     lines = "".join(edit(1, *at, WATER) for at in sources)

@@ -120,8 +120,8 @@ def said(errors):
 
 
 def asked(program, data, edits, ticks, *, workers, table=TABLE, others=()):
-    """What the program prints to each of its outputs, and the file that it writes, for the region (0, 0). Other files of the folder are
-    given by their names."""
+    """What the program prints to each of its outputs, and the bytes that it writes for the region (0, 0), or None. Other files of the folder
+    are given by their names."""
     with tempfile.TemporaryDirectory() as work:
         for name in ("in", "out"):
             os.mkdir(os.path.join(work, name))
@@ -141,10 +141,10 @@ def asked(program, data, edits, ticks, *, workers, table=TABLE, others=()):
 
 
 class Run:
-    """What the program printed and wrote for the region (0, 0), with what was asked."""
+    """What `asked` answers, with the file's payloads, timestamps and chunks where there is one."""
 
-    def __init__(self, program, data, edits="", ticks=0, **named):
-        self.line, self.fault, self.data = asked(program, data, edits, ticks, **named)
+    def __init__(self, program, data, edits="", ticks=0, **how):
+        self.line, self.fault, self.data = asked(program, data, edits, ticks, **how)
         self.chunks = {}
         if self.data is not None:
             self.payloads, self.stamps = check_rewrite.region_of(self.data)
