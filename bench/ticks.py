@@ -1,7 +1,7 @@
 #!/usr/bin/env python3
-"""Times ticks alone, but for a flood's by the programs' own clocks: what comes before them, as the reading of a region, is not counted. All programs are
-asked by turns, after a rest each, and each best of several counts: of those in which the host of a virtual machine took no processor
-away (Linux counts that time as stolen), or of all where there is none.
+"""Times ticks alone, but for a flood's by the programs' own clocks: what comes before them, as the reading of a region, is not counted. All
+programs are asked by turns, after a rest each, and each best of several counts: of those in which the host of a virtual machine took no
+processor away (Linux counts that time as stolen), or of all where there is none.
 
     bench/ticks.py TIMES                        100 ticks of a region in which 200 lakes spread at once: by the tick of one thread,
                                                 and by the crew with some numbers of workers. First each lake is a source, then it
@@ -36,16 +36,23 @@ def stolen():
         return int(file.readline().split()[8])
 
 
+def finished(command):
+    """What a program prints, and what it used."""
+    process = subprocess.Popen(command, stdout=subprocess.PIPE, text=True)
+    text = process.stdout.read()
+    _, status, usage = os.wait4(process.pid, 0)
+    if status != 0:
+        sys.exit("%s: status %d" % (" ".join(command), os.waitstatus_to_exitcode(status)))
+    return text, usage
+
+
 def run(command):
     """The number of turns, whether time was stolen, and the seconds of the ticks, the processor seconds and the most memory in MB of the
     whole program."""
     time.sleep(REST)
     before = stolen()
-    process = subprocess.Popen(command, stdout=subprocess.PIPE, text=True)
-    words = process.stdout.read().split()
-    _, status, usage = os.wait4(process.pid, 0)
-    if status != 0:
-        sys.exit("%s: status %d" % (" ".join(command), os.waitstatus_to_exitcode(status)))
+    text, usage = finished(command)
+    words = text.split()
     return words[1], stolen() > before, int(words[3]) / 1e6, usage.ru_utime + usage.ru_stime, usage.ru_maxrss / 1024
 
 
@@ -98,12 +105,7 @@ def flooded(ticks, workers):
     """What a run of a flood prints, its seconds, and the most memory in MB."""
     time.sleep(REST)
     began = time.monotonic()
-    words = [WORKLOADS, "flood", "1", "32", "50000", str(ticks), str(workers)]
-    process = subprocess.Popen(words, stdout=subprocess.PIPE, text=True)
-    line = process.stdout.read()
-    _, status, usage = os.wait4(process.pid, 0)
-    if status != 0:
-        sys.exit("%s: status %d" % (" ".join(words), os.waitstatus_to_exitcode(status)))
+    line, usage = finished([WORKLOADS, "flood", "1", "32", "50000", str(ticks), str(workers)])
     return line, time.monotonic() - began, usage.ru_maxrss / 1024
 
 
