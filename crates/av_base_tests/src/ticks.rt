@@ -91,6 +91,56 @@ fn entries_leave_by_time_priority_and_place(rt: HostRuntime) -> Result<(), Fail>
     Ok(())
 }
 
+/// Where times do not fall only those that are due are in the part. It is a beginning of the list, and stays so when some have left.
+#[test]
+fn what_is_due_stands_at_the_beginning(rt: HostRuntime) -> Result<(), Fail> {
+    let mut list = TickList::new(rt.alloc());
+    expect_equal(&rt, list.due_part(u32::MAX), [].as_slice());
+    let rising = [
+        entry(1, 3, 0),
+        entry(2, 3, -1),
+        entry(3, 5, 0),
+        entry(4, 6, 0),
+    ];
+    expect_equal(&rt, takes(&mut list, &rising)?, true);
+    expect_equal(&rt, list.due_part(2), [].as_slice());
+    expect_equal(&rt, list.due_part(3), &rising[..2]);
+    expect_equal(&rt, list.due_part(5), &rising[..3]);
+    list.drop_due(3);
+    expect_equal(&rt, list.as_slice(), &rising[2..]);
+    expect_equal(&rt, (list.soonest(), list.len()), (5, 2));
+    expect_equal(&rt, list.add(entry(5, 6, 0))?, true);
+    expect_equal(&rt, list.due_part(5), &rising[2..3]);
+    list.drop_due(6);
+    expect_equal(&rt, (list.soonest(), list.is_empty()), (i64::MAX, true));
+    Ok(())
+}
+
+/// Where a time falls the part has all that are due, also those behind one that is not.
+#[test]
+fn what_is_due_is_found_where_times_fall(rt: HostRuntime) -> Result<(), Fail> {
+    let mut list = TickList::new(rt.alloc());
+    let falling = [
+        entry(1, 3, 0),
+        entry(2, 9, 0),
+        entry(3, 4, 0),
+        entry(4, 9, 0),
+    ];
+    expect_equal(&rt, takes(&mut list, &falling)?, true);
+    expect_equal(&rt, list.due_part(4).contains(&falling[2]), true);
+    expect_equal(
+        &rt,
+        list.take_due(4)?.as_slice(),
+        [falling[0], falling[2]].as_slice(),
+    );
+    expect_equal(&rt, list.soonest(), 3);
+    list.drop_due(4);
+    expect_equal(&rt, list.as_slice(), [falling[1], falling[3]].as_slice());
+    expect_equal(&rt, list.soonest(), 9);
+    expect_equal(&rt, list.due_part(8), [].as_slice());
+    Ok(())
+}
+
 /// A refused entry changes nothing, and one that left can come again.
 #[test]
 fn a_position_has_one_entry(rt: HostRuntime) -> Result<(), Fail> {

@@ -157,6 +157,17 @@ fn untouched(alloc: Global, world: &World) -> Result<Vec<usize>, AllocError>
     Vec::from_elem(alloc, 0, world.positions().len())
 }
 
+/// An empty group with as much room as another one took, so that it seldom grows.
+fn empty_like(alloc: Global, group: &Group) -> Result<Group, AllocError>
+    ensures entries { IfOk result (λ empty. empty.entries.items ≡ []) }
+    ensures touches { IfOk result (λ empty. empty.touches.items ≡ []) }
+{
+    Ok(Group {
+        entries: Vec::with_capacity(alloc, group.entries.len())?,
+        touches: Vec::with_capacity(alloc, group.touches.len())?,
+    })
+}
+
 impl Cutting {
     /// No entry yet.
     fn new(alloc: Global, tile: Tile, last: Vec<usize>) -> Cutting
@@ -185,10 +196,7 @@ impl Cutting {
         if tile == self.tile {
             return Ok(());
         }
-        let next = Group {
-            entries: Vec::new(alloc),
-            touches: Vec::new(alloc),
-        };
+        let next = empty_like(alloc, &self.gathered)?;
         let gathered = mem::replace(&mut self.gathered, next);
         self.closed.push(gathered)?;
         self.tile = tile;

@@ -1,8 +1,8 @@
 //! Groups of a tick's entries.
 use av_types::{ChunkPos, Entry};
 
-/// A chunk that the turns of a group may read or change, its index among the world's positions, and the number of groups that
-/// come before it there: one more than that of the last earlier group that touches it, and 0 where none does.
+/// A chunk that the turns of a group may read or change, its index among the world's positions, and what comes before the group
+/// there: one more than the number of the last earlier group that touches the chunk, and 0 where none does.
 #[derive(Clone, Copy, Debug, Drop)]
 pub struct Touch {
     pub chunk: ChunkPos,

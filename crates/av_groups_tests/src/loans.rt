@@ -76,8 +76,27 @@ fn kinds_for(alloc: Global, world: &World) -> Result<Kinds, Fault> {
     Ok(kinds)
 }
 
-/// The chunks with these sources after a turn of each of these entries in tick 1, in groups that are lent in this order: each
-/// behind the number of those that were taken back before. One turn after the other leaves the same.
+/// The chunks with these sources after a turn of each of these entries in tick 1, in groups, of which `room` may be lent at once,
+/// and that are lent in this order: each behind the number of those that were taken back before. One turn after the other leaves
+/// the same.
+fn expect_turned_in(
+    rt: &impl Abort,
+    alloc: Global,
+    room: usize,
+    sources: &[Entry],
+    entries: &[Entry],
+    want: &[(usize, usize)],
+) -> Result<World, Fault> {
+    let world = with_sources(alloc, sources)?;
+    let kinds = kinds_for(alloc, &world)?;
+    let (left, told) = turned_in_groups(alloc, world, &kinds, 1, entries, room)?;
+    assert_eq!(rt; told.as_slice(), want);
+    let serial = turned(with_sources(alloc, sources)?, &kinds, 1, entries)?;
+    expect_same(rt, &left, &serial);
+    Ok(left)
+}
+
+/// The same where all groups may be lent at once.
 fn expect_turned(
     rt: &impl Abort,
     alloc: Global,
@@ -85,13 +104,7 @@ fn expect_turned(
     entries: &[Entry],
     want: &[(usize, usize)],
 ) -> Result<World, Fault> {
-    let world = with_sources(alloc, sources)?;
-    let kinds = kinds_for(alloc, &world)?;
-    let (left, told) = turned_in_groups(alloc, world, &kinds, 1, entries)?;
-    assert_eq!(rt; told.as_slice(), want);
-    let serial = turned(with_sources(alloc, sources)?, &kinds, 1, entries)?;
-    expect_same(rt, &left, &serial);
-    Ok(left)
+    expect_turned_in(rt, alloc, entries.len(), sources, entries, want)
 }
 
 /// A block at y 64, by its x and z.
@@ -171,6 +184,16 @@ fn groups_wait_for_those_whose_chunks_they_share(rt: HostRuntime) -> Result<(), 
     for (chunk, list) in CHUNKS.iter().zip(&LISTS) {
         expect_list(&rt, &world, *chunk, list);
     }
+    Ok(())
+}
+
+/// Where one group may be lent at once, group 2 is not lent for before group 0 is back, and group 1, which then waits for none, comes
+/// before it.
+#[test]
+fn no_more_groups_are_lent_at_once_than_may_be(rt: HostRuntime) -> Result<(), Fail> {
+    let want = [(0, 0), (1, 1), (2, 2), (3, 3)];
+    let sources = four();
+    expect_turned_in(&rt, rt.alloc(), 1, &sources, &sources, &want)?;
     Ok(())
 }
 

@@ -93,6 +93,7 @@ fn turn_plan(
     world: &mut World,
     kinds: &Kinds,
     cut: &Groups,
+    room: usize,
 ) -> Result<Told, Fault>
     requires plan { IsPlanOf plan.now kinds.now cut.now.groups.items }
     requires groups { (entries : List Entry) × AreGroups (land_of plan.now.start.value) entries
@@ -101,7 +102,7 @@ fn turn_plan(
     ensures { OnOk result (IsFinished plan.now world.new) }
 {
     let groups = cut.groups.as_slice();
-    let mut lender = Lender::new(alloc, plan, world, groups)?;
+    let mut lender = Lender::new(alloc, plan, world, groups, room)?;
     let mut lent = Vec::new(alloc);
     let mut told = Vec::new(alloc);
     for back in 0..groups.len() {
@@ -127,13 +128,14 @@ fn turn_plan(
     Ok(told)
 }
 
-/// Turns entries of loaded blocks in tick `now`, in groups.
+/// Turns entries of loaded blocks in tick `now`, in groups, of which `room` may be lent at once.
 pub fn turn_in_groups(
     alloc: Global,
     world: &mut World,
     kinds: &Kinds,
     now: u32,
     entries: &[Entry],
+    room: usize,
 ) -> Result<Told, Fault>
     requires { IsReady (kind_count kinds.now) world.old }
     ensures { OnOk result (land_of world.new ≡ turned_all
@@ -141,22 +143,23 @@ pub fn turn_in_groups(
 {
     let cut = groups_of(alloc, world, entries)?;
     let plan = Plan::new(now, kinds, world, &cut.groups);
-    turn_plan(alloc, &plan, world, kinds, &cut)
+    turn_plan(alloc, &plan, world, kinds, &cut, room)
 }
 
-/// A world after entries were turned in tick `now`, in groups.
+/// A world after entries were turned in tick `now`, in groups, of which `room` may be lent at once.
 pub fn turned_in_groups(
     alloc: Global,
     mut world: World,
     kinds: &Kinds,
     now: u32,
     entries: &[Entry],
+    room: usize,
 ) -> Result<(World, Told), Fault>
     requires { IsPlain world }
 {
     if kinds.count() < 11 {
         return Err(Fault::BadTable);
     }
-    let told = turn_in_groups(alloc, &mut world, kinds, now, entries)?;
+    let told = turn_in_groups(alloc, &mut world, kinds, now, entries, room)?;
     Ok((world, told))
 }

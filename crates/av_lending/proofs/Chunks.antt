@@ -23,7 +23,8 @@ use Rattle.av_groups.specs.declared.groups.Touch.{Touch}
 use Rattle.av_groups.specs.Groups.{touched, NoneTouches}
 use Rattle.av_groups.specs.Parts.{IsPart}
 use Rattle.av_lending.specs.declared.plans.Plan.{Plan}
-use Rattle.av_lending.specs.Plans.{groups_of, kinds_in, start_of, after, stage_of, IsPlan, IsLentAfter, IsAtStage, IsUnderWay, IsNext, CameTo}
+use Rattle.av_lending.specs.Plans.{groups_of, kinds_in, start_of, after, stage_of, IsPlan, IsLentAfter, IsAtStage, IsUnderWay}
+use Rattle.av_lending.specs.Brought.{IsNext, CameTo}
 use Rattle.av_lending.proofs.After.{same_after, loaded_after, IsSameAt}
 use Rattle.av_lending.proofs.Stages.{slot_is}
 

@@ -21,7 +21,8 @@ use Rattle.av_world.specs.Views.{grid, blocks, lists, height_of, positions_of}
 use Rattle.av_world.specs.declared.worlds.World.{World}
 use Rattle.av_groups.specs.Groups.{touched, NoneTouches, AreGroups}
 use Rattle.av_lending.specs.declared.plans.Plan.{Plan}
-use Rattle.av_lending.specs.Plans.{groups_of, kinds_in, start_of, after, stage_of, IsPlan, IsLentAfter, IsAtStage, IsUnderWay, IsBringing, IsFinished}
+use Rattle.av_lending.specs.Plans.{groups_of, kinds_in, start_of, after, stage_of, IsPlan, IsLentAfter, IsAtStage, IsUnderWay, IsFinished}
+use Rattle.av_lending.specs.Brought.{IsBringing}
 use Rattle.av_lending.proofs.After.{entries_of, loaded_after, height_after_all, chunks_after_all}
 use Rattle.av_lending.proofs.Chunks.{among_all, is_there, later, kept}
 use Rattle.av_lending.proofs.Stages.{some_past}

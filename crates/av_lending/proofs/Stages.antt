@@ -11,7 +11,8 @@ use Rattle.av_world.specs.Views.{positions_of}
 use Rattle.av_world.specs.declared.worlds.World.{World}
 use Rattle.av_world.proofs.ChunkReads.{slot_of_index}
 use Rattle.av_world.specs.Near.{slot_at}
-use Rattle.av_lending.specs.Plans.{stage_of, CameTo, IsBringing}
+use Rattle.av_lending.specs.Plans.{stage_of}
+use Rattle.av_lending.specs.Brought.{CameTo, IsBringing}
 
 pub slot_is : (w : World) (c : ChunkPos) (i : ℕ) → slice_get (positions_of w) i ≡ Some c → slot (positions_of w) c ≡ i
 slot_is w c i at = slot_of_index (positions_of w) c i w.lawful.rising (slice_get_within (positions_of w) i c at) at

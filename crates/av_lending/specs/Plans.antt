@@ -1,6 +1,6 @@
 -- A tick in groups, and the worlds that are lent for them.
-use Rattle.std.specs.Prelude.{◌≡◌, ℕ, true, false, ◌⊎◌, List, length, map, take, slice_get, slice_index_or, Option, Some, None}
-use Rattle.std.specs.List.{All, flat_map}
+use Rattle.std.specs.Prelude.{◌≡◌, ℕ, false, List, length, take, slice_get, slice_index_or, Option, Some, None}
+use Rattle.std.specs.List.{flat_map}
 use Rattle.av_types.specs.Places.{chunk_of}
 use Rattle.av_types.specs.declared.place.Pos.{Pos}
 use Rattle.av_types.specs.declared.place.ChunkPos.{ChunkPos}
@@ -16,8 +16,7 @@ use Rattle.av_world.specs.Views.{blocks, lists, height_of, positions_of, is_brok
 use Rattle.av_world.specs.declared.worlds.World.{World}
 use Rattle.av_serial.specs.Ready.{IsReady, IsSamePlace}
 use Rattle.av_groups.specs.declared.groups.Group.{Group}
-use Rattle.av_groups.specs.declared.groups.Touch.{Touch}
-use Rattle.av_groups.specs.Groups.{touched, IsPlaced, IsGroup}
+use Rattle.av_groups.specs.Groups.{touched, IsGroup}
 use Rattle.av_groups.specs.Parts.{IsPart}
 use Rattle.av_lending.specs.declared.plans.Plan.{Plan}
 
@@ -74,28 +73,6 @@ pub record IsUnderWay (p : Plan) (w : World) (stages : List (Option ℕ)) : Type
   pub numbers : HasKinds (kind_count (kinds_in p)) (blocks w)
   pub absent : (c : ChunkPos) → has_chunk (positions_of p.start.value) c ≡ false → IsAtStage p 0 w c
   pub known : (c : ChunkPos) (m : ℕ) → stage_of (positions_of p.start.value) stages c ≡ Some m → IsAtStage p m w c
-
--- the chunk is as the groups before the touching one leave it
-abbrev pub IsReadyAt : List (Option ℕ) → Touch → Type 0
-IsReadyAt stages t = slice_index_or stages t.index None ≡ Some t.before
-
--- so is each chunk that the group touches
-abbrev pub IsNext : List (Option ℕ) → Group → Type 0
-IsNext stages g = All (IsReadyAt stages) g.touches.items
-
--- The chunks cs came to a stage, and all others are where they were. It tells of chunks of which a stage is known then.
-abbrev pub CameTo : List ChunkPos → List ChunkPos → Option ℕ → List (Option ℕ) → List (Option ℕ) → Type 0
-CameTo ps cs stage old new = (c : ChunkPos) (m : ℕ) → stage_of ps new c ≡ Some m
-    → ((has_chunk cs c ≡ true) × (stage ≡ Some m)) ⊎ ((has_chunk cs c ≡ false) × (stage_of ps old c ≡ Some m))
-
--- they did, and there are as many stages as chunks
-pub record IsBringing (ps cs : List ChunkPos) (stage : Option ℕ) (old new : List (Option ℕ)) : Type 0 where
-  pub long : length new ≡ length ps
-  pub came : CameTo ps cs stage old new
-
--- so brought are the chunks of some touches, in a world where they stand at their indices
-abbrev pub AreBrought : List Touch → Option ℕ → List (Option ℕ) → List (Option ℕ) → Type 0
-AreBrought ts stage old new = (w : World) → All (IsPlaced (positions_of w)) ts → length old ≡ length (positions_of w) → IsBringing (positions_of w) (map (λ t. t.chunk) ts) stage old new
 
 -- the world w is what all groups leave of the one with which they began
 pub record IsFinished (p : Plan) (w : World) : Type 0 where

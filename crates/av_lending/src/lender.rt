@@ -7,7 +7,8 @@ ghost use Rattle.av_types.specs.declared.tick.Entry.{Entry};
 ghost use Rattle.av_world.specs.declared.worlds.World.{World};
 ghost use Rattle.av_groups.specs.Groups.{AreGroups, IsPlaced};
 ghost use Rattle.av_groups.specs.declared.groups.Group.{Group};
-ghost use Rattle.av_lending.specs.Plans.{IsPlanOf, IsLentAfter, IsUnderWay, IsReadyAt, IsNext, IsFinished, IsPlan, IsBringing, AreBrought};
+ghost use Rattle.av_lending.specs.Plans.{IsPlanOf, IsLentAfter, IsUnderWay, IsFinished, IsPlan};
+ghost use Rattle.av_lending.specs.Brought.{IsReadyAt, IsNext, IsBringing, AreBrought};
 
 use crate::lent::Lent;
 use crate::plans::Plan;
@@ -28,6 +29,8 @@ pub struct Lender {
     waiting: Waiting,
     /// How many groups are still to be taken back.
     left: usize,
+    /// How many groups more may be lent at once.
+    room: usize,
 }
 
 impl Model for Lender {
@@ -146,7 +149,8 @@ fn unturned(alloc: Global, chunks: usize) -> Result<Vec<Option<usize>>, AllocErr
 }
 
 impl Lender {
-    /// Nothing of the world with which the plan begins is lent.
+    /// Nothing of the world with which the plan begins is lent. At most `room` groups are lent at once: a bare chunk stands in the
+    /// world for each chunk that is.
     ///
     /// # Errors
     /// Where memory is refused.
@@ -155,6 +159,7 @@ impl Lender {
         plan: &Plan,
         world: &World,
         groups: &[Group],
+        room: usize,
     ) -> Result<Self, AllocError>
         requires start { plan.now.start.value ≡ world.now }
         requires plan { IsPlan plan.now }
@@ -165,6 +170,7 @@ impl Lender {
             stages: unturned(alloc, chunks)?,
             waiting: Waiting::new(alloc, chunks, groups.len())?,
             left: groups.len(),
+            room,
         })
     }
 
@@ -189,13 +195,15 @@ impl Lender {
         let chunks = chunks_of(alloc, touches)?;
         let lent = world.lend(chunks.as_slice())?;
         bring(&mut self.stages, touches, None);
+        self.room = self.room.saturating_sub(1);
         Ok(Lent {
             number,
             world: lent,
         })
     }
 
-    /// Lends the chunks of the next group that is ready. None: those that are left wait for groups that are not taken back.
+    /// Lends the chunks of the next group that is ready. None: those that are left wait for groups that are not taken back, or as
+    /// many are lent as may be at once.
     ///
     /// # Errors
     /// Where memory is refused. Then chunks may be gone, and the world is to be given up.
@@ -213,6 +221,9 @@ impl Lender {
         ensures lent { IfOk result (λ some. IfSome some
             (λ lent. IsLentAfter plan.now lent.number lent.number lent.world)) }
     {
+        if self.room == 0 {
+            return Ok(None);
+        }
         match find(self.stages.as_slice(), &mut self.waiting, groups) {
             Some(number) => {
                 let lent = self.lend_group(alloc, plan, world, kinds, groups, number)?;
@@ -243,6 +254,7 @@ impl Lender {
         bring(&mut self.stages, touches, stage);
         release(&mut self.waiting, touches);
         self.left = self.left.saturating_sub(1);
+        self.room = self.room.saturating_add(1);
     }
 
     /// Whether all groups are taken back.
@@ -253,7 +265,7 @@ impl Lender {
         requires under_way { IsUnderWay plan.now world.now self.now }
         ensures { result ≡ true → IsFinished plan.now world.now }
     {
-        // All chunks are looked at once only.
+        // The chunks are looked at only once no group is left.
         self.left == 0 && are_at(self.stages.as_slice(), groups.last.as_slice())
     }
 }

@@ -24,6 +24,10 @@ use std::sync::Wait;
 use std::thread::{Scope, Threads};
 use std::{mem, thread};
 
+/// So many groups may be lent at once for each thread: enough that none waits for one that another could lend. More would only
+/// take chunks out of the caches, and memory for those that stand in for them.
+const AHEAD: usize = 8;
+
 /// Turns all groups, by this thread and the others, which end before it returns. The keeper is in its line once they are started.
 fn in_scope<'s, E, R: Wait + Sync>(
     scope: &'s Scope<'s, E>,
@@ -116,8 +120,9 @@ pub fn turn_in_groups<R: Threads + Wait + Sync>(
     let groups = cut(alloc, world, entries)?;
     let count = groups.groups.len();
     let plan = Plan::new(now, kinds, world, &groups.groups);
-    let lender = Lender::new(alloc, &plan, world, groups.groups.as_slice())?;
     let threads = workers.min(count).max(1);
+    let ahead = threads.saturating_mul(AHEAD);
+    let lender = Lender::new(alloc, &plan, world, groups.groups.as_slice(), ahead)?;
     let room = count.saturating_add(threads);
     let works_plan = Plan::new(now, kinds, world, &groups.groups);
     let (works, works_pass) = Line::open(rt, alloc, works_plan, room)?;

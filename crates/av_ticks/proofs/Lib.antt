@@ -5,3 +5,4 @@ pub mod Kept
 pub mod Least
 pub mod Lookup
 pub mod Marks
+pub mod Times

@@ -5,6 +5,7 @@ pub mod laws;
 pub mod list;
 pub mod merge;
 mod positions;
+mod rising;
 mod store;
 
 pub use list::TickList;

@@ -1,5 +1,5 @@
 //! The scheduled water ticks of a chunk.
-ghost use Rattle.std.specs.Prelude.{◌≡◌, ◌<◌, ◌≤◌, ◌+◌, [], ◌∷◌, ◌++◌, ◌↔◌, filter, length, not, false, true, IsTrue, IsOk, IfOk, OnOk, OnErr, IfErr, if◌then◌else◌};
+ghost use Rattle.std.specs.Prelude.{◌≡◌, ◌<◌, ◌≤◌, ◌+◌, [], ◌∷◌, ◌++◌, ◌↔◌, filter, take, length, not, false, true, IsTrue, IsOk, IfOk, OnOk, OnErr, IfErr, if◌then◌else◌};
 ghost use Rattle.av_types.specs.declared.fault.Fault.TheVariants.{OutOfMemory};
 ghost use Rattle.std.specs.Int.{int_min};
 ghost use Rattle.std.specs.List.{list_any};
@@ -39,17 +39,6 @@ fn sooner(one: i64, other: i64) -> i64
     ensures { result ≡ int_min one other }
 {
     if one <= other { one } else { other }
-}
-
-/// The least time of some entries, and the greatest of all times where there is none.
-fn soonest_of(entries: &[Entry]) -> i64
-    ensures { result ≡ least_due entries.now }
-{
-    let mut soonest = i64::MAX;
-    for entry in entries {
-        soonest = sooner(soonest, entry.due);
-    }
-    soonest
 }
 
 /// The entries that are due in a tick or before it, in the order in which they stand.
@@ -109,6 +98,15 @@ impl TickList {
         ensures { result.now ≡ entries self.now }
     {
         self.store.as_slice()
+    }
+
+    /// A beginning of the list that has all entries that are due in tick `now` or before it. It has no others where no entry is
+    /// due before the one that it follows, as in the lists of water that runs: then the list is not gone through to find them.
+    pub fn due_part(&self, now: u32) -> &[Entry]
+        ensures due { filter (is_due now) result.now ≡ filter (is_due now) (entries self.now) }
+        ensures begins { result.now ≡ take (length result.now) (entries self.now) }
+    {
+        self.store.due_part(now)
     }
 
     /// Whether an entry of a position is there.
@@ -204,7 +202,7 @@ impl TickList {
         if self.is_empty() {
             return Ok(Vec::new(alloc));
         }
-        let mut due = find_due(alloc, self.as_slice(), now)?;
+        let mut due = find_due(alloc, self.due_part(now), now)?;
         due.sort_by_key(|entry| (entry.due, entry.priority))?;
         Ok(due)
     }
@@ -216,6 +214,6 @@ impl TickList {
         ensures room { room self.old ≤ room self.new }
     {
         self.store.drop_due(now);
-        self.soonest = soonest_of(self.store.as_slice());
+        self.soonest = self.store.soonest();
     }
 }

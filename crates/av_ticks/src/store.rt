@@ -1,11 +1,13 @@
 //! Entries in order, with an index of their positions where they are many and are looked up.
-ghost use Rattle.std.specs.Prelude.{◌≡◌, ◌<◌, ◌≤◌, ◌+◌, ◌-◌, ◌&&◌, [], ◌∷◌, ◌++◌, List, int_le, filter, not, true, false, IsOk, IfOk, OnOk, is_ok, if◌then◌else◌, vec_capacity, vec_len};
+ghost use Rattle.std.specs.Prelude.{◌≡◌, ◌<◌, ◌≤◌, ◌+◌, ◌-◌, ◌&&◌, [], ◌∷◌, ◌++◌, List, int_le, filter, take, length, not, true, false, IsOk, IfOk, OnOk, is_ok, if◌then◌else◌, vec_capacity, vec_len};
 ghost use Rattle.av_types.specs.declared.place.Pos.{Pos};
 ghost use Rattle.av_types.specs.declared.tick.Entry.{Entry};
-ghost use Rattle.av_ticks.specs.Entries.{are_apart, is_due, is_pending, same_pos};
+ghost use Rattle.av_ticks.specs.Entries.{are_apart, is_due, is_pending, least_due, same_pos};
 ghost use Rattle.av_ticks.specs.Held.{holds, IsIndexOf};
+ghost use Rattle.av_ticks.specs.Rising.{AreRising};
 
 use crate::positions::Positions;
+use crate::rising::{are_rising, count_due, due_part, may_follow, remove_first, soonest_of};
 use av_types::{Entry, Pos};
 use std::alloc::{AllocError, Global};
 
@@ -19,7 +21,10 @@ pub(crate) struct Store {
     entries: Vec<Entry>,
     /// Their positions, where the entries are many. It makes look-ups fast, and no more: where it can't grow it is let go.
     index: Option<Positions>,
+    /// Whether the entries are known to rise: none is due before the one that it follows. It makes taking what is due fast, and no more.
+    rises: bool,
     ghost indexed: { IsIndexOf index entries.items },
+    ghost rising: { rises ≡ true → AreRising entries.items },
 }
 
 /// Whether an entry is one of a position.
@@ -65,8 +70,8 @@ fn reserve_entries(entries: &mut Vec<Entry>, additional: usize) -> Result<(), Al
     Ok(())
 }
 
-/// Lets the entries go that are due.
-fn drop_entries(entries: &mut Vec<Entry>, now: u32)
+/// Keeps the entries that are not due.
+fn retain_later(entries: &mut Vec<Entry>, now: u32)
     ensures entries { entries.new.items ≡ filter (λ e. not (is_due now e)) entries.old.items }
     ensures fewer { vec_len entries.new ≤ vec_len entries.old }
     ensures room { vec_capacity entries.old - vec_len entries.old
@@ -78,6 +83,20 @@ fn drop_entries(entries: &mut Vec<Entry>, now: u32)
             ensures { result ≡ not (int_le entry.now.due now) }
         { entry.due > now },
     );
+}
+
+/// Lets the entries go that are due.
+fn drop_entries(entries: &mut Vec<Entry>, rises: bool, now: u32)
+    requires { rises ≡ true → AreRising entries.old.items }
+    ensures entries { entries.new.items ≡ filter (λ e. not (is_due now e)) entries.old.items }
+    ensures room { vec_capacity entries.old - vec_len entries.old
+        ≤ vec_capacity entries.new - vec_len entries.new }
+{
+    if !rises {
+        return retain_later(entries, now);
+    }
+    let due = count_due(entries.as_slice(), now);
+    remove_first(entries, due);
 }
 
 /// The positions of some entries.
@@ -124,13 +143,14 @@ fn forget_all_due(index: &mut Positions, entries: &[Entry], now: u32)
 }
 
 /// Takes the positions of the entries that are due out of their index, where there is one.
-fn forget_due(index: &mut Option<Positions>, entries: &[Entry], now: u32)
+fn forget_due(index: &mut Option<Positions>, entries: &[Entry], rises: bool, now: u32)
     requires apart { are_apart entries.now ≡ true }
+    requires rising { rises ≡ true → AreRising entries.now }
     requires index { IsIndexOf index.old entries.now }
     ensures { IsIndexOf index.new (filter (λ e. not (is_due now e)) entries.now) }
 {
     if let Some(positions) = index {
-        forget_all_due(positions, entries, now);
+        forget_all_due(positions, due_part(entries, rises, now), now);
     }
 }
 
@@ -144,6 +164,7 @@ impl Store {
         Store {
             entries: Vec::new(alloc),
             index: None,
+            rises: true,
         }
     }
 
@@ -157,6 +178,21 @@ impl Store {
         ensures { result.now ≡ stored self.now }
     {
         self.entries.as_slice()
+    }
+
+    /// A beginning of the entries that has all that are due in tick `now` or before it.
+    pub(crate) fn due_part(&self, now: u32) -> &[Entry]
+        ensures due { filter (is_due now) result.now ≡ filter (is_due now) (stored self.now) }
+        ensures begins { result.now ≡ take (length result.now) (stored self.now) }
+    {
+        due_part(self.entries.as_slice(), self.rises, now)
+    }
+
+    /// The least time of an entry, and the greatest of all times where there is none.
+    pub(crate) fn soonest(&self) -> i64
+        ensures { result ≡ least_due (stored self.now) }
+    {
+        soonest_of(self.entries.as_slice(), self.rises)
     }
 
     /// Whether an entry of a position is there.
@@ -217,8 +253,10 @@ impl Store {
         if FEW <= self.entries.len() && self.entries.len() == self.entries.capacity() {
             self.make_index();
         }
+        let rises = self.rises && may_follow(self.entries.as_slice(), entry);
         push(&mut self.entries, entry)?;
         note(&mut self.index, entry);
+        self.rises = rises;
         Ok(())
     }
 
@@ -228,7 +266,8 @@ impl Store {
         ensures entries { stored self.new ≡ filter (λ e. not (is_due now e)) (stored self.old) }
         ensures room { spare_in self.old ≤ spare_in self.new }
     {
-        forget_due(&mut self.index, self.entries.as_slice(), now);
-        drop_entries(&mut self.entries, now);
+        forget_due(&mut self.index, self.entries.as_slice(), self.rises, now);
+        drop_entries(&mut self.entries, self.rises, now);
+        self.rises = are_rising(self.entries.as_slice(), self.rises);
     }
 }

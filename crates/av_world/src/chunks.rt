@@ -220,6 +220,6 @@ pub(crate) fn leave_in(chunk: &mut Chunk, height: Height, now: u32)
     if !chunk.ticks.has_due(now) {
         return;
     }
-    clear_due(&mut chunk.sections, chunk.ticks.as_slice(), height, now);
+    clear_due(&mut chunk.sections, chunk.ticks.due_part(now), height, now);
     chunk.ticks.drop_due(now);
 }

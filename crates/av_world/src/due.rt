@@ -31,7 +31,7 @@ fn push_due(due: &mut Vec<Entry>, entries: &[Entry], now: u32) -> Result<(), All
     Ok(())
 }
 
-/// Appends the entries of a list that are due. One with none is not gone through.
+/// Appends the entries of a list that are due. One with none is not gone through, nor what stands behind those that are due.
 fn push_due_of(due: &mut Vec<Entry>, ticks: &TickList, now: u32) -> Result<(), AllocError>
     ensures { OnOk result (due.new.items ≡ due.old.items
         ++ filter (is_due now) (entries ticks.now)) }
@@ -39,7 +39,7 @@ fn push_due_of(due: &mut Vec<Entry>, ticks: &TickList, now: u32) -> Result<(), A
     if !ticks.has_due(now) {
         return Ok(());
     }
-    push_due(due, ticks.as_slice(), now)
+    push_due(due, ticks.due_part(now), now)
 }
 
 /// The tick of a time, 0 for one before all ticks.

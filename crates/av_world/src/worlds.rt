@@ -22,7 +22,7 @@ pub struct World {
     /// Where the chunks stand that were looked up last, by their x and z modulo 4. A look-up checks it.
     pub(crate) near: [usize; 16],
 
-    /// Chunks that came out where others were taken back. Those without sections are used again where chunks are lent.
+    /// Chunks that came out where others were taken back. Those without sections and entries are used again where chunks are lent.
     pub(crate) spares: Vec<Chunk>,
     pub ghost lawful: { IsWorld height positions.items chunks.items } by { Prim.hlevel props },
 }

@@ -1,7 +1,7 @@
 use Rattle.std.proofs.Common.{All, take, sym, subst}
 use Rattle.std.proofs.lemmas.List.{take_more, take_all}
 use Rattle.std.proofs.lemmas.List.Elements.{All-push}
-use Rattle.av_lending.specs.Plans.{IsReadyAt}
+use Rattle.av_lending.specs.Brought.{IsReadyAt}
 use Rattle.av_lending.proofs.lender.blocked.Goals as goal
 
 pub loop-touch-preserved : goal.loop-touch-preserved

@@ -3,7 +3,7 @@ use Rattle.std.proofs.lemmas.List.{take_more}
 use Rattle.std.proofs.lemmas.List.{map-append}
 use Rattle.av_world.specs.Views.{positions_of}
 use Rattle.av_groups.specs.declared.groups.Touch.{Touch}
-use Rattle.av_lending.specs.Plans.{IsBringing}
+use Rattle.av_lending.specs.Brought.{IsBringing}
 use Rattle.av_lending.proofs.lender.bring.Goals as goal
 
 pub loop-touch-preserved : goal.loop-touch-preserved

@@ -2,7 +2,7 @@ use Rattle.std.proofs.Common.{◌≡◌, All, map, take, length}
 use Rattle.av_world.specs.Views.{positions_of}
 use Rattle.av_world.specs.declared.worlds.World.{World}
 use Rattle.av_groups.specs.Groups.{IsPlaced}
-use Rattle.av_lending.specs.Plans.{IsBringing}
+use Rattle.av_lending.specs.Brought.{IsBringing}
 use Rattle.av_lending.proofs.lender.bring.Given as goal
 
 abbrev pub invariant-loop-touch : goal.invariant-loop-touch

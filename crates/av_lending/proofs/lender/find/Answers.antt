@@ -1,6 +1,6 @@
 use Rattle.std.proofs.Common.{All, get_or, subst}
 use Rattle.std.proofs.lemmas.Option.{slice_get-get_or}
-use Rattle.av_lending.specs.Plans.{IsReadyAt}
+use Rattle.av_lending.specs.Brought.{IsReadyAt}
 use Rattle.av_lending.proofs.lender.find.Goals as goal
 
 pub returns-in-None : goal.returns-in-None

@@ -9,5 +9,5 @@ use Rattle.av_ticks.proofs.store.forget_due.Goals as goal
 pub returns-in-Some : goal.returns-in-Some
 returns-in-Some c = λ x same p.
     let es = c.args.entries.now in
-    ap (λ s. holds s p) (sym (same_Some _ x same)) ∙ (c.forget_all_due.ensures p
+    ap (λ s. holds s p) (sym (same_Some _ x same)) ∙ (c.forget_all_due.ensures p ∙ ap (λ l. holds c.in-Some.positions p && not (is_pending p l)) c.due_part.ensures.due
     ∙ (ap (λ b. b && not (is_pending p (filter (is_due c.args.now) es))) (c.requires.index c.in-Some.positions c.in-Some.is p) ∙ sym (pending_others (is_due c.args.now) p es c.requires.apart)))

@@ -11,6 +11,6 @@ returns c w es is =
     let y : Cutting = record { closed = c.push.new.self; gathered = c.replace-gathered.new.dest; tile = c.args.tile; marks = x.marks; noted = c.none_noted-self.result } in
     begun w es y
     (subst (λ gs. AreClosed w es gs x.marks.last.items) (sym (c.in_ok-push.ensures.items ∙ ap (λ g. x.closed.items ++ g ∷ []) c.replace-gathered.ensures.value)) (are_closed w es x is))
-    (ap (λ (g : Group). g.entries.items) c.replace-gathered.ensures.after ∙ c.new.ensures.items)
-    (ap (λ (g : Group). g.touches.items) c.replace-gathered.ensures.after ∙ c.new-2.ensures.items)
+    (ap (λ (g : Group). g.entries.items) c.replace-gathered.ensures.after ∙ c.in_ok-next.ensures.entries)
+    (ap (λ (g : Group). g.touches.items) c.replace-gathered.ensures.after ∙ c.in_ok-next.ensures.touches)
     c.none_noted-self.ensures

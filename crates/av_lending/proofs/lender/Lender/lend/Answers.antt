@@ -1,6 +1,6 @@
 use Rattle.std.proofs.Common.{◌≡◌, slice_get, subst, Some}
 use Rattle.av_groups.specs.declared.groups.Group.{Group}
-use Rattle.av_lending.specs.Plans.{IsNext}
+use Rattle.av_lending.specs.Brought.{IsNext}
 use Rattle.av_lending.proofs.lender.Lender.lend.Goals as goal
 
 pub lend_group-requires-clause-next : goal.lend_group-requires-clause-next

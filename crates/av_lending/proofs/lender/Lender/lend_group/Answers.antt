@@ -9,7 +9,7 @@ use Rattle.av_world.specs.Views.{positions_of}
 use Rattle.av_groups.specs.declared.groups.Group.{Group}
 use Rattle.av_groups.specs.declared.groups.Touch.{Touch}
 use Rattle.av_groups.specs.Groups.{touched, IsPlaced}
-use Rattle.av_lending.specs.Plans.{IsBringing}
+use Rattle.av_lending.specs.Brought.{IsBringing}
 use Rattle.av_lending.proofs.Chunks.{given, still_under_way, all_there, next_in}
 use Rattle.av_lending.proofs.lender.Lender.lend_group.Goals as goal
 

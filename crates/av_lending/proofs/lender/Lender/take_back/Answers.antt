@@ -4,7 +4,7 @@ use Rattle.av_world.specs.Views.{positions_of}
 use Rattle.av_groups.specs.declared.groups.Group.{Group}
 use Rattle.av_groups.specs.declared.groups.Touch.{Touch}
 use Rattle.av_groups.specs.Groups.{IsPlaced}
-use Rattle.av_lending.specs.Plans.{IsBringing}
+use Rattle.av_lending.specs.Brought.{IsBringing}
 use Rattle.av_lending.proofs.Ends.{back_there, goes_on}
 use Rattle.av_lending.proofs.lender.Lender.take_back.Goals as goal
 

@@ -2,7 +2,7 @@
 use Rattle.std.proofs.Common.{not, rules}
 use Rattle.std.proofs.lemmas.Fn.{filter_same}
 use Rattle.av_ticks.specs.Entries.{is_due}
-use Rattle.av_ticks.proofs.store.drop_entries.Goals as goal
+use Rattle.av_ticks.proofs.store.retain_later.Goals as goal
 
 pub returns-clause-entries : goal.returns-clause-entries
 returns-clause-entries c =
