@@ -11,7 +11,7 @@ ghost use Rattle.av_lending.specs.Handed.{IsKeeperOf};
 ghost use Rattle.av_lending.specs.Plans.{IsFinished};
 ghost use Rattle.av_team.specs.Lines.{ArePassesOf, IsDeskOf, IsPassOf};
 
-use crate::lines::{Desk, Passes, end_all, put_in};
+use crate::lines::{Desk, Passes, put_in};
 use crate::serve::{serve, start_all};
 use av_groups::cutting::cut;
 use av_lending::{Keeper, Lender, Plan};
@@ -28,7 +28,11 @@ use std::{mem, thread};
 /// take chunks out of the caches, and memory for those that stand in for them.
 const AHEAD: usize = 8;
 
-/// Turns all groups, by this thread and the others, which end before it returns. The keeper is in its line once they are started.
+/// Turns all groups, by this thread and the others, which end before it returns. The keeper is in its line before they are started,
+/// so that each begins at once.
+///
+/// # Errors
+/// Where a thread can't be started. The others turn all groups all the same.
 fn in_scope<'s, E, R: Wait + Sync>(
     scope: &'s Scope<'s, E>,
     rt: &'s R,
@@ -36,26 +40,28 @@ fn in_scope<'s, E, R: Wait + Sync>(
     mut passes: Passes,
     kinds: &'s Kinds,
     keeper: Keeper,
-)
+) -> Result<(), AllocError>
     requires desk { IsDeskOf desk.now kinds.now }
     requires passes { ArePassesOf desk.now passes }
     requires keeper { IsKeeperOf desk.now.plan keeper }
 {
-    match start_all(scope, rt, desk, &mut passes, kinds) {
-        Ok(()) => put_in(rt, &desk.keepers, &mut passes.keepers, keeper),
-        Err(_) => end_all(rt, desk, &mut passes),
-    }
+    put_in(rt, &desk.keepers, &mut passes.keepers, keeper);
+    let started = start_all(scope, rt, desk, &mut passes, kinds);
     serve(rt, desk, passes, kinds);
+    started
 }
 
 /// Turns all groups, by this thread and the others. Then the keeper is in its line again, unless memory was refused.
+///
+/// # Errors
+/// Where a thread can't be started.
 fn in_threads<R: Threads + Wait + Sync>(
     rt: &R,
     desk: &Desk,
     passes: Passes,
     kinds: &Kinds,
     keeper: Keeper,
-)
+) -> Result<(), AllocError>
     requires desk { IsDeskOf desk.now kinds.now }
     requires passes { ArePassesOf desk.now passes }
     requires keeper { IsKeeperOf desk.now.plan keeper }
@@ -63,7 +69,7 @@ fn in_threads<R: Threads + Wait + Sync>(
     thread::scope(
         thread::scope_env(),
         rt,
-        |scope|
+        |scope| -> Result<(), AllocError>
             requires { IsDeskOf desk.now kinds.now × ArePassesOf desk.now passes
                 × IsKeeperOf desk.now.plan keeper }
         { in_scope(scope, rt, desk, passes, kinds, keeper) },
@@ -150,7 +156,7 @@ pub fn turn_in_groups<R: Threads + Wait + Sync>(
         world: mem::replace(world, World::new(alloc, height)),
         has_ended: false,
     };
-    in_threads(rt, &desk, passes, kinds, keeper);
+    in_threads(rt, &desk, passes, kinds, keeper)?;
     *world = finish(rt, &desk, last_pass, kinds)?;
     Ok(())
 }
