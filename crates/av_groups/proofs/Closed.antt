@@ -60,6 +60,23 @@ group_still w gs g h i below is = record {
   behind = All-weaker (λ t. (t.before ≤ i) × NoneTouches gs t.before i t.chunk) (λ t. (t.before ≤ i) × NoneTouches (gs ++ g ∷ []) t.before i t.chunk) (λ t b. (b.0, none_still gs g t.before i t.chunk below b.1)) h.touches.items is.behind;
 }
 
+-- the open group gathered anew
+abbrev pub with_gathered : Cutting → Group → Cutting
+with_gathered x g = record { closed = x.closed; gathered = g; tile = x.tile; marks = x.marks; noted = x.noted }
+
+-- what is said of it is said of its entries and of what it touches
+pub same_cut : (w : Land ℕ) (es : List Entry) (x : Cutting) (g : Group) → g.entries.items ≡ x.gathered.entries.items → g.touches.items ≡ x.gathered.touches.items → IsCut w es x → IsCut w es (with_gathered x g)
+same_cut w es x g entries touches is = record {
+  entries_are = ap (λ l. flat_map (λ (h : Group). h.entries.items) x.closed.items ++ l) entries ∙ is.entries_are;
+  each = is.each;
+  exact = is.exact;
+  is_open = subst (IsOpen w.chunks x.closed.items x.marks.last.items) (sym touches) is.is_open;
+  loaded = subst (All (λ (e : Entry). is_loaded w e.pos ≡ true)) (sym entries) is.loaded;
+  stay = subst (λ l. All (StaysIn w (has_chunk (chunks_in g.touches.items))) l) (sym entries)
+      (subst (λ ts. All (StaysIn w (has_chunk (chunks_in ts))) x.gathered.entries.items) (sym touches) is.stay);
+  noted = subst (λ ts. AreNoted w.chunks ts x.noted) (sym touches) is.noted;
+}
+
 module _ (w : Land ℕ) (es : List Entry) (x : Cutting) (is : IsCut w es x) where
   abbrev gs : List Group
   gs = x.closed.items

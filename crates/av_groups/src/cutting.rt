@@ -16,7 +16,6 @@ use crate::noting::{Noted, is_noted, none_noted, place_of};
 use av_types::{ChunkPos, Entry};
 use av_world::World;
 use std::alloc::{AllocError, Global};
-use std::mem;
 
 /// Four chunks side by side. Entries of the same tile that come one after the other are a group.
 #[derive(Clone, Copy, PartialEq, Eq)]
@@ -157,14 +156,14 @@ fn untouched(alloc: Global, world: &World) -> Result<Vec<usize>, AllocError>
     Vec::from_elem(alloc, 0, world.positions().len())
 }
 
-/// An empty group with as much room as another one took, so that it seldom grows.
-fn empty_like(alloc: Global, group: &Group) -> Result<Group, AllocError>
-    ensures entries { IfOk result (λ empty. empty.entries.items ≡ []) }
-    ensures touches { IfOk result (λ empty. empty.touches.items ≡ []) }
+/// A group as it was gathered, with no more room than it needs.
+fn exact_copy(alloc: Global, gathered: &Group) -> Result<Group, AllocError>
+    ensures entries { IfOk result (λ copy. copy.entries.items ≡ gathered.now.entries.items) }
+    ensures touches { IfOk result (λ copy. copy.touches.items ≡ gathered.now.touches.items) }
 {
     Ok(Group {
-        entries: Vec::with_capacity(alloc, group.entries.len())?,
-        touches: Vec::with_capacity(alloc, group.touches.len())?,
+        entries: Vec::from_slice(alloc, gathered.entries.as_slice())?,
+        touches: Vec::from_slice(alloc, gathered.touches.as_slice())?,
     })
 }
 
@@ -188,7 +187,8 @@ impl Cutting {
         }
     }
 
-    /// Closes the open group where the tile is another one, and opens one of that tile.
+    /// Closes the open group where the tile is another one, and opens one of that tile. All are gathered in the same lists, which
+    /// seldom grow, and a closed group takes no more memory than it needs.
     fn come_to(&mut self, alloc: Global, tile: Tile) -> Result<(), AllocError>
         ensures { OnOk result ((w : Land ℕ) (es : List Entry) → IsCut w es self.old
             → IsCut w es self.new) }
@@ -196,9 +196,10 @@ impl Cutting {
         if tile == self.tile {
             return Ok(());
         }
-        let next = empty_like(alloc, &self.gathered)?;
-        let gathered = mem::replace(&mut self.gathered, next);
-        self.closed.push(gathered)?;
+        let closed = exact_copy(alloc, &self.gathered)?;
+        self.closed.push(closed)?;
+        self.gathered.entries.clear();
+        self.gathered.touches.clear();
         self.tile = tile;
         self.noted = none_noted();
         Ok(())
