@@ -3,9 +3,10 @@ use Rattle.std.proofs.Common.{◌≡◌, ℕ, zero, suc, ◌+◌, ◌-◌, ◌<�
 use Rattle.std.specs.Int.{int_min}
 use Rattle.std.specs.List.{AllAdjacentBelow, AllWithin, fold}
 use Rattle.std.specs.Cmp.{IsStrictWeakOrder}
-use Rattle.std.specs.List.Sorted.{IsPartitionedBy, IsPartitionPoint}
+use Rattle.std.specs.List.Sorted.{IsPartitionPoint}
 use Rattle.std.proofs.lemmas.Grind.{common_steps}
 use Rattle.std.proofs.lemmas.Int.{ints}
+use Rattle.std.proofs.lemmas.List.{get_or_default}
 use Rattle.std.proofs.lemmas.List.Kept.{IsSortedBy-filter, IsSortedBy-push}
 use Rattle.std.proofs.lemmas.List.Sorted.{sorted_far}
 use Rattle.std.proofs.lemmas.Option.{get_or_from_slice_get}
@@ -39,12 +40,21 @@ rising_push es last e is le rising =
 pub rising_filter : (p : Entry → Bool) (es : List Entry) → AreRising es → AreRising (filter p es)
 rising_filter p es rising = IsSortedBy-filter (λ a b. int_lt a.due b.due) time_order p es rising
 
-le_of_le : (a b t : ℤ) → int_lt b a ≡ false → int_le b t ≡ true → int_le a t ≡ true
-le_of_le a b t h g = grind (arith, ints)
+not_le : (a b t : ℤ) → int_lt b a ≡ false → int_le a t ≡ false → int_le b t ≡ false
+not_le a b t h g = grind (arith, ints)
 
--- those that are due stand before the others
-pub due_first : (now : ℕ) (es : List Entry) → AreRising es → IsPartitionedBy (is_due now) es
-due_first now es rising i j d le within due = le_of_le _ _ (pos now) (sorted_far _ time_order es rising i j d le within) due
+-- from one on that is not due none is
+later_from : (now : ℕ) (es : List Entry) (n : ℕ) (e : Entry) → AreRising es → is_due now (get_or es n e) ≡ false → AllWithin (λ e. is_due now e ≡ false) es n (length es)
+later_from now es n e rising here k d from below =
+    let same : get_or es n e ≡ get_or es n d = get_or_default es n e d (omega (arith, from, below)) in
+    not_le (get_or es n d).due (get_or es k d).due (pos now) (sorted_far _ time_order es rising n k d from below) (ap (is_due now) (sym same) ∙ here)
+
+-- so they part there
+pub part_at : (now : ℕ) (es : List Entry) (n : ℕ) (e : Entry) → AreRising es → AllWithin (λ e. is_due now e ≡ true) es 0 n → is_due now (get_or es n e) ≡ false → IsPartitionPoint (λ e. is_due now e ≡ true) (λ e. is_due now e ≡ false) es n
+part_at now es n e rising due here = (due, later_from now es n e rising here)
+
+pub part_at_end : (now : ℕ) (es : List Entry) (n : ℕ) → length es ≤ n → AllWithin (λ e. is_due now e ≡ true) es 0 n → IsPartitionPoint (λ e. is_due now e ≡ true) (λ e. is_due now e ≡ false) es (length es)
+part_at_end now es n past due = ((λ k d from below. due k d from (omega (arith, below, past))), (λ k d from below. absurd (omega (arith, from, below))))
 
 module _ {X : Type 0} (p : X → Bool) where
   next : (x : X) (xs : List X) (low high : ℕ) (b : Bool) → AllWithin (λ y. p y ≡ b) (x ∷ xs) (low + 1) (high + 1) → AllWithin (λ y. p y ≡ b) xs low high

@@ -23,7 +23,8 @@ pub(crate) fn are_rising(entries: &[Entry], known: bool) -> bool
     known || entries.is_sorted_by(|one, next| one.due <= next.due)
 }
 
-/// How many entries are due in tick `now` or before it.
+/// How many entries are due in tick `now` or before it. They are gone through, since whoever asks takes them next: a binary search
+/// would look at places that are in no cache yet.
 pub(crate) fn count_due(entries: &[Entry], now: u32) -> usize
     requires { AreRising entries.now }
     ensures bound { result ≤ length entries.now }
@@ -31,7 +32,12 @@ pub(crate) fn count_due(entries: &[Entry], now: u32) -> usize
     ensures others { filter (λ e. not (is_due now e)) entries.now ≡ drop result entries.now }
 {
     let now = i64::from(now);
-    entries.partition_point(|entry| entry.due <= now)
+    for (index, entry) in entries.iter().enumerate() {
+        if entry.due > now {
+            return index;
+        }
+    }
+    entries.len()
 }
 
 /// A beginning of some entries that has all that are due in tick `now` or before it. It has no others where they are known to rise.
