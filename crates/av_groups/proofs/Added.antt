@@ -1,9 +1,7 @@
--- An open group has one entry more.
-use Rattle.std.proofs.Common.{◌≡◌, ◌∙◌, ℕ, ◌||◌, Bool, true, false, List, [], ◌∷◌, ◌++◌, IsTrue, All, Some, slice_get, refl, sym, ap, subst}
+-- What an entry's turn may touch.
+use Rattle.std.proofs.Common.{◌≡◌, ℕ, ◌||◌, Bool, true, false, List, [], ◌∷◌, IsTrue, All, refl, sym, ap, subst}
 use Rattle.std.proofs.lemmas.Bool.{true≢false, and_parts, and_from}
-use Rattle.std.proofs.lemmas.List.{append_assoc}
-use Rattle.std.proofs.lemmas.List.Elements.{All-head, All-tail, All-push, All-weaker}
-use Rattle.std.specs.List.{flat_map}
+use Rattle.std.proofs.lemmas.List.Elements.{All-head, All-tail, All-weaker}
 use Rattle.av_types.specs.Places.{chunk_of, section_of, is_block_of}
 use Rattle.av_types.specs.declared.place.Pos.{Pos}
 use Rattle.av_types.specs.declared.place.ChunkPos.{ChunkPos}
@@ -19,12 +17,8 @@ use Rattle.av_world.specs.Near.{has_place}
 use Rattle.av_world.specs.Views.{blocks}
 use Rattle.av_world.specs.declared.worlds.World.{World}
 use Rattle.av_world.proofs.ChunkReads.{has_chunk_there}
-use Rattle.av_groups.specs.declared.cutting.Cutting.{Cutting}
-use Rattle.av_groups.specs.declared.groups.Group.{Group}
 use Rattle.av_groups.specs.declared.groups.Touch.{Touch}
-use Rattle.av_groups.specs.Groups.{IsGroup}
-use Rattle.av_groups.specs.Exact.{IsExact}
-use Rattle.av_groups.specs.Open.{corner_chunks, chunks_in, IsOpen, IsCovered, AreKept, AreNoted, IsCut}
+use Rattle.av_groups.specs.Open.{corner_chunks, chunks_in, IsCovered, AreKept}
 use Rattle.av_groups.specs.Parts.{StaysIn}
 
 -- the chunk of a section's block
@@ -66,7 +60,7 @@ reach_chunks p q r = by (meets_corner p q r) where
   by (false, high, true, e) = or_right a (or_right b (or_left (d || false) (same false true (here false high true e))))
   by (true, high, true, e) = or_right a (or_right b (or_right c (or_left false (same true true (here true high true e)))))
 
-all_has : (P : ChunkPos → Type 0) (cs : List ChunkPos) (c : ChunkPos) → All P cs → has_chunk cs c ≡ true → P c
+pub all_has : (P : ChunkPos → Type 0) (cs : List ChunkPos) (c : ChunkPos) → All P cs → has_chunk cs c ≡ true → P c
 all_has P [] c h m = absurd (true≢false (sym m))
 all_has P (d ∷ ds) c h m = by (same_chunk d c) refl m (all_has P ds c (All-tail P d ds h)) where
   by : (t : Bool) → same_chunk d c ≡ t → t || has_chunk ds c ≡ true → (has_chunk ds c ≡ true → P c) → P c
@@ -79,29 +73,15 @@ loaded_in_land w p h =
     let place = has_place w.height w.positions.items w.chunks.items w.lawful.parallel (section_of p) h in
     and_from (has_chunk w.positions.items (chunk_of p)) (is_block_of w.height p.y) (has_chunk_there w.positions.items (chunk_of p) place.chunk) place.high
 
+pub all_loaded : (w : World) (es : List Entry) → All (λ e. IsTrue ((blocks w).loaded e.pos)) es → All (λ e. is_loaded (land_of w) e.pos ≡ true) es
+all_loaded w = All-weaker (λ e. IsTrue ((blocks w).loaded e.pos)) (λ e. is_loaded (land_of w) e.pos ≡ true) (λ e h. loaded_in_land w e.pos h)
+
 -- the corners' chunks are touched, where they are there
-stays : (w : Land ℕ) (e : Entry) (new : List Touch) → All (IsCovered w.chunks new) (corner_chunks e.pos) → StaysIn w (has_chunk (chunks_in new)) e
+pub stays : (w : Land ℕ) (e : Entry) (new : List Touch) → All (IsCovered w.chunks new) (corner_chunks e.pos) → StaysIn w (has_chunk (chunks_in new)) e
 stays w e new covered q reach loaded =
     let there = and_parts (has_chunk w.chunks (chunk_of q)) (is_block_of w.height q.y) loaded in
     all_has (IsCovered w.chunks new) (corner_chunks e.pos) (chunk_of q) covered (reach_chunks e.pos q reach) there.0
 
-pub added : (w : World) (es : List Entry) (e : Entry) (x y : Cutting) → IsTrue ((blocks w).loaded e.pos) → IsCut (land_of w) es x → y.closed ≡ x.closed → y.gathered.entries.items ≡ x.gathered.entries.items ++ e ∷ []
-    → IsOpen w.positions.items x.closed.items y.marks.last.items y.gathered.touches.items → All (IsCovered w.positions.items y.gathered.touches.items) (corner_chunks e.pos)
-    → AreKept x.gathered.touches.items y.gathered.touches.items → AreNoted w.positions.items y.gathered.touches.items y.noted → IsCut (land_of w) (es ++ e ∷ []) y
-added w es e x y here is closed entries is_open covered kept noted = record {
-  entries_are =
-      (λ i. flat_map (λ g. g.entries.items) (closed i).items ++ entries i)
-      ∙ sym (append_assoc (flat_map (λ g. g.entries.items) x.closed.items) x.gathered.entries.items (e ∷ []))
-      ∙ ap (λ l. l ++ e ∷ []) is.entries_are;
-  each = subst (λ v. (i : ℕ) (g : Group) → slice_get v.items i ≡ Some g → IsGroup (land_of w) v.items i g) (sym closed) is.each;
-  exact = subst (λ v. (i : ℕ) (g : Group) → slice_get v.items i ≡ Some g → All (λ t. IsExact v.items t.chunk t.before) g.touches.items) (sym closed) is.exact;
-  is_open = subst (λ v. IsOpen w.positions.items v.items y.marks.last.items y.gathered.touches.items) (sym closed) is_open;
-  loaded = subst (All (λ e. is_loaded (land_of w) e.pos ≡ true)) (sym entries) (All-push (λ e. is_loaded (land_of w) e.pos ≡ true) x.gathered.entries.items e is.loaded (loaded_in_land w e.pos here));
-  stay = subst (All inside) (sym entries) (All-push inside x.gathered.entries.items e (All-weaker before inside (λ d h q r l. kept (chunk_of q) (h q r l)) x.gathered.entries.items is.stay) (stays (land_of w) e y.gathered.touches.items covered));
-  noted = noted;
-} where
-  inside : Entry → Type 0
-  inside = StaysIn (land_of w) (has_chunk (chunks_in y.gathered.touches.items))
-
-  before : Entry → Type 0
-  before = StaysIn (land_of w) (has_chunk (chunks_in x.gathered.touches.items))
+-- and in more chunks than those in which it stays
+pub stay_more : (w : Land ℕ) (old new : List Touch) (es : List Entry) → AreKept old new → All (StaysIn w (has_chunk (chunks_in old))) es → All (StaysIn w (has_chunk (chunks_in new))) es
+stay_more w old new es kept = All-weaker (StaysIn w (has_chunk (chunks_in old))) (StaysIn w (has_chunk (chunks_in new))) (λ e h q r l. kept (chunk_of q) (h q r l)) es

@@ -2,21 +2,18 @@
 use Rattle.std.proofs.Common.{◌≡◌, ◌∙◌, ℕ, zero, suc, ◌+◌, ◌<◌, ◌≤◌, Bool, true, false, List, [], ◌∷◌, ◌++◌, length, replicate, slice_get, All, Option, None, Some, refl, sym, ap, subst, arith, ◌⊎◌, inl, inr}
 use Rattle.std.proofs.lemmas.Bool.{true≢false}
 use Rattle.std.proofs.lemmas.Option.{slice_get_within, get_or_from_slice_get}
-use Rattle.std.proofs.lemmas.List.{append-nil, flat_map_more, length_push, length-replicate}
+use Rattle.std.proofs.lemmas.List.{flat_map_more, length_push, length-replicate}
 use Rattle.std.proofs.lemmas.List.Elements.{All-nil, All-weaker, All-get_or, All-replicate}
-use Rattle.std.specs.List.{flat_map}
 use Rattle.av_types.specs.declared.place.ChunkPos.{ChunkPos}
 use Rattle.av_types.specs.declared.tick.Entry.{Entry}
-use Rattle.av_land.specs.Land.{Land, has_chunk, is_loaded}
+use Rattle.av_land.specs.Land.{Land, has_chunk}
 use Rattle.av_world.specs.Index.{slot}
 use Rattle.av_groups.specs.declared.groups.Group.{Group}
 use Rattle.av_groups.specs.declared.groups.Touch.{Touch}
 use Rattle.av_groups.specs.declared.corners.Reach.{Reach}
-use Rattle.av_groups.specs.declared.cutting.Cutting.{Cutting}
 use Rattle.av_groups.specs.Groups.{touched, NoneTouches, IsPlaced, IsGroup, AreGroups}
 use Rattle.av_groups.specs.Exact.{IsTouchedBy, IsExact}
-use Rattle.av_groups.specs.Open.{chunks_in, IsLast, IsOpen, AreNoted, IsCut, AreClosed}
-use Rattle.av_groups.specs.Parts.{StaysIn}
+use Rattle.av_groups.specs.Open.{IsLast, IsOpen, AreNoted, IsGathered, AreClosed}
 
 -- what stands in a list with one more: it stood there before, or is the last
 push_at : {X : Type 0} (xs : List X) (x y : X) (i : ℕ) → slice_get (xs ++ x ∷ []) i ≡ Some y → ((i < length xs) × (slice_get xs i ≡ Some y)) ⊎ ((i ≡ length xs) × (x ≡ y))
@@ -60,83 +57,63 @@ group_still w gs g h i below is = record {
   behind = All-weaker (λ t. (t.before ≤ i) × NoneTouches gs t.before i t.chunk) (λ t. (t.before ≤ i) × NoneTouches (gs ++ g ∷ []) t.before i t.chunk) (λ t b. (b.0, none_still gs g t.before i t.chunk below b.1)) h.touches.items is.behind;
 }
 
--- the open group gathered anew
-abbrev pub with_gathered : Cutting → Group → Cutting
-with_gathered x g = record { closed = x.closed; gathered = g; tile = x.tile; marks = x.marks; noted = x.noted }
-
--- what is said of it is said of its entries and of what it touches
-pub same_cut : (w : Land ℕ) (es : List Entry) (x : Cutting) (g : Group) → g.entries.items ≡ x.gathered.entries.items → g.touches.items ≡ x.gathered.touches.items → IsCut w es x → IsCut w es (with_gathered x g)
-same_cut w es x g entries touches is = record {
-  entries_are = ap (λ l. flat_map (λ (h : Group). h.entries.items) x.closed.items ++ l) entries ∙ is.entries_are;
-  each = is.each;
-  exact = is.exact;
-  is_open = subst (IsOpen w.chunks x.closed.items x.marks.last.items) (sym touches) is.is_open;
-  loaded = subst (All (λ (e : Entry). is_loaded w e.pos ≡ true)) (sym entries) is.loaded;
-  stay = subst (λ l. All (StaysIn w (has_chunk (chunks_in g.touches.items))) l) (sym entries)
-      (subst (λ ts. All (StaysIn w (has_chunk (chunks_in ts))) x.gathered.entries.items) (sym touches) is.stay);
-  noted = subst (λ ts. AreNoted w.chunks ts x.noted) (sym touches) is.noted;
-}
-
-module _ (w : Land ℕ) (es : List Entry) (x : Cutting) (is : IsCut w es x) where
-  abbrev gs : List Group
-  gs = x.closed.items
-
+module _ (w : Land ℕ) (es fs : List Entry) (gs : List Group) (earlier last : List ℕ) (g : Group) (closed : AreClosed w es gs earlier) (is : IsGathered w gs last fs g) where
   abbrev more : List Group
-  more = x.closed.items ++ x.gathered ∷ []
+  more = gs ++ g ∷ []
 
-  is_group : IsGroup w gs (length gs) x.gathered
+  is_group : IsGroup w gs (length gs) g
   is_group = record { distinct = is.is_open.distinct; there = is.is_open.there; placed = is.is_open.placed; loaded = is.loaded; stay = is.stay; behind = is.is_open.behind }
 
   each : (i : ℕ) (h : Group) → slice_get more i ≡ Some h → IsGroup w more i h
-  each i h found = by (push_at gs x.gathered h i found) where
-    by : ((i < length gs) × (slice_get gs i ≡ Some h)) ⊎ ((i ≡ length gs) × (x.gathered ≡ h)) → IsGroup w more i h
-    by (inl (l, e)) = group_still w gs x.gathered h i (omega (arith, l)) (is.each i h e)
-    by (inr (l, e)) = group_still w gs x.gathered h i (omega (arith, l)) (subst (λ n. IsGroup w gs n h) (sym l) (subst (IsGroup w gs (length gs)) e is_group))
+  each i h found = by (push_at gs g h i found) where
+    by : ((i < length gs) × (slice_get gs i ≡ Some h)) ⊎ ((i ≡ length gs) × (g ≡ h)) → IsGroup w more i h
+    by (inl (l, e)) = group_still w gs g h i (omega (arith, l)) (closed.groups.each i h e)
+    by (inr (l, e)) = group_still w gs g h i (omega (arith, l)) (subst (λ n. IsGroup w gs n h) (sym l) (subst (IsGroup w gs (length gs)) e is_group))
 
-  behind : (c : ChunkPos) (m : ℕ) → slice_get x.marks.last.items (slot w.chunks c) ≡ Some m → (m ≤ length more) × NoneTouches more m (length more) c
-  behind c m at = by (has_chunk (touched x.gathered) c) refl where
-    old : IsLast gs x.gathered.touches.items c m
+  behind : (c : ChunkPos) (m : ℕ) → slice_get last (slot w.chunks c) ≡ Some m → (m ≤ length more) × NoneTouches more m (length more) c
+  behind c m at = by (has_chunk (touched g) c) refl where
+    old : IsLast gs g.touches.items c m
     old = is.is_open.last_is c m at
 
     long : length more ≡ length gs + 1
-    long = length_push gs x.gathered
+    long = length_push gs g
 
-    by : (b : Bool) → has_chunk (touched x.gathered) c ≡ b → (m ≤ length more) × NoneTouches more m (length more) c
+    by : (b : Bool) → has_chunk (touched g) c ≡ b → (m ≤ length more) × NoneTouches more m (length more) c
     by true e = let f = old.touched e in (omega (arith, long, f), λ j h from to found. absurd (omega (arith, long, f, from, to)))
-    by false e = let f = old.free e in (omega (arith, long, f), λ j h from to found. one j h from (push_at gs x.gathered h j found)) where
-      one : (j : ℕ) (h : Group) → m ≤ j → ((j < length gs) × (slice_get gs j ≡ Some h)) ⊎ ((j ≡ length gs) × (x.gathered ≡ h)) → has_chunk (touched h) c ≡ false
+    by false e = let f = old.free e in (omega (arith, long, f), λ j h from to found. one j h from (push_at gs g h j found)) where
+      one : (j : ℕ) (h : Group) → m ≤ j → ((j < length gs) × (slice_get gs j ≡ Some h)) ⊎ ((j ≡ length gs) × (g ≡ h)) → has_chunk (touched h) c ≡ false
       one j h from (inl (l, found)) = old.none j h from l found
-      one j h from (inr (l, s)) = subst (λ g. has_chunk (touched g) c ≡ false) s e
+      one j h from (inr (l, s)) = subst (λ k. has_chunk (touched k) c ≡ false) s e
 
   exact_before : (i : ℕ) (h : Group) → slice_get more i ≡ Some h → All (λ t. IsExact more t.chunk t.before) h.touches.items
-  exact_before i h found = by (push_at gs x.gathered h i found) where
-    by : ((i < length gs) × (slice_get gs i ≡ Some h)) ⊎ ((i ≡ length gs) × (x.gathered ≡ h)) → All (λ t. IsExact more t.chunk t.before) h.touches.items
-    by (inl (l, e)) = all_exact gs x.gathered h.touches.items (is.exact i h e)
-    by (inr (l, e)) = subst (λ g. All (λ t. IsExact more t.chunk t.before) g.touches.items) e (all_exact gs x.gathered x.gathered.touches.items is.is_open.exact)
+  exact_before i h found = by (push_at gs g h i found) where
+    by : ((i < length gs) × (slice_get gs i ≡ Some h)) ⊎ ((i ≡ length gs) × (g ≡ h)) → All (λ t. IsExact more t.chunk t.before) h.touches.items
+    by (inl (l, e)) = all_exact gs g h.touches.items (closed.exact.before i h e)
+    by (inr (l, e)) = subst (λ k. All (λ t. IsExact more t.chunk t.before) k.touches.items) e (all_exact gs g g.touches.items is.is_open.exact)
 
-  exact_last : (c : ChunkPos) (m : ℕ) → slice_get x.marks.last.items (slot w.chunks c) ≡ Some m → IsExact more c m
-  exact_last c m at j e = by (has_chunk (touched x.gathered) c) refl where
-    old : IsLast gs x.gathered.touches.items c m
+  exact_last : (c : ChunkPos) (m : ℕ) → slice_get last (slot w.chunks c) ≡ Some m → IsExact more c m
+  exact_last c m at j e = by (has_chunk (touched g) c) refl where
+    old : IsLast gs g.touches.items c m
     old = is.is_open.last_is c m at
 
-    by : (b : Bool) → has_chunk (touched x.gathered) c ≡ b → IsTouchedBy more c j
+    by : (b : Bool) → has_chunk (touched g) c ≡ b → IsTouchedBy more c j
     by true t = let f = old.touched t in
-        record { group = x.gathered; found = subst (λ n. slice_get more n ≡ Some x.gathered) (omega (arith, e, f)) (at_last gs x.gathered); touches = t }
-    by false t = exact_still gs x.gathered c m (old.exact t) j e
+        record { group = g; found = subst (λ n. slice_get more n ≡ Some g) (omega (arith, e, f)) (at_last gs g); touches = t }
+    by false t = exact_still gs g c m (old.exact t) j e
 
-  are_groups : AreGroups w es (x.closed.items ++ x.gathered ∷ []) x.marks.last.items
+  are_groups : AreGroups w (es ++ fs) (gs ++ g ∷ []) last
   are_groups = record {
-    entries_are = sym (flat_map_more (λ g. g.entries.items) [] gs x.gathered) ∙ is.entries_are;
+    entries_are = sym (flat_map_more (λ h. h.entries.items) [] gs g) ∙ (λ i. closed.groups.entries_are i ++ is.entries_are i);
     each = each;
     long = is.is_open.long;
     behind = behind;
   }
 
-  pub are_closed : AreClosed w es (x.closed.items ++ x.gathered ∷ []) x.marks.last.items
+  pub are_closed : AreClosed w (es ++ fs) (gs ++ g ∷ []) last
   are_closed = record { groups = are_groups; exact = record { before = exact_before; after = exact_last } }
 
 -- nothing is touched yet
-open_anew : (w : Land ℕ) (es : List Entry) (gs : List Group) (last : List ℕ) → AreClosed w es gs last → IsOpen w.chunks gs last []
+pub open_anew : (w : Land ℕ) (es : List Entry) (gs : List Group) (last : List ℕ) → AreClosed w es gs last → IsOpen w.chunks gs last []
 open_anew w es gs last is = record {
   long = is.groups.long;
   distinct = grind arith;
@@ -168,17 +145,5 @@ none_noted_at xs k r none at = true≢false (ap is_one (sym (get_or_from_slice_g
   is_one None = false
   is_one (Some q) = true
 
-nothing_noted : (ps : List ChunkPos) (ts : List Touch) (xs : List (Option Reach)) → All (λ o. o ≡ None) xs → AreNoted ps ts xs
+pub nothing_noted : (ps : List ChunkPos) (ts : List Touch) (xs : List (Option Reach)) → All (λ o. o ≡ None) xs → AreNoted ps ts xs
 nothing_noted ps ts xs none k r at = absurd (none_noted_at xs k r none at)
-
--- a new group, without entries
-pub begun : (w : Land ℕ) (es : List Entry) (y : Cutting) → AreClosed w es y.closed.items y.marks.last.items → y.gathered.entries.items ≡ [] → y.gathered.touches.items ≡ [] → All (λ o. o ≡ None) y.noted → IsCut w es y
-begun w es y is e t none = record {
-  entries_are = ap (λ l. flat_map (λ g. g.entries.items) y.closed.items ++ l) e ∙ append-nil (flat_map (λ g. g.entries.items) y.closed.items) ∙ is.groups.entries_are;
-  each = is.groups.each;
-  exact = is.exact.before;
-  is_open = subst (IsOpen w.chunks y.closed.items y.marks.last.items) (sym t) (open_anew w es y.closed.items y.marks.last.items is);
-  loaded = subst (All (λ x. is_loaded w x.pos ≡ true)) (sym e) (All-nil (λ x. is_loaded w x.pos ≡ true));
-  stay = subst (All (StaysIn w (has_chunk (chunks_in y.gathered.touches.items)))) (sym e) (All-nil (StaysIn w (has_chunk (chunks_in y.gathered.touches.items))));
-  noted = nothing_noted w.chunks y.gathered.touches.items y.noted none;
-}

@@ -35,7 +35,7 @@ apart (d ∷ ds) c h =
     let parts = or_parts (same_chunk d c) (has_chunk ds c) h in
     All-cons (λ d. same_chunk d c ≡ false) d ds parts.0 (apart ds c parts.1)
 
-has_push : (cs : List ChunkPos) (d c : ChunkPos) → has_chunk (cs ++ d ∷ []) c ≡ has_chunk cs c || same_chunk d c
+pub has_push : (cs : List ChunkPos) (d c : ChunkPos) → has_chunk (cs ++ d ∷ []) c ≡ has_chunk cs c || same_chunk d c
 has_push [] d c = by (same_chunk d c) where
   by : (b : Bool) → b || false ≡ b
   by true = refl

@@ -1,6 +1,6 @@
 -- Groups of which the last is still open. Working definitions: no public clause cites them.
-use Rattle.std.specs.Prelude.{◌≡◌, ℕ, ◌+◌, ◌≤◌, true, false, List, [], ◌∷◌, ◌++◌, map, length, slice_get, Option, Some}
-use Rattle.std.specs.List.{All, AllPairs, flat_map}
+use Rattle.std.specs.Prelude.{◌≡◌, ℕ, ◌+◌, ◌≤◌, true, false, List, [], ◌∷◌, map, length, slice_get, Option, Some}
+use Rattle.std.specs.List.{All, AllPairs}
 use Rattle.av_types.specs.Places.{chunk_of}
 use Rattle.av_types.specs.declared.place.Pos.{Pos}
 use Rattle.av_types.specs.declared.place.ChunkPos.{ChunkPos}
@@ -12,8 +12,7 @@ use Rattle.av_world.specs.Index.{slot}
 use Rattle.av_groups.specs.declared.groups.Group.{Group}
 use Rattle.av_groups.specs.declared.groups.Touch.{Touch}
 use Rattle.av_groups.specs.declared.corners.Reach.{Reach}
-use Rattle.av_groups.specs.declared.cutting.Cutting.{Cutting}
-use Rattle.av_groups.specs.Groups.{NoneTouches, IsPlaced, IsGroup, AreGroups}
+use Rattle.av_groups.specs.Groups.{NoneTouches, IsPlaced, AreGroups}
 use Rattle.av_groups.specs.Exact.{IsExact, AreExact}
 use Rattle.av_groups.specs.Parts.{StaysIn}
 
@@ -64,15 +63,12 @@ AreKept old new = (c : ChunkPos) → has_chunk (chunks_in old) c ≡ true → ha
 abbrev pub AreNoted : List ChunkPos → List Touch → List (Option Reach) → Type 0
 AreNoted ps ts noted = (k : ℕ) (r : Reach) → slice_get noted k ≡ Some (Some r) → All (IsCovered ps ts) (chunks_in_reach r)
 
--- closed groups and an open one have these entries
-pub record IsCut (w : Land ℕ) (es : List Entry) (x : Cutting) : Type 0 where
-  pub entries_are : flat_map (λ g. g.entries.items) x.closed.items ++ x.gathered.entries.items ≡ es
-  pub each : (i : ℕ) (g : Group) → slice_get x.closed.items i ≡ Some g → IsGroup w x.closed.items i g
-  pub exact : (i : ℕ) (g : Group) → slice_get x.closed.items i ≡ Some g → All (λ t. IsExact x.closed.items t.chunk t.before) g.touches.items
-  pub is_open : IsOpen w.chunks x.closed.items x.marks.last.items x.gathered.touches.items
-  pub loaded : All (λ e. is_loaded w e.pos ≡ true) x.gathered.entries.items
-  pub stay : All (StaysIn w (has_chunk (chunks_in x.gathered.touches.items))) x.gathered.entries.items
-  pub noted : AreNoted w.chunks x.gathered.touches.items x.noted
+-- the group g of these entries is gathered behind the closed ones, and is to be closed
+pub record IsGathered (w : Land ℕ) (gs : List Group) (last : List ℕ) (es : List Entry) (g : Group) : Type 0 where
+  pub entries_are : g.entries.items ≡ es
+  pub is_open : IsOpen w.chunks gs last g.touches.items
+  pub loaded : All (λ e. is_loaded w e.pos ≡ true) g.entries.items
+  pub stay : All (StaysIn w (has_chunk (chunks_in g.touches.items))) g.entries.items
 
 -- groups of which none is open
 pub record AreClosed (w : Land ℕ) (es : List Entry) (gs : List Group) (last : List ℕ) : Type 0 where

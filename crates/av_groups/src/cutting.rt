@@ -1,14 +1,14 @@
 //! The entries of a tick cut into groups.
-ghost use Rattle.std.specs.Prelude.{◌≡◌, ◌<◌, ◌++◌, ◌∷◌, [], ℕ, All, List, IfOk, OnOk, IsTrue};
+ghost use Rattle.std.specs.Prelude.{◌≡◌, ◌<◌, ◌≤◌, [], length, All, IfOk, OnOk, IsTrue};
 ghost use Rattle.std.specs.List.{list_any};
-ghost use Rattle.av_types.specs.declared.tick.Entry.{Entry};
 ghost use Rattle.av_cells.specs.Positions.{same_chunk};
-ghost use Rattle.av_land.specs.Land.{Land};
+ghost use Rattle.av_land.specs.Land.{has_chunk};
 ghost use Rattle.av_world.specs.Lands.{land_of};
 ghost use Rattle.av_world.specs.Views.{positions_of, blocks};
 ghost use Rattle.av_groups.specs.Exact.{AreExact};
 ghost use Rattle.av_groups.specs.Groups.{AreGroups};
-ghost use Rattle.av_groups.specs.Open.{IsOpen, IsTouched, IsCovered, AreKept, AreNoted, IsCut, AreClosed, chunks_in_reach};
+ghost use Rattle.av_groups.specs.Open.{IsOpen, IsTouched, IsCovered, AreKept, AreNoted, IsGathered, AreClosed, chunks_in, chunks_in_reach};
+ghost use Rattle.av_groups.specs.Parts.{StaysIn};
 
 use crate::corners::{Reach, chunks_of, reach_of};
 use crate::groups::{Group, Groups, Touch};
@@ -41,16 +41,6 @@ struct Marks {
 
     /// Where chunks stand among those that the open group touches, by their x modulo 8 and z modulo 4. A look-up checks it.
     near: [usize; 32],
-}
-
-/// Groups that are closed, and the open one, which is gathered from entries of this tile.
-#[derive(Drop)]
-struct Cutting {
-    closed: Vec<Group>,
-    gathered: Group,
-    tile: Tile,
-    marks: Marks,
-    noted: Noted,
 }
 
 /// A chunk's place in `near`: those that a group touches have each another one.
@@ -156,94 +146,73 @@ fn untouched(alloc: Global, world: &World) -> Result<Vec<usize>, AllocError>
     Vec::from_elem(alloc, 0, world.positions().len())
 }
 
-/// A group as it was gathered, with no more room than it needs.
-fn exact_copy(alloc: Global, gathered: &Group) -> Result<Group, AllocError>
-    ensures entries { IfOk result (λ copy. copy.entries.items ≡ gathered.now.entries.items) }
-    ensures touches { IfOk result (λ copy. copy.touches.items ≡ gathered.now.touches.items) }
+/// Where the entries of one tile end that begin at an index.
+fn stretch_end(entries: &[Entry], from: usize) -> usize
+    requires { from < length entries.now }
+    ensures further { from < result }
+    ensures bound { result ≤ length entries.now }
+{
+    let tile = tile_of(entries[from].pos.chunk());
+    for index in from + 1..entries.len() {
+        if tile_of(entries[index].pos.chunk()) != tile {
+            return index;
+        }
+    }
+    entries.len()
+}
+
+/// The open group touches the chunks of the reaches of some entries, where they are there.
+fn touch_entries(
+    world: &World,
+    closed: &[Group],
+    marks: &mut Marks,
+    touches: &mut Vec<Touch>,
+    entries: &[Entry],
+) -> Result<(), AllocError>
+    requires loaded { All (λ e. IsTrue ((blocks world.now).loaded e.pos)) entries.now }
+    requires gathered { IsOpen (positions_of world.now) closed.now marks.old.last.items touches.old.items }
+    ensures gathered { OnOk result (IsOpen (positions_of world.now) closed.now
+        marks.new.last.items touches.new.items) }
+    ensures stay { OnOk result (All (StaysIn (land_of world.now)
+        (has_chunk (chunks_in touches.new.items))) entries.now) }
+{
+    let mut noted = none_noted();
+    for entry in entries {
+        let reach = reach_of(entry.pos);
+        touch_reach(world, closed, marks, touches, &mut noted, reach)?;
+    }
+    Ok(())
+}
+
+/// A group with no more room than it needs.
+fn exact_group(alloc: Global, entries: &[Entry], touches: &[Touch]) -> Result<Group, AllocError>
+    ensures entries { IfOk result (λ group. group.entries.items ≡ entries.now) }
+    ensures touches { IfOk result (λ group. group.touches.items ≡ touches.now) }
 {
     Ok(Group {
-        entries: Vec::from_slice(alloc, gathered.entries.as_slice())?,
-        touches: Vec::from_slice(alloc, gathered.touches.as_slice())?,
+        entries: Vec::from_slice(alloc, entries)?,
+        touches: Vec::from_slice(alloc, touches)?,
     })
 }
 
-impl Cutting {
-    /// No entry yet.
-    fn new(alloc: Global, tile: Tile, last: Vec<usize>) -> Cutting
-        ensures { (w : Land ℕ) → AreClosed w [] [] last.items → IsCut w [] result }
-    {
-        Cutting {
-            closed: Vec::new(alloc),
-            gathered: Group {
-                entries: Vec::new(alloc),
-                touches: Vec::new(alloc),
-            },
-            tile,
-            marks: Marks {
-                last,
-                near: [0; 32],
-            },
-            noted: none_noted(),
-        }
-    }
-
-    /// Closes the open group where the tile is another one, and opens one of that tile. All are gathered in the same lists, which
-    /// seldom grow, and a closed group takes no more memory than it needs.
-    fn come_to(&mut self, alloc: Global, tile: Tile) -> Result<(), AllocError>
-        ensures { OnOk result ((w : Land ℕ) (es : List Entry) → IsCut w es self.old
-            → IsCut w es self.new) }
-    {
-        if tile == self.tile {
-            return Ok(());
-        }
-        let closed = exact_copy(alloc, &self.gathered)?;
-        self.closed.push(closed)?;
-        self.gathered.entries.clear();
-        self.gathered.touches.clear();
-        self.tile = tile;
-        self.noted = none_noted();
-        Ok(())
-    }
-
-    /// The open group has an entry more.
-    fn add(&mut self, world: &World, entry: Entry) -> Result<(), AllocError>
-        requires loaded { IsTrue ((blocks world.now).loaded entry.pos) }
-        requires gathered { IsOpen (positions_of world.now) self.old.closed.items
-            self.old.marks.last.items self.old.gathered.touches.items }
-        requires noted { AreNoted (positions_of world.now) self.old.gathered.touches.items self.old.noted }
-        ensures { OnOk result ((es : List Entry) → IsCut (land_of world.now) es self.old
-            → IsCut (land_of world.now) (es ++ entry ∷ []) self.new) }
-    {
-        touch_reach(
-            world,
-            self.closed.as_slice(),
-            &mut self.marks,
-            &mut self.gathered.touches,
-            &mut self.noted,
-            reach_of(entry.pos),
-        )?;
-        self.gathered.entries.push(entry)?;
-        Ok(())
-    }
-
-    /// Closes the open group.
-    fn finish(self) -> Result<Groups, AllocError>
-        ensures { IfOk result (λ cut. (w : Land ℕ) (es : List Entry) → IsCut w es self
-            → AreClosed w es cut.groups.items cut.last.items) }
-    {
-        let Cutting {
-            closed,
-            gathered,
-            marks,
-            ..
-        } = self;
-        let mut groups = closed;
-        groups.push(gathered)?;
-        Ok(Groups {
-            groups,
-            last: marks.last,
-        })
-    }
+/// The group of the entries of one tile, behind those that are closed. What it touches is gathered in a list that all groups use, so
+/// that it seldom grows.
+fn group_of(
+    alloc: Global,
+    world: &World,
+    closed: &[Group],
+    marks: &mut Marks,
+    touches: &mut Vec<Touch>,
+    entries: &[Entry],
+) -> Result<Group, AllocError>
+    requires loaded { All (λ e. IsTrue ((blocks world.now).loaded e.pos)) entries.now }
+    requires none { IsOpen (positions_of world.now) closed.now marks.old.last.items [] }
+    ensures { IfOk result (IsGathered (land_of world.now) closed.now marks.new.last.items entries.now) }
+{
+    touches.clear();
+    touch_entries(world, closed, marks, touches, entries)?;
+    let group = exact_group(alloc, entries, touches.as_slice())?;
+    Ok(group)
 }
 
 /// The entries of a tick in groups, in their order. A new group begins where the tile changes: where an entry lies in another
@@ -258,17 +227,24 @@ pub fn cut(alloc: Global, world: &World, entries: &[Entry]) -> Result<Groups, Al
     ensures exact { IfOk result (λ cut. AreExact (land_of world.now) cut.groups.items
         cut.last.items) }
 {
+    let mut groups = Vec::new(alloc);
+    let mut touches = Vec::new(alloc);
     let last = untouched(alloc, world)?;
-    let Some(first) = entries.first() else {
-        return Ok(Groups {
-            groups: Vec::new(alloc),
-            last,
-        });
+    let mut marks = Marks {
+        last,
+        near: [0; 32],
     };
-    let mut cutting = Cutting::new(alloc, tile_of(first.pos.chunk()), last);
-    for entry in entries {
-        cutting.come_to(alloc, tile_of(entry.pos.chunk()))?;
-        cutting.add(world, *entry)?;
+    let mut from = 0;
+    while from < entries.len() {
+        let to = stretch_end(entries, from);
+        let closed = groups.as_slice();
+        let stretch = &entries[from..to];
+        let group = group_of(alloc, world, closed, &mut marks, &mut touches, stretch)?;
+        groups.push(group)?;
+        from = to;
     }
-    cutting.finish()
+    Ok(Groups {
+        groups,
+        last: marks.last,
+    })
 }

@@ -1,7 +1,13 @@
-use Rattle.std.proofs.Common.{take}
+use Rattle.std.proofs.Common.{◌≤◌, ◌-◌, length, take}
 use Rattle.av_world.specs.Lands.{land_of}
-use Rattle.av_groups.specs.Open.{IsCut}
+use Rattle.av_groups.specs.Open.{AreClosed}
 use Rattle.av_groups.proofs.cutting.cut.Given as goal
 
-abbrev pub invariant-loop-entry : goal.invariant-loop-entry
-invariant-loop-entry l = IsCut (land_of l.world) (take l.entry-index l.entries) l.cutting
+abbrev pub invariant-loop-from : goal.invariant-loop-from
+invariant-loop-from l = record {
+  within : l.from ≤ length l.entries;
+  closed : AreClosed (land_of l.world) (take l.from l.entries) l.groups.items l.marks.last.items;
+}
+
+abbrev pub decreases-loop-from : goal.decreases-loop-from
+decreases-loop-from l = length l.entries - l.from
