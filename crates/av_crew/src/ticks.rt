@@ -1,5 +1,5 @@
 //! The tick on several workers.
-ghost use Rattle.std.specs.Prelude.{◌≡◌, ◌≢◌, ◌≤◌, ◌<◌, ◌||◌, true, false, All, OnOk, OnErr, IfOk, IfErr, if◌then◌else◌, length, vec_len};
+ghost use Rattle.std.specs.Prelude.{◌≡◌, ◌≢◌, ◌≤◌, ◌<◌, true, false, All, OnOk, OnErr, IfOk, IfErr, if◌then◌else◌, length, vec_len};
 ghost use Rattle.std.specs.List.{list_all};
 ghost use Rattle.av_types.specs.declared.fault.Fault.TheVariants.{OutOfMemory, BadCount, Broken};
 ghost use Rattle.av_rules.specs.Kinds.{kind_count};
@@ -59,7 +59,7 @@ fn turn_planned<R: Threads + Wait + Sync, G: Gate + Sync>(
     Ok(())
 }
 
-/// Turns the blocks of entries: in parts, where the gate watches them, and else in groups, or one after the other.
+/// Turns the blocks of entries: in parts, where the gate watches them, and else one after the other.
 fn turn_taken<R: Threads + Wait + Sync, G: Gate + Sync>(
     rt: &R,
     alloc: Global,
@@ -84,12 +84,7 @@ fn turn_taken<R: Threads + Wait + Sync, G: Gate + Sync>(
         };
         return turn_planned(rt, world, kinds, now, clusters, entries, workers, gate);
     }
-    // One worker or few entries pay no groups and no threads.
-    let threads = workers.count.min(entries.len() / SHARE);
-    if threads <= 1 {
-        return turn_all(world, kinds, now, entries);
-    }
-    turn_in_groups(rt, alloc, world, kinds, now, entries, threads)
+    turn_all(world, kinds, now, entries)
 }
 
 /// Takes what is due, and turns it.
@@ -109,13 +104,23 @@ fn turn_due<R: Threads + Wait + Sync, G: Gate + Sync>(
     ensures ready { OnOk result (IsReady (kind_count kinds.now) world.new) }
     ensures place { OnOk result (IsSamePlace world.old world.new) }
 {
-    let Ok(entries) = world.take_due(now) else {
-        return Err(AllocError);
-    };
+    let entries = world.due(now)?;
     let alloc = *entries.allocator();
-    let due = entries.as_slice();
-    turn_taken(rt, alloc, world, kinds, now, due, workers, gate)?;
-    Ok(entries.len() as u64)
+    let count = entries.len();
+    // One worker or few entries pay no groups and no threads, and a gate that watches is told of parts.
+    let threads = if gate.watches() {
+        1
+    } else {
+        workers.count.min(count / SHARE)
+    };
+    if threads > 1 {
+        turn_in_groups(rt, alloc, world, kinds, now, entries, threads)?;
+    } else {
+        world.leave_due(now);
+        let due = entries.as_slice();
+        turn_taken(rt, alloc, world, kinds, now, due, workers, gate)?;
+    }
+    Ok(count as u64)
 }
 
 /// The edits of a tick, and then the entries that are due.

@@ -237,3 +237,24 @@ fn nothing_is_lent_without_groups(rt: HostRuntime) -> Result<(), Fail> {
     expect_numbers(&rt, &world, 0, &[(8, 7), (7, 8), (9, 8), (8, 9)]);
     Ok(())
 }
+
+/// What is due has left all lists before the first turn. The source in the north sets the block next to the other one, whose entry is
+/// due too and of a later group: so that one is woken then, before the blocks that its own turn makes. What is due later stays.
+#[test]
+fn what_is_due_has_left_before_the_first_turn(rt: HostRuntime) -> Result<(), Fail> {
+    let alloc = rt.alloc();
+    let (north, south) = (entry(8, 15), entry(9, 16));
+    let late = Entry {
+        due: 6,
+        ..entry(4, 4)
+    };
+    let sources = [north.pos, south.pos];
+    let world = world_of(alloc, &CHUNKS, &sources, &[late, north, south])?;
+    let kinds = kinds_for(alloc, &world)?;
+    let (left, _) = turned_in_groups(alloc, world, &kinds, 1, &[north, south], 2)?;
+    let here = [(4, 4), (8, 14), (8, 15), (7, 15), (9, 15)];
+    expect_list(&rt, &left, CHUNKS[0], &here);
+    let next = [(8, 16), (9, 16), (9, 17), (10, 16)];
+    expect_list(&rt, &left, CHUNKS[3], &next);
+    Ok(())
+}

@@ -3,7 +3,7 @@ ghost use Rattle.std.specs.Prelude.{◌≡◌, All, OnOk, List};
 ghost use Rattle.av_types.specs.declared.tick.Entry.{Entry};
 ghost use Rattle.av_rules.specs.Kinds.{kind_count};
 ghost use Rattle.av_cells.specs.Kinds.{kinds_of};
-ghost use Rattle.av_land.specs.Tick.{turned_all};
+ghost use Rattle.av_land.specs.Tick.{turned_all, without_due};
 ghost use Rattle.av_world.specs.Lands.{land_of};
 ghost use Rattle.av_serial.specs.Ready.{IsReady};
 ghost use Rattle.av_world_tests.specs.Flat.{IsPlain};
@@ -128,7 +128,7 @@ fn turn_plan(
     Ok(told)
 }
 
-/// Turns entries of loaded blocks in tick `now`, in groups, of which `room` may be lent at once.
+/// Turns entries of loaded blocks in tick `now`, in groups, of which `room` may be lent at once. What is due leaves the lists.
 pub fn turn_in_groups(
     alloc: Global,
     world: &mut World,
@@ -139,11 +139,13 @@ pub fn turn_in_groups(
 ) -> Result<Told, Fault>
     requires { IsReady (kind_count kinds.now) world.old }
     ensures { OnOk result (land_of world.new ≡ turned_all
-        (kinds_of kinds.now) now entries.now (land_of world.old)) }
+        (kinds_of kinds.now) now entries.now (without_due now (land_of world.old))) }
 {
     let cut = groups_of(alloc, world, entries)?;
     let plan = Plan::new(now, kinds, world, &cut.groups);
-    turn_plan(alloc, &plan, world, kinds, &cut, room)
+    let told = turn_plan(alloc, &plan, world, kinds, &cut, room)?;
+    world.leave_due(now);
+    Ok(told)
 }
 
 /// A world after entries were turned in tick `now`, in groups, of which `room` may be lent at once.

@@ -42,7 +42,7 @@ none_of_lists now l (c ∷ cs) h = filter_append (is_due now) (l c) (flat_map l 
     by true r = ap (λ zs. x ∷ zs) r
     by false r = r
 
-all_stay : (now : ℕ) (xs : List Entry) → filter (is_due now) xs ≡ [] → filter (λ e. not (is_due now e)) xs ≡ xs
+pub all_stay : (now : ℕ) (xs : List Entry) → filter (is_due now) xs ≡ [] → filter (λ e. not (is_due now e)) xs ≡ xs
 all_stay now [] h = refl
 all_stay now (x ∷ xs) h = by (is_due now x) h (all_stay now xs) where
   by : (b : Bool) → cond b (x ∷ filter (is_due now) xs) (filter (is_due now) xs) ≡ [] → (filter (is_due now) xs ≡ [] → filter (λ e. not (is_due now e)) xs ≡ xs)

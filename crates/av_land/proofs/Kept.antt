@@ -72,7 +72,7 @@ apart_parts : (b r : Bool) → cond b false r ≡ true → (b ≡ false) × (r �
 apart_parts true r h = absurd (false≢true h)
 apart_parts false r h = (refl, h)
 
-pushed_all : (P : Entry → Type 0) (es : List Entry) (e : Entry) → AllByRecursion P es → P e → AllByRecursion P (es ++ e ∷ [])
+pub pushed_all : (P : Entry → Type 0) (es : List Entry) (e : Entry) → AllByRecursion P es → P e → AllByRecursion P (es ++ e ∷ [])
 pushed_all P [] e h p = (p, tt)
 pushed_all P (x ∷ es) e h p = (h.0, pushed_all P es e h.1 p)
 

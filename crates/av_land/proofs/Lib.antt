@@ -6,3 +6,4 @@ pub mod Kept
 pub mod Resumed
 pub mod Numbers
 pub mod Idle
+pub mod Later

@@ -9,16 +9,19 @@ use Rattle.av_types.specs.Places.{chunk_of, section_of, place_of}
 use Rattle.av_types.specs.declared.place.Pos.{Pos}
 use Rattle.av_types.specs.declared.place.ChunkPos.{ChunkPos}
 use Rattle.av_types.specs.declared.tick.Entry.{Entry}
+use Rattle.av_rules.specs.declared.kinds.Kinds.{Kinds}
 use Rattle.av_cells.specs.Kinds.{kinds_of}
 use Rattle.av_cells.specs.declared.kind.Kind.{Kind}
 use Rattle.av_cells.specs.Grid.{Filling, is_here, number_in}
 use Rattle.av_land.specs.Land.{Land, has_chunk, is_loaded}
-use Rattle.av_land.specs.Tick.{turned, turned_all}
+use Rattle.av_land.specs.Idle.{NothingDue}
+use Rattle.av_land.specs.Tick.{turned, turned_all, without_due}
+use Rattle.av_land.proofs.Later.{nothing_due_after, nothing_left}
 use Rattle.av_world.specs.Lands.{land_of, IsUncarved}
 use Rattle.av_world.specs.Views.{grid}
 use Rattle.av_world.specs.declared.worlds.World.{World}
 use Rattle.av_groups.specs.declared.groups.Group.{Group}
-use Rattle.av_groups.specs.Groups.{touched, NoneTouches}
+use Rattle.av_groups.specs.Groups.{touched, NoneTouches, AreGroups}
 use Rattle.av_groups.specs.Parts.{with_part, StaysIn, IsAirOutside}
 use Rattle.av_groups.proofs.Apart.{turned_apart, turned_both, air_after_all, stays_after, part, part_is}
 use Rattle.av_lending.specs.declared.plans.Plan.{Plan}
@@ -39,10 +42,17 @@ entries_more gs m g is =
     none (e ∷ es) = ap (λ l. e ∷ l) (none es)
 
 pub after_next : (p : Plan) (m : ℕ) (g : Group) → slice_get (groups_of p) m ≡ Some g → after p (m + 1) ≡ turned_all (kinds_of (kinds_in p)) p.tick g.entries.items (after p m)
-after_next p m g is = ap (λ es. turned_all (kinds_of (kinds_in p)) p.tick es (start_of p)) (entries_more (groups_of p) m g is) ∙ turned_both (kinds_of (kinds_in p)) p.tick (entries_of (take m (groups_of p))) g.entries.items (start_of p)
+after_next p m g is = ap (λ es. turned_all (kinds_of (kinds_in p)) p.tick es (without_due p.tick (start_of p))) (entries_more (groups_of p) m g is) ∙ turned_both (kinds_of (kinds_in p)) p.tick (entries_of (take m (groups_of p))) g.entries.items (without_due p.tick (start_of p))
 
 pub after_past : (p : Plan) (m : ℕ) → length (groups_of p) ≤ m → after p (m + 1) ≡ after p m
-after_past p m past = ap (λ gs. turned_all (kinds_of (kinds_in p)) p.tick (entries_of gs) (start_of p)) (take_all (m + 1) (groups_of p) (omega (arith, past)) ∙ sym (take_all m (groups_of p) past))
+after_past p m past = ap (λ gs. turned_all (kinds_of (kinds_in p)) p.tick (entries_of gs) (without_due p.tick (start_of p))) (take_all (m + 1) (groups_of p) (omega (arith, past)) ∙ sym (take_all m (groups_of p) past))
+
+-- what all groups leave is what their entries leave
+pub all_turned : (k : Kinds) (now : ℕ) (w : World) (es : List Entry) (last : List ℕ) (p : Plan) → p.tick ≡ now → p.kinds.value ≡ k → p.start.value ≡ w → AreGroups (land_of w) es (groups_of p) last
+    → after p (length (groups_of p)) ≡ turned_all (kinds_of k) now es (without_due now (land_of w))
+all_turned k now w es last p tick kinds start cut = λ i. turned_all (kinds_of (kinds i)) (tick i) (entries i) (without_due (tick i) (land_of (start i))) where
+  entries : entries_of (take (length (groups_of p)) (groups_of p)) ≡ es
+  entries = ap entries_of (take_all (length (groups_of p)) (groups_of p) (omega arith)) ∙ cut.entries_are
 
 -- ---- what turns leave as it is
 
@@ -59,7 +69,7 @@ chunks_after_all k now [] w = refl
 chunks_after_all k now (e ∷ es) w = chunks_after_all k now es (turned k now e.pos w)
 
 pub loaded_after : (p : Plan) (m : ℕ) (q : Pos) → is_loaded (after p m) q ≡ is_loaded (start_of p) q
-loaded_after p m q = loaded_after_all (kinds_of (kinds_in p)) p.tick (entries_of (take m (groups_of p))) (start_of p) q
+loaded_after p m q = loaded_after_all (kinds_of (kinds_in p)) p.tick (entries_of (take m (groups_of p))) (without_due p.tick (start_of p)) q
 
 pub air_outside : (w : World) → IsUncarved w → IsAirOutside (land_of w)
 air_outside w whole q out = by (grid w (section_of q)) (ap (λ l. l q) whole ∙ out) where
@@ -68,10 +78,14 @@ air_outside w whole q out = by (grid w (section_of q)) (ap (λ l. l q) whole ∙
   by (Some f) h = absurd (true≢false h)
 
 pub air_after : (p : Plan) → IsPlan p → (m : ℕ) → IsAirOutside (after p m)
-air_after p is m = air_after_all (kinds_of (kinds_in p)) p.tick (entries_of (take m (groups_of p))) (start_of p) (air_outside p.start.value is.ready.whole)
+air_after p is m = air_after_all (kinds_of (kinds_in p)) p.tick (entries_of (take m (groups_of p))) (without_due p.tick (start_of p)) (air_outside p.start.value is.ready.whole)
 
 pub stay_after : (p : Plan) → IsPlan p → (m i : ℕ) (g : Group) → slice_get (groups_of p) i ≡ Some g → All (StaysIn (after p m) (has_chunk (touched g))) g.entries.items
-stay_after p is m i g at = stays_after (kinds_of (kinds_in p)) p.tick (has_chunk (touched g)) (entries_of (take m (groups_of p))) g.entries.items (start_of p) (is.each i g at).stay
+stay_after p is m i g at = stays_after (kinds_of (kinds_in p)) p.tick (has_chunk (touched g)) (entries_of (take m (groups_of p))) g.entries.items (without_due p.tick (start_of p)) (is.each i g at).stay
+
+-- what was due has left
+pub none_due_after : (p : Plan) (m : ℕ) → NothingDue p.tick (after p m)
+none_due_after p m = nothing_due_after (kinds_of (kinds_in p)) p.tick (entries_of (take m (groups_of p))) (without_due p.tick (start_of p)) (nothing_left p.tick (start_of p))
 
 -- ---- a chunk that groups do not touch
 

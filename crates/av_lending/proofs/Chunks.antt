@@ -1,5 +1,5 @@
 -- Chunks of a world that are lent, stay or come back.
-use Rattle.std.proofs.Common.{◌≡◌, ℕ, ◌<◌, ◌≤◌, ◌&&◌, ◌||◌, ◌∷◌, [], List, length, map, get_or, slice_get, Bool, true, false, cond, Option, Some, None, All, refl, sym, ap, subst, ◌∙◌, ◌⊎◌, inl, inr}
+use Rattle.std.proofs.Common.{◌≡◌, ℕ, not, filter, ◌<◌, ◌≤◌, ◌&&◌, ◌||◌, ◌∷◌, [], List, length, map, get_or, slice_get, Bool, true, false, cond, Option, Some, None, All, refl, sym, ap, subst, ◌∙◌, ◌⊎◌, inl, inr}
 use Rattle.std.proofs.lemmas.Bool.{true≢false, cases_lt}
 use Rattle.std.proofs.lemmas.List.Elements.{All-head, All-tail}
 use Rattle.av_types.specs.Places.{chunk_of, chunk_of_section, section_of, place_of, is_block_of}
@@ -7,11 +7,13 @@ use Rattle.av_types.specs.declared.place.Pos.{Pos}
 use Rattle.av_types.specs.declared.place.ChunkPos.{ChunkPos}
 use Rattle.av_types.specs.declared.place.SectionPos.{SectionPos}
 use Rattle.av_types.proofs.SamePlaces.{same_chunk_is}
+use Rattle.av_ticks.specs.Entries.{is_due}
 use Rattle.av_rules.specs.Kinds.{kind_count}
 use Rattle.av_cells.specs.Positions.{same_chunk}
 use Rattle.av_cells.specs.Grid.{is_here, number_in}
 use Rattle.av_cells.specs.Rule.{HasKinds}
 use Rattle.av_land.specs.Land.{has_chunk, is_loaded}
+use Rattle.av_land.specs.Tick.{without_due}
 use Rattle.av_world.specs.Index.{slot}
 use Rattle.av_world.specs.Lands.{land_of, IsUncarved}
 use Rattle.av_world.specs.Lending.{IsLent}
@@ -22,6 +24,7 @@ use Rattle.av_groups.specs.declared.groups.Group.{Group}
 use Rattle.av_groups.specs.declared.groups.Touch.{Touch}
 use Rattle.av_groups.specs.Groups.{touched, NoneTouches}
 use Rattle.av_groups.specs.Parts.{IsPart}
+use Rattle.av_groups.proofs.Added.{all_has}
 use Rattle.av_lending.specs.declared.plans.Plan.{Plan}
 use Rattle.av_lending.specs.Plans.{groups_of, kinds_in, start_of, after, stage_of, IsPlan, IsLentAfter, IsAtStage, IsUnderWay}
 use Rattle.av_lending.specs.Brought.{IsNext, CameTo}
@@ -35,14 +38,6 @@ touch_of P Q (t ∷ ts) c ps qs h = by (same_chunk t.chunk c) refl h (touch_of P
   by : (s : Bool) → same_chunk t.chunk c ≡ s → s || has_chunk (map (λ t. t.chunk) ts) c ≡ true → (has_chunk (map (λ t. t.chunk) ts) c ≡ true → (t : Touch) × (t.chunk ≡ c) × P t × Q t) → (t : Touch) × (t.chunk ≡ c) × P t × Q t
   by true e h rest = (t, same_chunk_is t.chunk c e, All-head P t ts ps, All-head Q t ts qs)
   by false e h rest = rest h
-
--- a chunk that is among some has what they all have
-pub among_all : (P : ChunkPos → Type 0) (cs : List ChunkPos) (c : ChunkPos) → All P cs → has_chunk cs c ≡ true → P c
-among_all P [] c h m = absurd (true≢false (sym m))
-among_all P (d ∷ ds) c h m = by (same_chunk d c) refl m (among_all P ds c (All-tail P d ds h)) where
-  by : (t : Bool) → same_chunk d c ≡ t → t || has_chunk ds c ≡ true → (has_chunk ds c ≡ true → P c) → P c
-  by true e m rest = subst P (same_chunk_is d c e) (All-head P d ds h)
-  by false e m rest = rest m
 
 pub is_there : (ps : List ChunkPos) (c : ChunkPos) → has_chunk ps c ≡ true → slot ps c < length ps
 is_there ps c h = by (cases_lt (slot ps c) (length ps)) where
@@ -62,7 +57,7 @@ pub kept : (p : Plan) (m : ℕ) (old new : World) (c : ChunkPos) → ((s : Secti
 kept p m old new c sections list was = record {
   at = λ q e. ap (λ f. number_in f (place_of q)) (sections (section_of q) e) ∙ was.at q e;
   loaded = λ q e. ap is_here (sections (section_of q) e) ∙ was.loaded q e;
-  list = list ∙ was.list;
+  list = ap (filter (λ e. not (is_due p.tick e))) list ∙ was.list;
 }
 
 -- ---- lending
@@ -83,7 +78,7 @@ module _ (p : Plan) (is : IsPlan p) (i : ℕ) (g : Group) (at : slice_get (group
     by (t, e, stage, (up, none)) = subst (IsAtStage p i old) e (later p is t.before i old t.chunk up none (way.known t.chunk t.before stage))
 
   there : (c : ChunkPos) → has_chunk (touched g) c ≡ true → has_chunk (positions_of p.start.value) c ≡ true
-  there c h = among_all (λ c. has_chunk (positions_of p.start.value) c ≡ true) (touched g) c (is.each i g at).there h
+  there c h = all_has (λ c. has_chunk (positions_of p.start.value) c ≡ true) (touched g) c (is.each i g at).there h
 
   lent_at : (q : Pos) → grid lent (section_of q) ≡ cond (has_chunk (touched g) (chunk_of q)) (grid old (section_of q)) None
   lent_at q = l.lent_grid (section_of q) ∙ ap (λ t. cond t (grid old (section_of q)) None) (has (chunk_of q))
@@ -97,17 +92,17 @@ module _ (p : Plan) (is : IsPlan p) (i : ℕ) (g : Group) (at : slice_get (group
     by true h = sym (ap (λ t. t && is_block_of (height_of p.start.value) q.y) (h refl))
     by false h = refl
 
-  part_of : IsPart (has_chunk (touched g)) (after p i) (land_of lent)
+  part_of : IsPart (has_chunk (touched g)) (after p i) (without_due p.tick (land_of lent))
   part_of = record {
     loaded = λ q. is_loaded_lent q ∙ loaded_in q ∙ ap (λ t. has_chunk (touched g) (chunk_of q) && t) (sym (loaded_after p i q));
     at = λ q. ap (λ f. number_in f (place_of q)) (lent_at q) ∙ by_number q (has_chunk (touched g) (chunk_of q)) (staged (chunk_of q));
-    lists = λ c. l.lent_lists c ∙ ap (λ t. cond t (lists old c) []) (has c) ∙ by_list c (has_chunk (touched g) c) (staged c);
+    lists = λ c. ap (filter (λ e. not (is_due p.tick e))) (l.lent_lists c ∙ ap (λ t. cond t (lists old c) []) (has c)) ∙ by_list c (has_chunk (touched g) c) (staged c);
   } where
     by_number : (q : Pos) (t : Bool) → (t ≡ true → IsAtStage p i old (chunk_of q)) → number_in (cond t (grid old (section_of q)) None) (place_of q) ≡ cond t ((after p i).at q) 0
     by_number q true s = (s refl).at q refl
     by_number q false s = refl
 
-    by_list : (c : ChunkPos) (t : Bool) → (t ≡ true → IsAtStage p i old c) → cond t (lists old c) [] ≡ cond t ((after p i).lists c) []
+    by_list : (c : ChunkPos) (t : Bool) → (t ≡ true → IsAtStage p i old c) → filter (λ e. not (is_due p.tick e)) (cond t (lists old c) []) ≡ cond t ((after p i).lists c) []
     by_list c true s = (s refl).list
     by_list c false s = refl
 

@@ -11,21 +11,12 @@ use Rattle.av_world.specs.Views.{positions_of}
 use Rattle.av_world.specs.declared.worlds.World.{World}
 use Rattle.av_world.proofs.ChunkReads.{slot_of_index}
 use Rattle.av_world.specs.Near.{slot_at}
+use Rattle.av_groups.proofs.Touched.{has_push}
 use Rattle.av_lending.specs.Plans.{stage_of}
 use Rattle.av_lending.specs.Brought.{CameTo, IsBringing}
 
 pub slot_is : (w : World) (c : ChunkPos) (i : ℕ) → slice_get (positions_of w) i ≡ Some c → slot (positions_of w) c ≡ i
 slot_is w c i at = slot_of_index (positions_of w) c i w.lawful.rising (slice_get_within (positions_of w) i c at) at
-
-has_last : (cs : List ChunkPos) (c d : ChunkPos) → has_chunk (cs ++ c ∷ []) d ≡ has_chunk cs d || same_chunk c d
-has_last [] c d = by (same_chunk c d) where
-  by : (t : Bool) → t || false ≡ t
-  by true = refl
-  by false = refl
-has_last (e ∷ cs) c d = by (same_chunk e d) (has_last cs c d) where
-  by : (t : Bool) → has_chunk (cs ++ c ∷ []) d ≡ has_chunk cs d || same_chunk c d → t || has_chunk (cs ++ c ∷ []) d ≡ (t || has_chunk cs d) || same_chunk c d
-  by true h = refl
-  by false h = h
 
 or_true : (a : Bool) → a || true ≡ true
 or_true true = refl
@@ -62,7 +53,7 @@ one_more w cs c i stage old new at was = record { long = length-set new i stage 
     by : (t : Bool) → same_chunk c d ≡ t → ((has_chunk (cs ++ c ∷ []) d ≡ true) × (stage ≡ Some m)) ⊎ ((has_chunk (cs ++ c ∷ []) d ≡ false) × (stage_of (positions_of w) old d ≡ Some m))
     by true e =
         let there : slot (positions_of w) d ≡ i = ap (slot (positions_of w)) (sym (same_chunk_is c d e)) ∙ here in
-        inl (has_last cs c d ∙ ap (λ t. has_chunk cs d || t) e ∙ or_true (has_chunk cs d), sym (get_or-set_same new i stage None inside) ∙ ap (λ n. get_or (slice_set new i stage) n None) (sym there) ∙ h)
+        inl (has_push cs c d ∙ ap (λ t. has_chunk cs d || t) e ∙ or_true (has_chunk cs d), sym (get_or-set_same new i stage None inside) ∙ ap (λ n. get_or (slice_set new i stage) n None) (sym there) ∙ h)
     by false e = other (was.came d m (sym (get_or-set_other new i (slot (positions_of w) d) stage None apart) ∙ h)) where
       apart : slot (positions_of w) d ≢ i
       apart s = true≢false (sym (same_chunk_from c d (there_is (slice_get_within (positions_of w) i c at) s)) ∙ e) where
@@ -70,7 +61,7 @@ one_more w cs c i stage old new at was = record { long = length-set new i stage 
         there_is below s = sym (get_or_from_slice_get (positions_of w) i c d at) ∙ ap (λ n. get_or (positions_of w) n d) (sym s) ∙ slot_at (positions_of w) d d (subst (λ n. n < length (positions_of w)) (sym s) below)
 
       none : has_chunk (cs ++ c ∷ []) d ≡ has_chunk cs d
-      none = has_last cs c d ∙ ap (λ t. has_chunk cs d || t) e ∙ or_false (has_chunk cs d)
+      none = has_push cs c d ∙ ap (λ t. has_chunk cs d || t) e ∙ or_false (has_chunk cs d)
 
       other : ((has_chunk cs d ≡ true) × (stage ≡ Some m)) ⊎ ((has_chunk cs d ≡ false) × (stage_of (positions_of w) old d ≡ Some m)) → ((has_chunk (cs ++ c ∷ []) d ≡ true) × (stage ≡ Some m)) ⊎ ((has_chunk (cs ++ c ∷ []) d ≡ false) × (stage_of (positions_of w) old d ≡ Some m))
       other (inl (t, s)) = inl (none ∙ t, s)

@@ -1,5 +1,5 @@
 //! Worlds that are lent for a group.
-ghost use Rattle.std.specs.Prelude.{◌≡◌, ◌+◌, IfOk};
+ghost use Rattle.std.specs.Prelude.{◌+◌, IfOk};
 ghost use Rattle.av_lending.specs.Plans.{IsPlanOf, IsLentAfter};
 
 use crate::plans::Plan;
@@ -23,7 +23,8 @@ pub struct Turned {
     pub world: Result<World, AllocError>,
 }
 
-/// Turns the entries of a group in the chunks that are lent for it.
+/// Turns the entries of a group in the chunks that are lent for it. What is due leaves their lists before: that of a chunk by the
+/// thread that turns it first, all threads at once, and then their caches have it.
 pub fn turn_lent(plan: &Plan, kinds: &Kinds, groups: &[Group], lent: Lent) -> Turned
     requires plan { IsPlanOf plan.now kinds.now groups.now }
     requires lent { IsLentAfter plan.now lent.number lent.number lent.world }
@@ -31,6 +32,7 @@ pub fn turn_lent(plan: &Plan, kinds: &Kinds, groups: &[Group], lent: Lent) -> Tu
 {
     let Lent { number, mut world } = lent;
     let entries = groups[number].entries.as_slice();
+    world.leave_due(plan.tick);
     let Ok(()) = turn_all(&mut world, kinds, plan.tick, entries) else {
         return Turned {
             number,

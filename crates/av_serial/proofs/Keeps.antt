@@ -11,8 +11,10 @@ use Rattle.av_types.specs.declared.tick.Entry.{Entry}
 use Rattle.av_cells.specs.World as cells
 use Rattle.av_cells.specs.Rule.{HasKinds}
 use Rattle.av_cells.specs.declared.kind.Kind.{Kind}
+use Rattle.av_cells.proofs.Wakes.{HasKinds-same}
 use Rattle.av_land.specs.Land.{Land}
-use Rattle.av_land.specs.Tick.{set_in, edited, turned, turned_all}
+use Rattle.av_land.specs.Tick.{set_in, edited, turned, turned_all, without_due}
+use Rattle.av_world.specs.Lands.{land_of}
 use Rattle.av_world.specs.Views.{blocks, site, room, CanSetAt}
 use Rattle.av_world.proofs.Whole.{whole_kept}
 use Rattle.av_world.specs.declared.worlds.World.{World}
@@ -28,6 +30,10 @@ kinds_same n old new b r = subst (λ (v : cells.World). HasKinds n v) (sym b) r.
 
 pub ready_same : (n : ℕ) (old new : World) → site new ≡ site old → blocks new ≡ blocks old → IsReady n old → IsReady n new
 ready_same n old new s b r = ready_on n old new s (ap (λ (v : cells.World). v.loaded) b) (kinds_same n old new b r) r
+
+-- after what is due has left
+pub ready_left : (n now : ℕ) (old new : World) → site new ≡ site old → (blocks new).loaded ≡ (blocks old).loaded → land_of new ≡ without_due now (land_of old) → IsReady n old → IsReady n new
+ready_left n now old new s l left r = ready_on n old new s l (HasKinds-same n (blocks old) (blocks new) (record { loaded = l; number = ap (λ (w : Land ℕ). w.at) left }) r.numbers) r
 
 pub place_refl : (w : World) → IsSamePlace w w
 place_refl w = record { site_is = refl; loaded_is = refl }

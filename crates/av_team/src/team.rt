@@ -1,12 +1,14 @@
 //! A tick's entries turned in groups.
-ghost use Rattle.std.specs.Prelude.{◌≡◌, true, IfOk, OnOk};
+ghost use Rattle.std.specs.Prelude.{◌≡◌, true, List, IfOk, OnOk};
 ghost use Rattle.std.specs.List.{list_all};
+ghost use Rattle.av_types.specs.declared.tick.Entry.{Entry};
 ghost use Rattle.av_rules.specs.Kinds.{kind_count};
 ghost use Rattle.av_cells.specs.Kinds.{kinds_of};
-ghost use Rattle.av_land.specs.Tick.{turned_all};
+ghost use Rattle.av_land.specs.Tick.{turned_all, without_due};
 ghost use Rattle.av_world.specs.Lands.{land_of};
 ghost use Rattle.av_world.specs.Views.{blocks};
 ghost use Rattle.av_serial.specs.Ready.{IsReady, IsSamePlace};
+ghost use Rattle.av_groups.specs.Groups.{AreGroups};
 ghost use Rattle.av_lending.specs.Handed.{IsKeeperOf};
 ghost use Rattle.av_lending.specs.Plans.{IsFinished};
 ghost use Rattle.av_team.specs.Lines.{ArePassesOf, IsDeskOf, IsPassOf};
@@ -14,6 +16,7 @@ ghost use Rattle.av_team.specs.Lines.{ArePassesOf, IsDeskOf, IsPassOf};
 use crate::lines::{Desk, Passes, put_in};
 use crate::serve::{serve, start_all};
 use av_groups::cutting::cut;
+use av_groups::groups::Groups;
 use av_lending::{Keeper, Lender, Plan};
 use av_line::{Line, LinePass};
 use av_rules::Kinds;
@@ -24,9 +27,9 @@ use std::sync::Wait;
 use std::thread::{Scope, Threads};
 use std::{mem, thread};
 
-/// So many groups may be lent at once for each thread: enough that none waits for one that another could lend. More would only
-/// take chunks out of the caches, and memory for those that stand in for them.
-const AHEAD: usize = 8;
+/// So many groups may be lent at once for each thread, with the one that it turns: enough that none waits for one that another could
+/// lend. More would only take chunks out of the caches, and memory for those that stand in for them.
+const AHEAD: usize = 3;
 
 /// Turns all groups, by this thread and the others, which end before it returns. The keeper is in its line before they are started,
 /// so that each begins at once.
@@ -101,8 +104,71 @@ fn finish<R: Wait>(
     }
 }
 
-/// Turns the blocks of some entries in tick `now`, one after the other, in groups that the calling thread and others share
-/// out among them: `workers` in all. The entries themselves are in no list any more.
+/// The entries of a tick in groups. They are no more once their copies stand in the groups: both are as large as a tick is.
+///
+/// # Errors
+/// Where memory is refused.
+fn cut_up(alloc: Global, world: &World, entries: Vec<Entry>) -> Result<Groups, AllocError>
+    requires { list_all (λ e. (blocks world.now).loaded e.pos) entries.items ≡ true }
+    ensures { IfOk result (λ groups. AreGroups (land_of world.now) entries.items
+        groups.groups.items groups.last.items) }
+{
+    cut(alloc, world, entries.as_slice())
+}
+
+/// What the threads of a tick share, the passes of the first of them, and one more of the keeper's line.
+type Opened = (Desk, Passes, LinePass<Keeper, Plan>);
+
+/// Opens the lines of tick `now`, with which this world begins, in these groups.
+///
+/// # Errors
+/// Where memory is refused.
+fn open_desk<R: Wait>(
+    rt: &R,
+    alloc: Global,
+    world: &World,
+    kinds: &Kinds,
+    now: u32,
+    groups: Groups,
+    threads: usize,
+) -> Result<Opened, AllocError>
+    requires ready { IsReady (kind_count kinds.now) world.now }
+    requires groups { (entries : List Entry) × AreGroups (land_of world.now) entries
+        groups.groups.items groups.last.items }
+    ensures desk { IfOk result (λ opened. IsDeskOf opened.0 kinds.now) }
+    ensures passes { IfOk result (λ opened. ArePassesOf opened.0 opened.1) }
+    ensures last { IfOk result (λ opened. IsPassOf opened.0.keepers opened.0.plan opened.2) }
+    ensures tick { IfOk result (λ opened. opened.0.plan.tick ≡ now) }
+    ensures start { IfOk result (λ opened. opened.0.plan.start.value ≡ world.now) }
+    ensures groups { IfOk result (λ opened. opened.0.groups ≡ groups) }
+{
+    let room = groups.groups.len().saturating_add(threads);
+    let plan = Plan::new(now, kinds, world, &groups.groups);
+    let works_plan = Plan::new(now, kinds, world, &groups.groups);
+    let (works, works_pass) = Line::open(rt, alloc, works_plan, room)?;
+    let backs_plan = Plan::new(now, kinds, world, &groups.groups);
+    let (backs, backs_pass) = Line::open(rt, alloc, backs_plan, room)?;
+    let keepers_plan = Plan::new(now, kinds, world, &groups.groups);
+    let (keepers, mut keepers_pass) = Line::open(rt, alloc, keepers_plan, 1)?;
+    let last_pass = keepers.another(&mut keepers_pass);
+    let passes = Passes {
+        works: works_pass,
+        backs: backs_pass,
+        keepers: keepers_pass,
+    };
+    let desk = Desk {
+        works,
+        backs,
+        keepers,
+        plan,
+        groups,
+        threads,
+    };
+    Ok((desk, passes, last_pass))
+}
+
+/// Takes the entries that are due in tick `now` out of their lists, and turns their blocks, one after the other, in groups that
+/// the calling thread and others share out among them: `workers` in all. `entries` are those that are due, in order.
 ///
 /// # Errors
 /// Where memory is refused, also where a thread can't be started. Then all threads have ended, and the world is to be
@@ -113,43 +179,22 @@ pub fn turn_in_groups<R: Threads + Wait + Sync>(
     world: &mut World,
     kinds: &Kinds,
     now: u32,
-    entries: &[Entry],
+    entries: Vec<Entry>,
     workers: usize,
 ) -> Result<(), AllocError>
     requires ready { IsReady (kind_count kinds.now) world.old }
-    requires loaded { list_all (λ e. (blocks world.old).loaded e.pos) entries.now ≡ true }
-    ensures done { OnOk result (land_of world.new ≡ turned_all (kinds_of kinds.now) now entries.now
-        (land_of world.old)) }
+    requires loaded { list_all (λ e. (blocks world.old).loaded e.pos) entries.items ≡ true }
+    ensures done { OnOk result (land_of world.new ≡ turned_all (kinds_of kinds.now) now entries.items
+        (without_due now (land_of world.old))) }
     ensures ready { OnOk result (IsReady (kind_count kinds.now) world.new) }
     ensures place { OnOk result (IsSamePlace world.old world.new) }
 {
-    let groups = cut(alloc, world, entries)?;
-    let count = groups.groups.len();
-    let plan = Plan::new(now, kinds, world, &groups.groups);
-    let threads = workers.min(count).max(1);
+    let groups = cut_up(alloc, world, entries)?;
+    let threads = workers.min(groups.groups.len()).max(1);
+    let (desk, passes, last_pass) = open_desk(rt, alloc, world, kinds, now, groups, threads)?;
     let ahead = threads.saturating_mul(AHEAD);
-    let lender = Lender::new(alloc, &plan, world, groups.groups.as_slice(), ahead)?;
-    let room = count.saturating_add(threads);
-    let works_plan = Plan::new(now, kinds, world, &groups.groups);
-    let (works, works_pass) = Line::open(rt, alloc, works_plan, room)?;
-    let backs_plan = Plan::new(now, kinds, world, &groups.groups);
-    let (backs, backs_pass) = Line::open(rt, alloc, backs_plan, room)?;
-    let keepers_plan = Plan::new(now, kinds, world, &groups.groups);
-    let (keepers, mut keepers_pass) = Line::open(rt, alloc, keepers_plan, 1)?;
-    let last_pass = keepers.another(&mut keepers_pass);
-    let desk = Desk {
-        works,
-        backs,
-        keepers,
-        plan,
-        groups,
-        threads,
-    };
-    let passes = Passes {
-        works: works_pass,
-        backs: backs_pass,
-        keepers: keepers_pass,
-    };
+    let cut = desk.groups.groups.as_slice();
+    let lender = Lender::new(alloc, &desk.plan, world, cut, ahead)?;
     let height = world.height();
     let keeper = Keeper {
         lender,
@@ -157,6 +202,9 @@ pub fn turn_in_groups<R: Threads + Wait + Sync>(
         has_ended: false,
     };
     in_threads(rt, &desk, passes, kinds, keeper)?;
-    *world = finish(rt, &desk, last_pass, kinds)?;
+    let turned = finish(rt, &desk, last_pass, kinds)?;
+    *world = turned;
+    // What is due has left each chunk that was lent, and so all. This looks at each once, and makes it certain.
+    world.leave_due(now);
     Ok(())
 }

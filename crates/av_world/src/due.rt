@@ -120,10 +120,13 @@ impl World {
         Ok(due)
     }
 
-    /// The same entries by their time, then by their priority, the lower first, then by chunk and place in the list.
-    fn due_in_order(&self, now: u32) -> Result<Vec<Entry>, AllocError>
-        ensures { IfOk result (λ due. due.items ≡ ordered due_order
-            (flat_map (λ chunk. filter (is_due now) (entries chunk.ticks)) (chunks_of self.now))) }
+    /// The entries that are due in tick `now` or before it, by their time, then by their priority, the lower first, then by chunk
+    /// (z, x) and by their place in the list. They stay in their lists.
+    ///
+    /// # Errors
+    /// Where memory is refused.
+    pub fn due(&self, now: u32) -> Result<Vec<Entry>, AllocError>
+        ensures { IfOk result (λ due. due.items ≡ due_entries now (land_of self.now)) }
     {
         let mut due = self.find_due(now)?;
         due.sort_by_key(|entry| (entry.due, entry.priority))?;
@@ -141,6 +144,16 @@ impl World {
         for index in 0..self.chunks.len() {
             leave_in(&mut self.chunks[index], self.height, now);
         }
+    }
+
+    /// Takes the entries that are due in tick `now` or before it out of all lists. Their blocks are pending no longer. It takes no
+    /// memory.
+    pub fn leave_due(&mut self, now: u32)
+        ensures left { land_of self.new ≡ without_due now (land_of self.old) }
+        ensures loaded { (blocks self.new).loaded ≡ (blocks self.old).loaded }
+        ensures site { site self.new ≡ site self.old }
+    {
+        self.leave_all(now);
     }
 
     /// Takes the entries that are due in tick `now` or before it out of all lists, and returns them by their time, then
@@ -164,8 +177,8 @@ impl World {
         if self.broken {
             return Err(Fault::Broken);
         }
-        let due = self.due_in_order(now)?;
-        self.leave_all(now);
+        let due = self.due(now)?;
+        self.leave_due(now);
         Ok(due)
     }
 }

@@ -226,6 +226,22 @@ fn entries_leave_in_order(rt: HostRuntime) -> Result<(), Fail> {
     Ok(())
 }
 
+/// Those that are due can be asked for, in that order, and stay where they are until they are told to leave.
+#[test]
+fn due_entries_stay_until_they_leave(rt: HostRuntime) -> Result<(), Fail> {
+    let [a, b, c, late, d, e, f, g] = eight();
+    let mut world = eight_entries(rt.alloc())?;
+    let due = world.due(6)?;
+    assert_eq!(rt; due.as_slice(), [g, e, b, c, d, f, a].as_slice());
+    expect_list(&rt, &world, FIRST, &[a, late, b, c]);
+    assert!(rt; world.pending(a.pos));
+    world.leave_due(6);
+    expect_list(&rt, &world, FIRST, &[late]);
+    expect_list(&rt, &world, SOUTH, &[]);
+    assert!(rt; !world.pending(a.pos));
+    Ok(())
+}
+
 /// One that is due later stays.
 #[test]
 fn a_later_entry_stays(rt: HostRuntime) -> Result<(), Fail> {

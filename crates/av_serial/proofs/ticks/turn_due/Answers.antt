@@ -1,12 +1,10 @@
-use Rattle.std.proofs.Common.{◌∙◌, ap, sym, subst, ◌≡◌, true, List, ℕ}
+use Rattle.std.proofs.Common.{◌∙◌, sym, subst, ◌≡◌, true, List}
 use Rattle.std.specs.List.{list_all}
 use Rattle.av_types.specs.declared.place.Pos.{Pos}
 use Rattle.av_types.specs.declared.tick.Entry.{Entry}
 use Rattle.av_rules.specs.Kinds.{kind_count}
-use Rattle.av_cells.proofs.Wakes.{HasKinds-same}
-use Rattle.av_land.specs.Land.{Land}
 use Rattle.av_world.specs.Views.{blocks}
-use Rattle.av_serial.proofs.Keeps.{ready_on, ready_same}
+use Rattle.av_serial.proofs.Keeps.{ready_left, ready_same}
 use Rattle.av_serial.proofs.DueLoaded.{due_loaded}
 use Rattle.av_serial.proofs.ticks.turn_due.Goals as goal
 
@@ -15,9 +13,7 @@ returns-in_default-clause-ready c = ready_same (kind_count c.args.kinds.now) c.a
 
 pub turn_all-requires-clause-ready : goal.turn_all-requires-clause-ready
 turn_all-requires-clause-ready c =
-    let old = c.args.world.now in let new = c.take_due.new.self in
-    ready_on (kind_count c.args.kinds.now) old new c.take_due.ensures.site c.take_due.ensures.loaded
-    (HasKinds-same (kind_count c.args.kinds.now) (blocks old) (blocks new) (record { loaded = c.take_due.ensures.loaded; number = ap (λ (l : Land ℕ). l.at) c.in-Ok.ensures.left }) c.requires.ready.numbers) c.requires.ready
+    ready_left (kind_count c.args.kinds.now) c.args.now c.args.world.now c.take_due.new.self c.take_due.ensures.site c.take_due.ensures.loaded c.in-Ok.ensures.left c.requires.ready
 
 pub turn_all-requires-clause-loaded : goal.turn_all-requires-clause-loaded
 turn_all-requires-clause-loaded c =

@@ -1,29 +1,35 @@
-use Rattle.std.proofs.Common.{◌∙◌, sym, ap}
-use Rattle.av_line.specs.Shown.{PassShown}
-use Rattle.av_lending.specs.declared.plans.Plan.{Plan}
-use Rattle.av_team.proofs.Same.{desk_of, is_plan, pass_of}
+use Rattle.std.proofs.Common.{◌∙◌, sym, ap, subst}
+use Rattle.av_rules.specs.Kinds.{kind_count}
+use Rattle.av_land.specs.Tick.{without_due}
+use Rattle.av_world.specs.Lands.{land_of}
+use Rattle.av_serial.specs.Ready.{IsReady, IsSamePlace}
+use Rattle.av_serial.proofs.Keeps.{ready_left, place_on}
+use Rattle.av_groups.specs.declared.groups.Groups.{Groups}
+use Rattle.av_groups.specs.Groups.{AreGroups}
+use Rattle.av_lending.specs.Plans.{kinds_in}
+use Rattle.av_lending.proofs.After.{all_turned}
 use Rattle.av_team.proofs.team.turn_in_groups.Goals as goal
 
+pub open_desk-requires-clause-groups : goal.open_desk-requires-clause-groups
+open_desk-requires-clause-groups g c = (c.args.entries.items, c.in_ok-groups.ensures)
+
 pub new-requires-clause-plan : goal.new-requires-clause-plan
-new-requires-clause-plan g c = is_plan c.args.kinds.now c.args.world.now c.in_ok-groups.groups.groups.items c.args.entries.now c.in_ok-groups.groups.last.items c.new-plan.result c.new-plan.ensures.kinds c.new-plan.ensures.start (ap (λ v. v.items) c.new-plan.ensures.groups) c.requires.ready c.in_ok-groups.ensures.groups
+new-requires-clause-plan g c = c.in_ok-desk.ensures.desk.plan_is.is_plan
 
-pub in_threads-requires-clause-passes : goal.in_threads-requires-clause-passes
-in_threads-requires-clause-passes g c κs within = record {
-  of_works = pass_of _ c.new-plan.result c.new-works_plan.result _ (c.in_ok-works.ensures.line) (c.in_ok-works.ensures.plan) (c.new-plan.ensures.tick ∙ sym c.new-works_plan.ensures.tick) (c.new-plan.ensures.kinds ∙ sym c.new-works_plan.ensures.kinds)
-      (c.new-plan.ensures.start ∙ sym c.new-works_plan.ensures.start) (c.new-plan.ensures.groups ∙ sym c.new-works_plan.ensures.groups);
-  of_backs = pass_of _ c.new-plan.result c.new-backs_plan.result _ (c.in_ok-backs.ensures.line) (c.in_ok-backs.ensures.plan) (c.new-plan.ensures.tick ∙ sym c.new-backs_plan.ensures.tick) (c.new-plan.ensures.kinds ∙ sym c.new-backs_plan.ensures.kinds)
-      (c.new-plan.ensures.start ∙ sym c.new-backs_plan.ensures.start) (c.new-plan.ensures.groups ∙ sym c.new-backs_plan.ensures.groups);
-  of_keepers = pass_of _ c.new-plan.result c.new-keepers_plan.result _ (ap (λ (s : PassShown Plan). s.line) c.another-last_pass.ensures.0 ∙ c.in_ok-keepers.ensures.line) (ap (λ (s : PassShown Plan). s.plan) c.another-last_pass.ensures.0 ∙ c.in_ok-keepers.ensures.plan) (c.new-plan.ensures.tick ∙ sym c.new-keepers_plan.ensures.tick) (c.new-plan.ensures.kinds ∙ sym c.new-keepers_plan.ensures.kinds)
-      (c.new-plan.ensures.start ∙ sym c.new-keepers_plan.ensures.start) (c.new-plan.ensures.groups ∙ sym c.new-keepers_plan.ensures.groups);
-}
+pub returns-clause-done : goal.returns-clause-done
+returns-clause-done g c =
+    let d = c.in_ok-desk.desk in
+    let groups = ap (λ (x : Groups). x.groups.items) (sym c.in_ok-desk.ensures.groups) ∙ c.in_ok-desk.ensures.desk.plan_is.groups_are in
+    c.leave_due.ensures.left ∙ ap (λ t. without_due t (land_of c.in_ok-turned.turned)) (sym c.in_ok-desk.ensures.tick) ∙ c.in_ok-turned.ensures.land_is
+    ∙ all_turned c.args.kinds.now c.args.now c.args.world.now c.args.entries.items c.in_ok-groups.groups.last.items d.plan c.in_ok-desk.ensures.tick (sym c.in_ok-desk.ensures.desk.plan_is.kinds_are) c.in_ok-desk.ensures.start
+    (subst (λ gs. AreGroups (land_of c.args.world.now) c.args.entries.items gs c.in_ok-groups.groups.last.items) groups c.in_ok-groups.ensures)
 
-pub in_threads-requires-clause-desk : goal.in_threads-requires-clause-desk
-in_threads-requires-clause-desk g c κs within = desk_of _ c.args.kinds.now c.args.world.now c.args.entries.now c.new-plan.ensures.kinds c.new-plan.ensures.start c.new-plan.ensures.groups c.requires.ready c.in_ok-groups.ensures.groups
+pub returns-clause-ready : goal.returns-clause-ready
+returns-clause-ready g c =
+    subst (λ k. IsReady (kind_count k) c.leave_due.new.self) (sym c.in_ok-desk.ensures.desk.plan_is.kinds_are)
+    (ready_left (kind_count (kinds_in c.in_ok-desk.desk.plan)) c.args.now c.in_ok-turned.turned c.leave_due.new.self c.leave_due.ensures.site c.leave_due.ensures.loaded c.leave_due.ensures.left c.in_ok-turned.ensures.ready)
 
-pub finish-requires-clause-desk : goal.finish-requires-clause-desk
-finish-requires-clause-desk g c = desk_of _ c.args.kinds.now c.args.world.now c.args.entries.now c.new-plan.ensures.kinds c.new-plan.ensures.start c.new-plan.ensures.groups c.requires.ready c.in_ok-groups.ensures.groups
-
-pub finish-requires-clause-pass : goal.finish-requires-clause-pass
-finish-requires-clause-pass g c =
-    pass_of _ c.new-plan.result c.new-keepers_plan.result _ (ap (λ (s : PassShown Plan). s.line) c.another-last_pass.ensures.1 ∙ c.in_ok-keepers.ensures.line) (ap (λ (s : PassShown Plan). s.plan) c.another-last_pass.ensures.1 ∙ c.in_ok-keepers.ensures.plan) (c.new-plan.ensures.tick ∙ sym c.new-keepers_plan.ensures.tick) (c.new-plan.ensures.kinds ∙ sym c.new-keepers_plan.ensures.kinds)
-    (c.new-plan.ensures.start ∙ sym c.new-keepers_plan.ensures.start) (c.new-plan.ensures.groups ∙ sym c.new-keepers_plan.ensures.groups)
+pub returns-clause-place : goal.returns-clause-place
+returns-clause-place g c =
+    place_on c.args.world.now c.in_ok-turned.turned c.leave_due.new.self (subst (λ w. IsSamePlace w c.in_ok-turned.turned) c.in_ok-desk.ensures.start c.in_ok-turned.ensures.place)
+    (record { site_is = c.leave_due.ensures.site; loaded_is = c.leave_due.ensures.loaded })
