@@ -6,10 +6,11 @@ use crate::place::Pos;
 pub struct Entry {
     /// The block.
     pub pos: Pos,
+    /// Among entries that are due at the same time, a lower priority goes first. It stands here so that no bytes are left over:
+    /// an entry has 24.
+    pub priority: i32,
     /// The tick in which it is due, counted from the moment at which the world was saved; below 0 is overdue.
     pub due: i64,
-    /// Among entries that are due at the same time, a lower priority goes first.
-    pub priority: i32,
 }
 
 /// An entry that a turn has made.

@@ -3,8 +3,7 @@ ghost use Rattle.std.specs.Prelude.{◌≡◌, ◌≤◌, ◌++◌, ◌||◌, �
 ghost use Rattle.std.specs.List.{flat_map};
 ghost use Rattle.av_types.specs.declared.fault.Fault.TheVariants.{OutOfMemory, Broken};
 ghost use Rattle.av_types.specs.declared.place.SectionPos.{SectionPos};
-ghost use Rattle.av_ticks.specs.Entries.{is_due, due_order};
-ghost use Rattle.av_types.specs.Order.{ordered};
+ghost use Rattle.av_ticks.specs.Entries.{is_due};
 ghost use Rattle.av_ticks.specs.Ticks.{entries};
 ghost use Rattle.av_land.specs.Tick.{due_entries, without_due};
 ghost use Rattle.av_world.specs.Changes.{SameNumbers};
@@ -40,6 +39,15 @@ fn push_due_of(due: &mut Vec<Entry>, ticks: &TickList, now: u32) -> Result<(), A
         return Ok(());
     }
     push_due(due, ticks.due_part(now), now)
+}
+
+/// How many entries of a list are due. One with none is not gone through, nor what stands behind those that are due.
+fn due_in(ticks: &TickList, now: u32) -> usize {
+    if !ticks.has_due(now) {
+        return 0;
+    }
+    let due = ticks.due_part(now).iter();
+    due.filter(|entry| entry.due <= i64::from(now)).count()
 }
 
 /// The tick of a time, 0 for one before all ticks.
@@ -107,13 +115,24 @@ impl World {
         soonest
     }
 
+    /// How many entries are due in tick `now` or before it, so that room for them is asked for at once. A list that grew from a few
+    /// entries on would stay in the arena of the C library in which it began, which can be that of any thread that ran before, and
+    /// from tick to tick leave its room behind in one after the other.
+    fn count_due(&self, now: u32) -> usize {
+        let mut count: usize = 0;
+        for chunk in &self.chunks {
+            count = count.saturating_add(due_in(&chunk.ticks, now));
+        }
+        count
+    }
+
     /// The entries that are due in tick `now` or before it, in the order of the chunks and of their lists.
     fn find_due(&self, now: u32) -> Result<Vec<Entry>, AllocError>
         ensures { IfOk result (λ due. due.items ≡ flat_map
             (λ chunk. filter (is_due now) (entries chunk.ticks)) (chunks_of self.now)) }
     {
         let alloc = *self.positions.allocator();
-        let mut due = Vec::new(alloc);
+        let mut due = Vec::with_capacity(alloc, self.count_due(now))?;
         for chunk in &self.chunks {
             push_due_of(&mut due, &chunk.ticks, now)?;
         }
