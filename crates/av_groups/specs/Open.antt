@@ -1,6 +1,6 @@
 -- Groups of which the last is still open. Working definitions: no public clause cites them.
-use Rattle.std.specs.Prelude.{◌≡◌, ℕ, ◌+◌, ◌≤◌, true, false, List, [], ◌∷◌, map, length, slice_get, Option, Some}
-use Rattle.std.specs.List.{All, AllPairs}
+use Rattle.std.specs.Prelude.{◌≡◌, ℕ, ◌+◌, ◌≤◌, true, false, List, [], ◌∷◌, map, length, take, slice_get, Option, Some}
+use Rattle.std.specs.List.{All, AllPairs, flat_map}
 use Rattle.av_types.specs.Places.{chunk_of}
 use Rattle.av_types.specs.declared.place.Pos.{Pos}
 use Rattle.av_types.specs.declared.place.ChunkPos.{ChunkPos}
@@ -12,7 +12,7 @@ use Rattle.av_world.specs.Index.{slot}
 use Rattle.av_groups.specs.declared.groups.Group.{Group}
 use Rattle.av_groups.specs.declared.groups.Touch.{Touch}
 use Rattle.av_groups.specs.declared.corners.Reach.{Reach}
-use Rattle.av_groups.specs.Groups.{NoneTouches, IsPlaced, AreGroups}
+use Rattle.av_groups.specs.Groups.{NoneTouches, IsPlaced, AreCut, entries_in}
 use Rattle.av_groups.specs.Exact.{IsExact, AreExact}
 use Rattle.av_groups.specs.Parts.{StaysIn}
 
@@ -63,14 +63,14 @@ AreKept old new = (c : ChunkPos) → has_chunk (chunks_in old) c ≡ true → ha
 abbrev pub AreNoted : List ChunkPos → List Touch → List (Option Reach) → Type 0
 AreNoted ps ts noted = (k : ℕ) (r : Reach) → slice_get noted k ≡ Some (Some r) → All (IsCovered ps ts) (chunks_in_reach r)
 
--- the group g of these entries is gathered behind the closed ones, and is to be closed
-pub record IsGathered (w : Land ℕ) (gs : List Group) (last : List ℕ) (es : List Entry) (g : Group) : Type 0 where
-  pub entries_are : g.entries.items ≡ es
-  pub is_open : IsOpen w.chunks gs last g.touches.items
-  pub loaded : All (λ e. is_loaded w e.pos ≡ true) g.entries.items
-  pub stay : All (StaysIn w (has_chunk (chunks_in g.touches.items))) g.entries.items
+-- what a group of these entries touches is gathered behind the closed ones, and the group is to be closed
+pub record IsGathered (w : Land ℕ) (gs : List Group) (last : List ℕ) (es : List Entry) (ts : List Touch) : Type 0 where
+  pub is_open : IsOpen w.chunks gs last ts
+  pub loaded : All (λ e. is_loaded w e.pos ≡ true) es
+  pub stay : All (StaysIn w (has_chunk (chunks_in ts))) es
 
--- groups of which none is open
-pub record AreClosed (w : Land ℕ) (es : List Entry) (gs : List Group) (last : List ℕ) : Type 0 where
-  pub groups : AreGroups w es gs last
+-- groups of the first n entries, of which none is open
+pub record AreClosed (w : Land ℕ) (es : List Entry) (n : ℕ) (gs : List Group) (last : List ℕ) : Type 0 where
+  pub entries_are : flat_map (entries_in es) gs ≡ take n es
+  pub cut : AreCut w es gs last
   pub exact : AreExact w gs last

@@ -1,6 +1,5 @@
 //! The chunks that a turn may touch.
-ghost use Rattle.std.specs.Prelude.{◌≡◌, true, false, pos, ◌+ℤ◌, ◌-ℤ◌};
-ghost use Rattle.av_types.specs.Places.{chunk_of};
+ghost use Rattle.std.specs.Prelude.{◌≡◌, true, false};
 ghost use Rattle.av_cells.specs.Positions.{IsNearOrigin};
 ghost use Rattle.av_play.specs.Corners.{corner};
 ghost use Rattle.av_groups.specs.Open.{reach_of, chunks_in_reach};

@@ -1,6 +1,7 @@
 //! The entries of a tick cut into groups.
-ghost use Rattle.std.specs.Prelude.{◌≡◌, ◌<◌, ◌≤◌, [], length, All, IfOk, OnOk, IsTrue};
+ghost use Rattle.std.specs.Prelude.{◌≡◌, ◌<◌, ◌≤◌, [], List, length, All, IfOk, OnOk, IsTrue};
 ghost use Rattle.std.specs.List.{list_any};
+ghost use Rattle.av_types.specs.declared.tick.Entry.{Entry};
 ghost use Rattle.av_cells.specs.Positions.{same_chunk};
 ghost use Rattle.av_land.specs.Land.{has_chunk};
 ghost use Rattle.av_world.specs.Lands.{land_of};
@@ -141,7 +142,8 @@ fn touch_reach(
 
 /// For each chunk of the world 0: no group touches it yet.
 fn untouched(alloc: Global, world: &World) -> Result<Vec<usize>, AllocError>
-    ensures { IfOk result (λ last. AreClosed (land_of world.now) [] [] last.items) }
+    ensures { IfOk result (λ last. (entries : List Entry)
+        → AreClosed (land_of world.now) entries 0 [] last.items) }
 {
     Vec::from_elem(alloc, 0, world.positions().len())
 }
@@ -184,66 +186,65 @@ fn touch_entries(
     Ok(())
 }
 
-/// A group with no more room than it needs.
-fn exact_group(alloc: Global, entries: &[Entry], touches: &[Touch]) -> Result<Group, AllocError>
-    ensures entries { IfOk result (λ group. group.entries.items ≡ entries.now) }
-    ensures touches { IfOk result (λ group. group.touches.items ≡ touches.now) }
+/// Touches with no more room than they need.
+fn exact_touches(alloc: Global, touches: &[Touch]) -> Result<Vec<Touch>, AllocError>
+    ensures { IfOk result (λ exact. exact.items ≡ touches.now) }
 {
-    Ok(Group {
-        entries: Vec::from_slice(alloc, entries)?,
-        touches: Vec::from_slice(alloc, touches)?,
-    })
+    Vec::from_slice(alloc, touches)
 }
 
-/// The group of the entries of one tile, behind those that are closed. What it touches is gathered in a list that all groups use, so
-/// that it seldom grows.
-fn group_of(
+/// What a group of these entries touches, behind the groups that are closed. It is gathered in a list that all groups use, so that it
+/// seldom grows.
+fn touches_of(
     alloc: Global,
     world: &World,
     closed: &[Group],
     marks: &mut Marks,
-    touches: &mut Vec<Touch>,
+    gathered: &mut Vec<Touch>,
     entries: &[Entry],
-) -> Result<Group, AllocError>
+) -> Result<Vec<Touch>, AllocError>
     requires loaded { All (λ e. IsTrue ((blocks world.now).loaded e.pos)) entries.now }
     requires none { IsOpen (positions_of world.now) closed.now marks.old.last.items [] }
-    ensures { IfOk result (IsGathered (land_of world.now) closed.now marks.new.last.items entries.now) }
+    ensures { IfOk result (λ touches. IsGathered (land_of world.now) closed.now
+        marks.new.last.items entries.now touches.items) }
 {
-    touches.clear();
-    touch_entries(world, closed, marks, touches, entries)?;
-    let group = exact_group(alloc, entries, touches.as_slice())?;
-    Ok(group)
+    gathered.clear();
+    touch_entries(world, closed, marks, gathered, entries)?;
+    let touches = exact_touches(alloc, gathered.as_slice())?;
+    Ok(touches)
 }
 
 /// The entries of a tick in groups, in their order. A new group begins where the tile changes: where an entry lies in another
-/// tile of chunks than the entry before it.
+/// tile of chunks than the entry before it. The entries stay where they are, and groups name stretches of them.
 ///
 /// # Errors
 /// Where memory is refused.
-pub fn cut(alloc: Global, world: &World, entries: &[Entry]) -> Result<Groups, AllocError>
-    requires { All (λ e. IsTrue ((blocks world.now).loaded e.pos)) entries.now }
-    ensures groups { IfOk result (λ cut. AreGroups (land_of world.now) entries.now
-        cut.groups.items cut.last.items) }
+pub fn cut(alloc: Global, world: &World, entries: Vec<Entry>) -> Result<Groups, AllocError>
+    requires { All (λ e. IsTrue ((blocks world.now).loaded e.pos)) entries.items }
+    ensures entries { IfOk result (λ cut. cut.entries ≡ entries) }
+    ensures groups { IfOk result (AreGroups (land_of world.now)) }
     ensures exact { IfOk result (λ cut. AreExact (land_of world.now) cut.groups.items
         cut.last.items) }
 {
     let mut groups = Vec::new(alloc);
-    let mut touches = Vec::new(alloc);
+    let mut gathered = Vec::new(alloc);
     let last = untouched(alloc, world)?;
     let mut marks = Marks {
         last,
         near: [0; 32],
     };
+    let all = entries.as_slice();
     let mut from = 0;
-    while from < entries.len() {
-        let to = stretch_end(entries, from);
+    while from < all.len() {
+        let to = stretch_end(all, from);
         let closed = groups.as_slice();
-        let stretch = &entries[from..to];
-        let group = group_of(alloc, world, closed, &mut marks, &mut touches, stretch)?;
-        groups.push(group)?;
+        let stretch = &all[from..to];
+        let touches = touches_of(alloc, world, closed, &mut marks, &mut gathered, stretch)?;
+        groups.push(Group { from, to, touches })?;
         from = to;
     }
     Ok(Groups {
+        entries,
         groups,
         last: marks.last,
     })

@@ -10,17 +10,20 @@ pub struct Touch {
     pub before: usize,
 }
 
-/// Entries of a tick that come one after the other, and the chunks that their turns may touch.
+/// Entries of a tick that come one after the other: those of the tick from index `from` up to `to`, without that one. And the chunks
+/// that their turns may touch.
 #[derive(Drop)]
 pub struct Group {
-    pub entries: Vec<Entry>,
+    pub from: usize,
+    pub to: usize,
     pub touches: Vec<Touch>,
 }
 
-/// All entries of a tick in groups. `last` has for each chunk of the world one more than the number of the last group that
+/// All entries of a tick, and their groups. `last` has for each chunk of the world one more than the number of the last group that
 /// touches it, and 0 where none does.
 #[derive(Drop)]
 pub struct Groups {
+    pub entries: Vec<Entry>,
     pub groups: Vec<Group>,
     pub last: Vec<usize>,
 }

@@ -48,9 +48,15 @@ const SQUARE: [ChunkPos; 9] = [
 /// A chunk by its x and z, and the number of groups that come before there.
 type Touched = (i32, i32, usize);
 
-/// A group has these entries and touches these chunks, in this order.
-fn expect_group(rt: &impl Abort, group: &Group, entries: &[Entry], touches: &[Touched]) {
-    assert_eq!(rt; group.entries.as_slice(), entries);
+/// A group has these entries, of all of them, and touches these chunks, in this order.
+fn expect_group(
+    rt: &impl Abort,
+    all: &[Entry],
+    group: &Group,
+    entries: &[Entry],
+    touches: &[Touched],
+) {
+    assert_eq!(rt; all.get(group.from..group.to), Some(entries));
     assert_eq!(rt; group.touches.len(), touches.len());
     for (touch, want) in group.touches.iter().zip(touches) {
         let found = (touch.chunk.x, touch.chunk.z, touch.before);
@@ -68,7 +74,7 @@ fn expect_one(
 ) -> Result<(), Fault> {
     let cut = cut_of(alloc, &SQUARE, entries)?;
     assert_eq!(rt; cut.groups.len(), 1);
-    expect_group(rt, &cut.groups[0], entries, touches);
+    expect_group(rt, cut.entries.as_slice(), &cut.groups[0], entries, touches);
     assert_eq!(rt; cut.last.as_slice(), last.as_slice());
     Ok(())
 }
@@ -187,9 +193,10 @@ fn a_tile_that_comes_again_is_another_group(rt: HostRuntime) -> Result<(), Fail>
     assert_eq!(rt; cut.groups.len(), 3);
     let [a, b, c, d, e] = entries;
     let first = [(3, 0, 0), (4, 0, 0), (0, 0, 0)];
-    expect_group(&rt, &cut.groups[0], &[a, b], &first);
-    expect_group(&rt, &cut.groups[1], &[c], &[(3, 0, 1), (4, 0, 1)]);
-    expect_group(&rt, &cut.groups[2], &[d, e], &[(0, 0, 1), (3, 0, 2)]);
+    let all = cut.entries.as_slice();
+    expect_group(&rt, all, &cut.groups[0], &[a, b], &first);
+    expect_group(&rt, all, &cut.groups[1], &[c], &[(3, 0, 1), (4, 0, 1)]);
+    expect_group(&rt, all, &cut.groups[2], &[d, e], &[(0, 0, 1), (3, 0, 2)]);
     assert_eq!(rt; cut.last.as_slice(), [3, 0, 0, 3, 2, 0].as_slice());
     Ok(())
 }
@@ -211,7 +218,7 @@ fn sizes_of(alloc: Global, chunks: &[ChunkPos]) -> Result<Vec<usize>, Fault> {
     let cut = cut_of(alloc, chunks, entries.as_slice())?;
     let mut sizes = Vec::new(alloc);
     for group in cut.groups.as_slice() {
-        sizes.push(group.entries.len())?;
+        sizes.push(group.to.wrapping_sub(group.from))?;
     }
     Ok(sizes)
 }

@@ -25,11 +25,13 @@ fn all_loaded(world: &World, entries: &[Entry]) -> bool
 
 /// The entries in groups. They must be of loaded blocks.
 pub fn groups_of(alloc: Global, world: &World, entries: &[Entry]) -> Result<Groups, Fault>
-    ensures { IfOk result (λ cut. AreGroups (land_of world.now) entries.now
-        cut.groups.items cut.last.items) }
+    ensures entries { IfOk result (λ cut. cut.entries.items ≡ entries.now) }
+    ensures groups { IfOk result (AreGroups (land_of world.now)) }
 {
     if !all_loaded(world, entries) {
         return Err(Fault::EditOutside(0));
     }
-    Ok(cut(alloc, world, entries)?)
+    let own = Vec::from_slice(alloc, entries)?;
+    let groups = cut(alloc, world, own)?;
+    Ok(groups)
 }

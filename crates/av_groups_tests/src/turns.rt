@@ -1,17 +1,15 @@
 //! Ticks that are turned in groups, on one thread.
-ghost use Rattle.std.specs.Prelude.{◌≡◌, All, OnOk, List};
-ghost use Rattle.av_types.specs.declared.tick.Entry.{Entry};
+ghost use Rattle.std.specs.Prelude.{◌≡◌, All, OnOk};
 ghost use Rattle.av_rules.specs.Kinds.{kind_count};
 ghost use Rattle.av_cells.specs.Kinds.{kinds_of};
 ghost use Rattle.av_land.specs.Tick.{turned_all, without_due};
 ghost use Rattle.av_world.specs.Lands.{land_of};
 ghost use Rattle.av_serial.specs.Ready.{IsReady};
 ghost use Rattle.av_world_tests.specs.Flat.{IsPlain};
-ghost use Rattle.av_groups.specs.Groups.{AreGroups};
 ghost use Rattle.av_lending.specs.Plans.{IsPlanOf, IsUnderWay, IsLentAfter, IsFinished};
 
 use crate::groups::groups_of;
-use av_groups::groups::{Group, Groups};
+use av_groups::groups::Groups;
 use av_lending::{Lender, Lent, Plan, Turned, turn_lent};
 use av_rules::Kinds;
 use av_types::{Entry, Fault};
@@ -28,7 +26,7 @@ fn lend_ready(
     lender: &mut Lender,
     world: &mut World,
     kinds: &Kinds,
-    groups: &[Group],
+    groups: &Groups,
     lent: &mut Vec<Lent>,
     back: usize,
     told: &mut Told,
@@ -41,7 +39,7 @@ fn lend_ready(
     ensures lent { OnOk result (All (λ one. IsLentAfter plan.now one.number one.number one.world)
         lent.new.items) }
 {
-    for _ in 0..=groups.len() {
+    for _ in 0..=groups.groups.len() {
         let Some(one) = lender.lend(alloc, plan, world, kinds, groups)? else {
             return Ok(());
         };
@@ -57,7 +55,7 @@ fn turn_last(
     lender: &mut Lender,
     world: &mut World,
     kinds: &Kinds,
-    groups: &[Group],
+    groups: &Groups,
     lent: &mut Vec<Lent>,
 ) -> Result<(), Fault>
     requires plan { IsPlanOf plan.now kinds.now groups.now }
@@ -92,21 +90,18 @@ fn turn_plan(
     plan: &Plan,
     world: &mut World,
     kinds: &Kinds,
-    cut: &Groups,
+    groups: &Groups,
     room: usize,
 ) -> Result<Told, Fault>
-    requires plan { IsPlanOf plan.now kinds.now cut.now.groups.items }
-    requires groups { (entries : List Entry) × AreGroups (land_of plan.now.start.value) entries
-        cut.now.groups.items cut.now.last.items }
+    requires plan { IsPlanOf plan.now kinds.now groups.now }
     requires start { plan.now.start.value ≡ world.old }
     ensures { OnOk result (IsFinished plan.now world.new) }
 {
-    let groups = cut.groups.as_slice();
     let mut lender = Lender::new(alloc, plan, world, groups, room)?;
     let mut lent = Vec::new(alloc);
     let mut told = Vec::new(alloc);
-    for back in 0..groups.len() {
-        if lender.is_done(plan, world, kinds, cut) {
+    for back in 0..groups.groups.len() {
+        if lender.is_done(plan, world, kinds, groups) {
             return Err(Fault::BadCount);
         }
         lend_ready(
@@ -122,7 +117,7 @@ fn turn_plan(
         )?;
         turn_last(plan, &mut lender, world, kinds, groups, &mut lent)?;
     }
-    if !lender.is_done(plan, world, kinds, cut) {
+    if !lender.is_done(plan, world, kinds, groups) {
         return Err(Fault::BadCount);
     }
     Ok(told)
@@ -142,7 +137,7 @@ pub fn turn_in_groups(
         (kinds_of kinds.now) now entries.now (without_due now (land_of world.old))) }
 {
     let cut = groups_of(alloc, world, entries)?;
-    let plan = Plan::new(now, kinds, world, &cut.groups);
+    let plan = Plan::new(now, kinds, world, &cut);
     let told = turn_plan(alloc, &plan, world, kinds, &cut, room)?;
     world.leave_due(now);
     Ok(told)

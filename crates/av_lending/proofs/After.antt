@@ -21,38 +21,42 @@ use Rattle.av_world.specs.Lands.{land_of, IsUncarved}
 use Rattle.av_world.specs.Views.{grid}
 use Rattle.av_world.specs.declared.worlds.World.{World}
 use Rattle.av_groups.specs.declared.groups.Group.{Group}
-use Rattle.av_groups.specs.Groups.{touched, NoneTouches, AreGroups}
+use Rattle.av_groups.specs.Groups.{entries_in, touched, NoneTouches}
 use Rattle.av_groups.specs.Parts.{with_part, StaysIn, IsAirOutside}
 use Rattle.av_groups.proofs.Apart.{turned_apart, turned_both, air_after_all, stays_after, part, part_is}
 use Rattle.av_lending.specs.declared.plans.Plan.{Plan}
-use Rattle.av_lending.specs.Plans.{groups_of, kinds_in, start_of, after, IsPlan}
+use Rattle.av_lending.specs.Plans.{groups_of, entries_of, kinds_in, start_of, after, IsPlan}
 
 -- the entries of groups
-abbrev pub entries_of : List Group → List Entry
-entries_of gs = flat_map (λ g. g.entries.items) gs
+abbrev pub all_in : List Entry → List Group → List Entry
+all_in es gs = flat_map (entries_in es) gs
 
-entries_more : (gs : List Group) (m : ℕ) (g : Group) → slice_get gs m ≡ Some g → entries_of (take (m + 1) gs) ≡ entries_of (take m gs) ++ g.entries.items
-entries_more gs m g is =
-    ap entries_of (take_more gs m g (slice_get_within gs m g is) ∙ ap (λ h. take m gs ++ h ∷ []) (get_or_from_slice_get gs m g g is))
-    ∙ flat_map-append (λ (h : Group). h.entries.items) (take m gs) (g ∷ [])
-    ∙ ap (λ es. entries_of (take m gs) ++ es) (none g.entries.items)
+-- those of the first m groups of a plan
+abbrev pub first_of : Plan → ℕ → List Entry
+first_of p m = all_in (entries_of p) (take m (groups_of p))
+
+entries_more : (es : List Entry) (gs : List Group) (m : ℕ) (g : Group) → slice_get gs m ≡ Some g → all_in es (take (m + 1) gs) ≡ all_in es (take m gs) ++ entries_in es g
+entries_more es gs m g is =
+    ap (all_in es) (take_more gs m g (slice_get_within gs m g is) ∙ ap (λ h. take m gs ++ h ∷ []) (get_or_from_slice_get gs m g g is))
+    ∙ flat_map-append (entries_in es) (take m gs) (g ∷ [])
+    ∙ ap (λ xs. all_in es (take m gs) ++ xs) (none (entries_in es g))
   where
     none : (es : List Entry) → es ++ [] ≡ es
     none [] = refl
     none (e ∷ es) = ap (λ l. e ∷ l) (none es)
 
-pub after_next : (p : Plan) (m : ℕ) (g : Group) → slice_get (groups_of p) m ≡ Some g → after p (m + 1) ≡ turned_all (kinds_of (kinds_in p)) p.tick g.entries.items (after p m)
-after_next p m g is = ap (λ es. turned_all (kinds_of (kinds_in p)) p.tick es (without_due p.tick (start_of p))) (entries_more (groups_of p) m g is) ∙ turned_both (kinds_of (kinds_in p)) p.tick (entries_of (take m (groups_of p))) g.entries.items (without_due p.tick (start_of p))
+pub after_next : (p : Plan) (m : ℕ) (g : Group) → slice_get (groups_of p) m ≡ Some g → after p (m + 1) ≡ turned_all (kinds_of (kinds_in p)) p.tick (entries_in (entries_of p) g) (after p m)
+after_next p m g is = ap (λ es. turned_all (kinds_of (kinds_in p)) p.tick es (without_due p.tick (start_of p))) (entries_more (entries_of p) (groups_of p) m g is) ∙ turned_both (kinds_of (kinds_in p)) p.tick (first_of p m) (entries_in (entries_of p) g) (without_due p.tick (start_of p))
 
 pub after_past : (p : Plan) (m : ℕ) → length (groups_of p) ≤ m → after p (m + 1) ≡ after p m
-after_past p m past = ap (λ gs. turned_all (kinds_of (kinds_in p)) p.tick (entries_of gs) (without_due p.tick (start_of p))) (take_all (m + 1) (groups_of p) (omega (arith, past)) ∙ sym (take_all m (groups_of p) past))
+after_past p m past = ap (λ gs. turned_all (kinds_of (kinds_in p)) p.tick (all_in (entries_of p) gs) (without_due p.tick (start_of p))) (take_all (m + 1) (groups_of p) (omega (arith, past)) ∙ sym (take_all m (groups_of p) past))
 
 -- what all groups leave is what their entries leave
-pub all_turned : (k : Kinds) (now : ℕ) (w : World) (es : List Entry) (last : List ℕ) (p : Plan) → p.tick ≡ now → p.kinds.value ≡ k → p.start.value ≡ w → AreGroups (land_of w) es (groups_of p) last
+pub all_turned : (k : Kinds) (now : ℕ) (w : World) (es : List Entry) (p : Plan) → IsPlan p → p.tick ≡ now → p.kinds.value ≡ k → p.start.value ≡ w → entries_of p ≡ es
     → after p (length (groups_of p)) ≡ turned_all (kinds_of k) now es (without_due now (land_of w))
-all_turned k now w es last p tick kinds start cut = λ i. turned_all (kinds_of (kinds i)) (tick i) (entries i) (without_due (tick i) (land_of (start i))) where
-  entries : entries_of (take (length (groups_of p)) (groups_of p)) ≡ es
-  entries = ap entries_of (take_all (length (groups_of p)) (groups_of p) (omega arith)) ∙ cut.entries_are
+all_turned k now w es p is tick kinds start entries = λ i. turned_all (kinds_of (kinds i)) (tick i) (all i) (without_due (tick i) (land_of (start i))) where
+  all : first_of p (length (groups_of p)) ≡ es
+  all = ap (all_in (entries_of p)) (take_all (length (groups_of p)) (groups_of p) (omega arith)) ∙ is.groups.entries_are ∙ entries
 
 -- ---- what turns leave as it is
 
@@ -69,7 +73,7 @@ chunks_after_all k now [] w = refl
 chunks_after_all k now (e ∷ es) w = chunks_after_all k now es (turned k now e.pos w)
 
 pub loaded_after : (p : Plan) (m : ℕ) (q : Pos) → is_loaded (after p m) q ≡ is_loaded (start_of p) q
-loaded_after p m q = loaded_after_all (kinds_of (kinds_in p)) p.tick (entries_of (take m (groups_of p))) (without_due p.tick (start_of p)) q
+loaded_after p m q = loaded_after_all (kinds_of (kinds_in p)) p.tick (first_of p m) (without_due p.tick (start_of p)) q
 
 pub air_outside : (w : World) → IsUncarved w → IsAirOutside (land_of w)
 air_outside w whole q out = by (grid w (section_of q)) (ap (λ l. l q) whole ∙ out) where
@@ -78,14 +82,14 @@ air_outside w whole q out = by (grid w (section_of q)) (ap (λ l. l q) whole ∙
   by (Some f) h = absurd (true≢false h)
 
 pub air_after : (p : Plan) → IsPlan p → (m : ℕ) → IsAirOutside (after p m)
-air_after p is m = air_after_all (kinds_of (kinds_in p)) p.tick (entries_of (take m (groups_of p))) (without_due p.tick (start_of p)) (air_outside p.start.value is.ready.whole)
+air_after p is m = air_after_all (kinds_of (kinds_in p)) p.tick (first_of p m) (without_due p.tick (start_of p)) (air_outside p.start.value is.ready.whole)
 
-pub stay_after : (p : Plan) → IsPlan p → (m i : ℕ) (g : Group) → slice_get (groups_of p) i ≡ Some g → All (StaysIn (after p m) (has_chunk (touched g))) g.entries.items
-stay_after p is m i g at = stays_after (kinds_of (kinds_in p)) p.tick (has_chunk (touched g)) (entries_of (take m (groups_of p))) g.entries.items (without_due p.tick (start_of p)) (is.each i g at).stay
+pub stay_after : (p : Plan) → IsPlan p → (m i : ℕ) (g : Group) → slice_get (groups_of p) i ≡ Some g → All (StaysIn (after p m) (has_chunk (touched g))) (entries_in (entries_of p) g)
+stay_after p is m i g at = stays_after (kinds_of (kinds_in p)) p.tick (has_chunk (touched g)) (first_of p m) (entries_in (entries_of p) g) (without_due p.tick (start_of p)) (is.groups.cut.each i g at).stay
 
 -- what was due has left
 pub none_due_after : (p : Plan) (m : ℕ) → NothingDue p.tick (after p m)
-none_due_after p m = nothing_due_after (kinds_of (kinds_in p)) p.tick (entries_of (take m (groups_of p))) (without_due p.tick (start_of p)) (nothing_left p.tick (start_of p))
+none_due_after p m = nothing_due_after (kinds_of (kinds_in p)) p.tick (first_of p m) (without_due p.tick (start_of p)) (nothing_left p.tick (start_of p))
 
 -- ---- a chunk that groups do not touch
 
@@ -102,10 +106,10 @@ untouched p is m g c at none = record {
   b = has_chunk (touched g)
 
   left : Land ℕ
-  left = turned_all (kinds_of (kinds_in p)) p.tick g.entries.items (part (has_chunk (touched g)) (after p m))
+  left = turned_all (kinds_of (kinds_in p)) p.tick (entries_in (entries_of p) g) (part (has_chunk (touched g)) (after p m))
 
   whole : after p (m + 1) ≡ with_part (has_chunk (touched g)) left (after p m)
-  whole = after_next p m g at ∙ (turned_apart (kinds_of (kinds_in p)) p.tick (has_chunk (touched g)) g.entries.items (after p m) (part (has_chunk (touched g)) (after p m)) (air_after p is m) (stay_after p is m m g at) (part_is (has_chunk (touched g)) (after p m))).whole
+  whole = after_next p m g at ∙ (turned_apart (kinds_of (kinds_in p)) p.tick (has_chunk (touched g)) (entries_in (entries_of p) g) (after p m) (part (has_chunk (touched g)) (after p m)) (air_after p is m) (stay_after p is m m g at) (part_is (has_chunk (touched g)) (after p m))).whole
 
 one_step : (p : Plan) → IsPlan p → (m : ℕ) (c : ChunkPos) → ((g : Group) → slice_get (groups_of p) m ≡ Some g → has_chunk (touched g) c ≡ false) → IsSameAt c (after p m) (after p (m + 1))
 one_step p is m c none = by (groups_of p) refl (cases_lt m (length (groups_of p))) where

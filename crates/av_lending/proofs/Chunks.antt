@@ -2,6 +2,7 @@
 use Rattle.std.proofs.Common.{◌≡◌, ℕ, not, filter, ◌<◌, ◌≤◌, ◌&&◌, ◌||◌, ◌∷◌, [], List, length, map, get_or, slice_get, Bool, true, false, cond, Option, Some, None, All, refl, sym, ap, subst, ◌∙◌, ◌⊎◌, inl, inr}
 use Rattle.std.proofs.lemmas.Bool.{true≢false, cases_lt}
 use Rattle.std.proofs.lemmas.List.Elements.{All-head, All-tail}
+use Rattle.std.proofs.lemmas.Option.{get_or_from_slice_get}
 use Rattle.av_types.specs.Places.{chunk_of, chunk_of_section, section_of, place_of, is_block_of}
 use Rattle.av_types.specs.declared.place.Pos.{Pos}
 use Rattle.av_types.specs.declared.place.ChunkPos.{ChunkPos}
@@ -62,23 +63,27 @@ kept p m old new c sections list was = record {
 
 -- ---- lending
 
+-- what stands at the number of a group is the group
+pub its_group : (gs : List Group) (i : ℕ) (g x : Group) → slice_get gs i ≡ Some g → x ≡ get_or gs i x → x ≡ g
+its_group gs i g x at found = found ∙ get_or_from_slice_get gs i g x at
+
 -- each chunk that the group touches is as its groups before it leave it, by where it stands among these
 abbrev pub IsNextIn : List ChunkPos → List (Option ℕ) → Group → Type 0
 IsNextIn ps stages g = All (λ t. stage_of ps stages t.chunk ≡ Some t.before) g.touches.items
 
 pub next_in : (p : Plan) → IsPlan p → (i : ℕ) (g : Group) → slice_get (groups_of p) i ≡ Some g → (stages : List (Option ℕ)) → IsNext stages g → IsNextIn (positions_of p.start.value) stages g
-next_in p is i g at stages next k d l = let t = get_or g.touches.items k d in ap (λ n. get_or stages n None) (slot_is p.start.value t.chunk t.index ((is.each i g at).placed k d l)) ∙ next k d l
+next_in p is i g at stages next k d l = let t = get_or g.touches.items k d in ap (λ n. get_or stages n None) (slot_is p.start.value t.chunk t.index ((is.groups.cut.each i g at).placed k d l)) ∙ next k d l
 
 module _ (p : Plan) (is : IsPlan p) (i : ℕ) (g : Group) (at : slice_get (groups_of p) i ≡ Some g) (old new lent : World) (stages : List (Option ℕ)) (way : IsUnderWay p old stages) (next : IsNextIn (positions_of p.start.value) stages g)
     (l : IsLent old new lent) (has : (c : ChunkPos) → has_chunk (positions_of lent) c ≡ has_chunk (touched g) c) where
   -- the group's chunks are as the groups before it leave them
   staged : (c : ChunkPos) → has_chunk (touched g) c ≡ true → IsAtStage p i old c
-  staged c h = by (touch_of (λ t. stage_of (positions_of p.start.value) stages t.chunk ≡ Some t.before) (λ t. (t.before ≤ i) × NoneTouches (groups_of p) t.before i t.chunk) g.touches.items c next (is.each i g at).behind h) where
+  staged c h = by (touch_of (λ t. stage_of (positions_of p.start.value) stages t.chunk ≡ Some t.before) (λ t. (t.before ≤ i) × NoneTouches (groups_of p) t.before i t.chunk) g.touches.items c next (is.groups.cut.each i g at).behind h) where
     by : (t : Touch) × (t.chunk ≡ c) × (stage_of (positions_of p.start.value) stages t.chunk ≡ Some t.before) × ((t.before ≤ i) × NoneTouches (groups_of p) t.before i t.chunk) → IsAtStage p i old c
     by (t, e, stage, (up, none)) = subst (IsAtStage p i old) e (later p is t.before i old t.chunk up none (way.known t.chunk t.before stage))
 
   there : (c : ChunkPos) → has_chunk (touched g) c ≡ true → has_chunk (positions_of p.start.value) c ≡ true
-  there c h = all_has (λ c. has_chunk (positions_of p.start.value) c ≡ true) (touched g) c (is.each i g at).there h
+  there c h = all_has (λ c. has_chunk (positions_of p.start.value) c ≡ true) (touched g) c (is.groups.cut.each i g at).there h
 
   lent_at : (q : Pos) → grid lent (section_of q) ≡ cond (has_chunk (touched g) (chunk_of q)) (grid old (section_of q)) None
   lent_at q = l.lent_grid (section_of q) ∙ ap (λ t. cond t (grid old (section_of q)) None) (has (chunk_of q))

@@ -1,12 +1,11 @@
 -- How a tick in groups begins, goes on and ends.
-use Rattle.std.proofs.Common.{◌≡◌, ℕ, zero, suc, ◌+◌, ◌<◌, ◌≤◌, ◌&&◌, ◌||◌, ◌∷◌, [], List, length, map, take, get_or, Bool, true, false, cond, Option, Some, None, All, refl, sym, ap, subst, ◌∙◌, arith, ◌⊎◌, inl, inr}
+use Rattle.std.proofs.Common.{◌≡◌, ℕ, zero, suc, ◌+◌, ◌<◌, ◌≤◌, ◌&&◌, ◌||◌, ◌∷◌, [], List, length, map, get_or, Bool, true, false, cond, Option, Some, None, All, refl, sym, ap, subst, ◌∙◌, arith, ◌⊎◌, inl, inr}
 use Rattle.std.proofs.lemmas.Bool.{true≢false, cases_lt, or_right}
 use Rattle.std.proofs.lemmas.Option.{slice_get-get_or}
 use Rattle.av_types.specs.Places.{chunk_of, chunk_of_section, section_of, place_of, is_block_of}
 use Rattle.av_types.specs.declared.place.Pos.{Pos}
 use Rattle.av_types.specs.declared.place.ChunkPos.{ChunkPos}
 use Rattle.av_types.specs.declared.place.SectionPos.{SectionPos}
-use Rattle.av_types.specs.declared.tick.Entry.{Entry}
 use Rattle.av_types.proofs.SamePlaces.{same_chunk_from}
 use Rattle.av_rules.specs.Kinds.{kind_count}
 use Rattle.av_cells.specs.Kinds.{kinds_of}
@@ -20,12 +19,12 @@ use Rattle.av_world.specs.Lands.{land_of}
 use Rattle.av_world.specs.Lending.{IsTakenBack}
 use Rattle.av_world.specs.Views.{grid, blocks, lists, height_of, positions_of}
 use Rattle.av_world.specs.declared.worlds.World.{World}
-use Rattle.av_groups.specs.Groups.{touched, NoneTouches, AreGroups}
+use Rattle.av_groups.specs.Groups.{touched, NoneTouches}
 use Rattle.av_groups.proofs.Added.{all_has}
 use Rattle.av_lending.specs.declared.plans.Plan.{Plan}
 use Rattle.av_lending.specs.Plans.{groups_of, kinds_in, start_of, after, stage_of, IsPlan, IsLentAfter, IsAtStage, IsUnderWay, IsFinished}
 use Rattle.av_lending.specs.Brought.{IsBringing}
-use Rattle.av_lending.proofs.After.{entries_of, loaded_after, height_after_all, chunks_after_all}
+use Rattle.av_lending.proofs.After.{first_of, loaded_after, height_after_all, chunks_after_all}
 use Rattle.av_lending.proofs.Chunks.{is_there, later, kept}
 use Rattle.av_lending.proofs.Stages.{some_past}
 
@@ -64,7 +63,7 @@ has_own (c ∷ ps) (suc k) d l = or_right (same_chunk c (get_or ps k d)) (has_ch
 
 module _ (p : Plan) (is : IsPlan p) (i : ℕ) (old new back : World) (stages : List (Option ℕ)) (way : IsUnderWay p old stages) (lent : IsLentAfter p i (i + 1) back) where
   there : (c : ChunkPos) → has_chunk (touched lent.group) c ≡ true → has_chunk (positions_of p.start.value) c ≡ true
-  there c h = all_has (λ c. has_chunk (positions_of p.start.value) c ≡ true) (touched lent.group) c (is.each i lent.group lent.is).there h
+  there c h = all_has (λ c. has_chunk (positions_of p.start.value) c ≡ true) (touched lent.group) c (is.groups.cut.each i lent.group lent.is).there h
 
   -- its chunks are chunks of the world
   pub back_there : All (λ c. slot (positions_of old) c < length (positions_of old)) (positions_of back)
@@ -122,7 +121,7 @@ stage_at [] i l = absurd (omega (arith, l))
 stage_at (m ∷ last) zero l = refl
 stage_at (m ∷ last) (suc i) l = stage_at last i (omega (arith, l))
 
-module _ (p : Plan) (is : IsPlan p) (w : World) (stages : List (Option ℕ)) (way : IsUnderWay p w stages) (es : List Entry) (last : List ℕ) (cut : AreGroups (start_of p) es (groups_of p) last) (all : stages ≡ map Some last) where
+module _ (p : Plan) (is : IsPlan p) (w : World) (stages : List (Option ℕ)) (way : IsUnderWay p w stages) (all : stages ≡ map Some p.groups.value.last.items) where
   n : ℕ
   n = length (groups_of p)
 
@@ -131,12 +130,13 @@ module _ (p : Plan) (is : IsPlan p) (w : World) (stages : List (Option ℕ)) (wa
     by : (t : Bool) → has_chunk (positions_of p.start.value) c ≡ t → IsAtStage p (length (groups_of p)) w c
     by true e =
         let ps = positions_of p.start.value in
-        let below : slot ps c < length last = subst (λ k. slot ps c < k) (sym cut.long) (is_there ps c e) in
+        let last = p.groups.value.last.items in
+        let below : slot ps c < length last = subst (λ k. slot ps c < k) (sym is.groups.cut.long) (is_there ps c e) in
         let m = get_or last (slot ps c) 0 in
-        let behind = cut.behind c m (slice_get-get_or last (slot ps c) 0 below) in later p is m (length (groups_of p)) w c (behind.0) (behind.1) (way.known c m (ap (λ xs. get_or xs (slot ps c) None) all ∙ stage_at last (slot ps c) below))
+        let behind = is.groups.cut.behind c m (slice_get-get_or last (slot ps c) 0 below) in later p is m (length (groups_of p)) w c (behind.0) (behind.1) (way.known c m (ap (λ xs. get_or xs (slot ps c) None) all ∙ stage_at last (slot ps c) below))
     by false e = later p is 0 (length (groups_of p)) w c (omega arith) untouched (way.absent c e) where
       untouched : NoneTouches (groups_of p) 0 (length (groups_of p)) c
-      untouched j g from to at = off (has_chunk (touched g) c) (λ h. all_has (λ c. has_chunk (positions_of p.start.value) c ≡ true) (touched g) c (is.each j g at).there h) where
+      untouched j g from to at = off (has_chunk (touched g) c) (λ h. all_has (λ c. has_chunk (positions_of p.start.value) c ≡ true) (touched g) c (is.groups.cut.each j g at).there h) where
         off : (t : Bool) → (t ≡ true → has_chunk (positions_of p.start.value) c ≡ true) → t ≡ false
         off true h = absurd (true≢false (sym (h refl) ∙ e))
         off false h = refl
@@ -147,8 +147,8 @@ module _ (p : Plan) (is : IsPlan p) (w : World) (stages : List (Option ℕ)) (wa
   pub finished : IsFinished p w
   finished = record {
     land_is = λ j. record {
-      height = (way.height_is ∙ sym (height_after_all (kinds_of (kinds_in p)) p.tick (entries_of (take (length (groups_of p)) (groups_of p))) (without_due p.tick (start_of p)))) j;
-      chunks = (way.positions_are ∙ sym (chunks_after_all (kinds_of (kinds_in p)) p.tick (entries_of (take (length (groups_of p)) (groups_of p))) (without_due p.tick (start_of p)))) j;
+      height = (way.height_is ∙ sym (height_after_all (kinds_of (kinds_in p)) p.tick (first_of p (length (groups_of p))) (without_due p.tick (start_of p)))) j;
+      chunks = (way.positions_are ∙ sym (chunks_after_all (kinds_of (kinds_in p)) p.tick (first_of p (length (groups_of p))) (without_due p.tick (start_of p)))) j;
       at = λ q. (at_end (chunk_of q)).at q refl j;
       lists = λ c. (at_end c).list j;
     };

@@ -3,3 +3,4 @@ pub mod After
 pub mod Turning
 pub mod Chunks
 pub mod Ends
+pub mod Planned

@@ -15,13 +15,19 @@ use Rattle.av_world.specs.Lands.{land_of}
 use Rattle.av_world.specs.Views.{blocks, height_of, positions_of, is_broken}
 use Rattle.av_world.specs.declared.worlds.World.{World}
 use Rattle.av_serial.specs.Ready.{IsReady, IsSamePlace}
+use Rattle.av_types.specs.declared.tick.Entry.{Entry}
 use Rattle.av_groups.specs.declared.groups.Group.{Group}
-use Rattle.av_groups.specs.Groups.{touched, IsGroup}
+use Rattle.av_groups.specs.declared.groups.Groups.{Groups}
+use Rattle.av_groups.specs.Groups.{entries_in, touched, AreGroups}
 use Rattle.av_groups.specs.Parts.{IsPart}
 use Rattle.av_lending.specs.declared.plans.Plan.{Plan}
 
 abbrev pub groups_of : Plan → List Group
-groups_of p = p.groups.value.items
+groups_of p = p.groups.value.groups.items
+
+-- all entries of the tick
+abbrev pub entries_of : Plan → List Entry
+entries_of p = p.groups.value.entries.items
 
 abbrev pub kinds_in : Plan → Kinds
 kinds_in p = p.kinds.value
@@ -32,17 +38,17 @@ start_of p = land_of p.start.value
 
 -- the land after what is due left its lists, and the first m groups were turned
 abbrev pub after : Plan → ℕ → Land ℕ
-after p m = turned_all (kinds_of (kinds_in p)) p.tick (flat_map (λ g. g.entries.items) (take m (groups_of p))) (without_due p.tick (start_of p))
+after p m = turned_all (kinds_of (kinds_in p)) p.tick (flat_map (entries_in (entries_of p)) (take m (groups_of p))) (without_due p.tick (start_of p))
 
--- the world is ready, and each group is one
+-- the world is ready, and the groups are those of a tick's entries
 pub record IsPlan (p : Plan) : Type 0 where
   pub ready : IsReady (kind_count (kinds_in p)) p.start.value
-  pub each : (i : ℕ) (g : Group) → slice_get (groups_of p) i ≡ Some g → IsGroup (start_of p) (groups_of p) i g
+  pub groups : AreGroups (start_of p) p.groups.value
 
 -- the plan is one of these kinds and groups
-pub record IsPlanOf (p : Plan) (k : Kinds) (gs : List Group) : Type 0 where
+pub record IsPlanOf (p : Plan) (k : Kinds) (gs : Groups) : Type 0 where
   pub kinds_are : k ≡ kinds_in p
-  pub groups_are : gs ≡ groups_of p
+  pub groups_are : gs ≡ p.groups.value
   pub is_plan : IsPlan p
 
 -- The world u has of the chunks that group i touches what the land has after the first m groups, and no other chunk. Entries that are

@@ -1,11 +1,9 @@
 //! What of a tick's world is lent, and taking it back.
 ghost use Rattle.std.specs.Prelude.{◌≡◌, ◌<◌, ℕ, ◌+◌, ◌++◌, ◌∷◌, [], true, List, Option, Some, IfOk, OnOk, IfNone, IfSome, All, length, map, slice_get};
-ghost use Rattle.av_world.specs.Lands.{land_of};
 ghost use Rattle.av_world.specs.Views.{positions_of};
 ghost use Rattle.av_types.specs.declared.place.ChunkPos.{ChunkPos};
-ghost use Rattle.av_types.specs.declared.tick.Entry.{Entry};
 ghost use Rattle.av_world.specs.declared.worlds.World.{World};
-ghost use Rattle.av_groups.specs.Groups.{AreGroups, IsPlaced};
+ghost use Rattle.av_groups.specs.Groups.{IsPlaced};
 ghost use Rattle.av_groups.specs.declared.groups.Group.{Group};
 ghost use Rattle.av_lending.specs.Plans.{IsPlanOf, IsLentAfter, IsUnderWay, IsFinished, IsPlan};
 ghost use Rattle.av_lending.specs.Brought.{IsReadyAt, IsNext, IsBringing, AreBrought};
@@ -158,7 +156,7 @@ impl Lender {
         alloc: Global,
         plan: &Plan,
         world: &World,
-        groups: &[Group],
+        groups: &Groups,
         room: usize,
     ) -> Result<Self, AllocError>
         requires start { plan.now.start.value ≡ world.now }
@@ -166,10 +164,11 @@ impl Lender {
         ensures { IfOk result (IsUnderWay plan.now world.now) }
     {
         let chunks = world.positions().len();
+        let groups = groups.groups.len();
         Ok(Lender {
             stages: unturned(alloc, chunks)?,
-            waiting: Waiting::new(alloc, chunks, groups.len())?,
-            left: groups.len(),
+            waiting: Waiting::new(alloc, chunks, groups)?,
+            left: groups,
             room,
         })
     }
@@ -181,17 +180,17 @@ impl Lender {
         plan: &Plan,
         world: &mut World,
         kinds: &Kinds,
-        groups: &[Group],
+        groups: &Groups,
         number: usize,
     ) -> Result<Lent, AllocError>
         requires plan { IsPlanOf plan.now kinds.now groups.now }
         requires under_way { IsUnderWay plan.now world.old self.old }
-        requires next { (group : Group) × (slice_get groups.now number ≡ Some group)
+        requires next { (group : Group) × (slice_get groups.now.groups.items number ≡ Some group)
             × IsNext self.old group }
         ensures under_way { OnOk result (IsUnderWay plan.now world.new self.new) }
         ensures lent { IfOk result (λ lent. IsLentAfter plan.now lent.number lent.number lent.world) }
     {
-        let touches = groups[number].touches.as_slice();
+        let touches = groups.groups[number].touches.as_slice();
         let chunks = chunks_of(alloc, touches)?;
         let lent = world.lend(chunks.as_slice())?;
         bring(&mut self.stages, touches, None);
@@ -213,7 +212,7 @@ impl Lender {
         plan: &Plan,
         world: &mut World,
         kinds: &Kinds,
-        groups: &[Group],
+        groups: &Groups,
     ) -> Result<Option<Lent>, AllocError>
         requires plan { IsPlanOf plan.now kinds.now groups.now }
         requires under_way { IsUnderWay plan.now world.old self.old }
@@ -224,7 +223,8 @@ impl Lender {
         if self.room == 0 {
             return Ok(None);
         }
-        match find(self.stages.as_slice(), &mut self.waiting, groups) {
+        let all = groups.groups.as_slice();
+        match find(self.stages.as_slice(), &mut self.waiting, all) {
             Some(number) => {
                 let lent = self.lend_group(alloc, plan, world, kinds, groups, number)?;
                 Ok(Some(lent))
@@ -239,7 +239,7 @@ impl Lender {
         plan: &Plan,
         world: &mut World,
         kinds: &Kinds,
-        groups: &[Group],
+        groups: &Groups,
         number: usize,
         back: World,
     )
@@ -248,7 +248,7 @@ impl Lender {
         requires turned { IsLentAfter plan.now number (number + 1) back }
         ensures { IsUnderWay plan.now world.new self.new }
     {
-        let touches = groups[number].touches.as_slice();
+        let touches = groups.groups[number].touches.as_slice();
         let stage = Some(number + 1);
         world.take_back(back);
         bring(&mut self.stages, touches, stage);
@@ -259,9 +259,7 @@ impl Lender {
 
     /// Whether all groups are taken back.
     pub fn is_done(&self, plan: &Plan, world: &World, kinds: &Kinds, groups: &Groups) -> bool
-        requires plan { IsPlanOf plan.now kinds.now groups.now.groups.items }
-        requires groups { (entries : List Entry) × AreGroups (land_of plan.now.start.value) entries
-            groups.now.groups.items groups.now.last.items }
+        requires plan { IsPlanOf plan.now kinds.now groups.now }
         requires under_way { IsUnderWay plan.now world.now self.now }
         ensures { result ≡ true → IsFinished plan.now world.now }
     {

@@ -17,12 +17,11 @@ pub(crate) fn serve<R: Wait>(rt: &R, desk: &Desk, mut passes: Passes, kinds: &Ki
     requires passes { ArePassesOf desk.now passes }
 {
     let alloc = *desk.groups.groups.allocator();
-    let groups = desk.groups.groups.as_slice();
     for _ in rt.forever() {
         tend(rt, alloc, desk, &mut passes, kinds);
         match desk.works.take(rt, &mut passes.works) {
             Some(Work::Turn(lent)) => {
-                let turned = turn_lent(&desk.plan, kinds, groups, lent);
+                let turned = turn_lent(&desk.plan, kinds, &desk.groups, lent);
                 put_in(rt, &desk.backs, &mut passes.backs, turned);
             }
             Some(Work::End) => break,

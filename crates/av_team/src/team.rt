@@ -1,7 +1,6 @@
 //! A tick's entries turned in groups.
-ghost use Rattle.std.specs.Prelude.{◌≡◌, true, List, IfOk, OnOk};
+ghost use Rattle.std.specs.Prelude.{◌≡◌, true, IfOk, OnOk};
 ghost use Rattle.std.specs.List.{list_all};
-ghost use Rattle.av_types.specs.declared.tick.Entry.{Entry};
 ghost use Rattle.av_rules.specs.Kinds.{kind_count};
 ghost use Rattle.av_cells.specs.Kinds.{kinds_of};
 ghost use Rattle.av_land.specs.Tick.{turned_all, without_due};
@@ -104,18 +103,6 @@ fn finish<R: Wait>(
     }
 }
 
-/// The entries of a tick in groups. They are no more once their copies stand in the groups: both are as large as a tick is.
-///
-/// # Errors
-/// Where memory is refused.
-fn cut_up(alloc: Global, world: &World, entries: Vec<Entry>) -> Result<Groups, AllocError>
-    requires { list_all (λ e. (blocks world.now).loaded e.pos) entries.items ≡ true }
-    ensures { IfOk result (λ groups. AreGroups (land_of world.now) entries.items
-        groups.groups.items groups.last.items) }
-{
-    cut(alloc, world, entries.as_slice())
-}
-
 /// What the threads of a tick share, the passes of the first of them, and one more of the keeper's line.
 type Opened = (Desk, Passes, LinePass<Keeper, Plan>);
 
@@ -133,8 +120,7 @@ fn open_desk<R: Wait>(
     threads: usize,
 ) -> Result<Opened, AllocError>
     requires ready { IsReady (kind_count kinds.now) world.now }
-    requires groups { (entries : List Entry) × AreGroups (land_of world.now) entries
-        groups.groups.items groups.last.items }
+    requires groups { AreGroups (land_of world.now) groups }
     ensures desk { IfOk result (λ opened. IsDeskOf opened.0 kinds.now) }
     ensures passes { IfOk result (λ opened. ArePassesOf opened.0 opened.1) }
     ensures last { IfOk result (λ opened. IsPassOf opened.0.keepers opened.0.plan opened.2) }
@@ -143,12 +129,12 @@ fn open_desk<R: Wait>(
     ensures groups { IfOk result (λ opened. opened.0.groups ≡ groups) }
 {
     let room = groups.groups.len().saturating_add(threads);
-    let plan = Plan::new(now, kinds, world, &groups.groups);
-    let works_plan = Plan::new(now, kinds, world, &groups.groups);
+    let plan = Plan::new(now, kinds, world, &groups);
+    let works_plan = Plan::new(now, kinds, world, &groups);
     let (works, works_pass) = Line::open(rt, alloc, works_plan, room)?;
-    let backs_plan = Plan::new(now, kinds, world, &groups.groups);
+    let backs_plan = Plan::new(now, kinds, world, &groups);
     let (backs, backs_pass) = Line::open(rt, alloc, backs_plan, room)?;
-    let keepers_plan = Plan::new(now, kinds, world, &groups.groups);
+    let keepers_plan = Plan::new(now, kinds, world, &groups);
     let (keepers, mut keepers_pass) = Line::open(rt, alloc, keepers_plan, 1)?;
     let last_pass = keepers.another(&mut keepers_pass);
     let passes = Passes {
@@ -189,12 +175,11 @@ pub fn turn_in_groups<R: Threads + Wait + Sync>(
     ensures ready { OnOk result (IsReady (kind_count kinds.now) world.new) }
     ensures place { OnOk result (IsSamePlace world.old world.new) }
 {
-    let groups = cut_up(alloc, world, entries)?;
+    let groups = cut(alloc, world, entries)?;
     let threads = workers.min(groups.groups.len()).max(1);
     let (desk, passes, last_pass) = open_desk(rt, alloc, world, kinds, now, groups, threads)?;
     let ahead = threads.saturating_mul(AHEAD);
-    let cut = desk.groups.groups.as_slice();
-    let lender = Lender::new(alloc, &desk.plan, world, cut, ahead)?;
+    let lender = Lender::new(alloc, &desk.plan, world, &desk.groups, ahead)?;
     let height = world.height();
     let keeper = Keeper {
         lender,

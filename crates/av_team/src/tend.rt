@@ -31,10 +31,10 @@ fn take_back(
     let Ok(back) = back else {
         return Err(AllocError);
     };
-    let groups = desk.groups.groups.as_slice();
+    let world = &mut keeper.world;
     keeper
         .lender
-        .take_back(&desk.plan, &mut keeper.world, kinds, groups, number, back);
+        .take_back(&desk.plan, world, kinds, &desk.groups, number, back);
     Ok(())
 }
 
@@ -76,11 +76,10 @@ fn hand_out<R: Wait>(
     ensures passes { passes.new ≡ passes.old }
     ensures keeper { OnOk result (IsKeeperOf desk.now.plan keeper.new) }
 {
-    let groups = desk.groups.groups.as_slice();
     for _ in rt.forever() {
         let lent = keeper
             .lender
-            .lend(alloc, &desk.plan, &mut keeper.world, kinds, groups)?;
+            .lend(alloc, &desk.plan, &mut keeper.world, kinds, &desk.groups)?;
         let Some(lent) = lent else {
             break;
         };

@@ -1,7 +1,8 @@
 use Rattle.std.proofs.Common.{◌∙◌, sym, ap}
 use Rattle.av_line.specs.Shown.{PassShown}
 use Rattle.av_lending.specs.declared.plans.Plan.{Plan}
-use Rattle.av_team.proofs.Same.{desk_of, pass_of}
+use Rattle.av_lending.proofs.Planned.{plan_of}
+use Rattle.av_team.proofs.Same.{pass_of}
 use Rattle.av_team.proofs.team.open_desk.Goals as goal
 
 pub returns-clause-passes : goal.returns-clause-passes
@@ -15,7 +16,7 @@ returns-clause-passes g c = record {
 }
 
 pub returns-clause-desk : goal.returns-clause-desk
-returns-clause-desk g c = desk_of _ c.args.kinds.now c.args.world.now c.requires.groups.0 c.new-plan.ensures.kinds c.new-plan.ensures.start c.new-plan.ensures.groups c.requires.ready c.requires.groups.1
+returns-clause-desk g c = plan_of c.new-plan.result c.args.kinds.now c.args.groups c.args.world.now c.new-plan.ensures.kinds c.new-plan.ensures.start c.new-plan.ensures.groups c.requires.groups c.requires.ready
 
 pub returns-clause-last : goal.returns-clause-last
 returns-clause-last g c =
