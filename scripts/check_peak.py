@@ -1,8 +1,9 @@
 #!/usr/bin/env python3
 """Runs a region of 64 places that name one payload, whose document takes some sixty times its bytes, and looks at how much memory
-the program has at its peak: payloads that are read ahead of their places are few.
+the program has at its peak: payloads that are read ahead of their places are few. And ticks of lakes on one worker and on eight: eight
+take little more memory.
 
-    scripts/check_peak.py PROGRAM           as crates/av_main/out/av_main
+    scripts/check_peak.py PROGRAM BENCH     as crates/av_main/out/av_main and crates/av_bench/out/av_bench
 
 The payload is one List of Lists of 65 Bytes, and a status that is not full: so each place of it is kept as it is, and no chunk is
 loaded. Behind a first chunk of more states than each table begins with, some payloads are read together. Where the location of the
@@ -19,6 +20,8 @@ import written_regions
 from flat_runs import chunk, said
 
 MOST = 100 * 10**6
+# How many times the memory of one worker eight may take, and how often each is asked: the median counts.
+MOST_OF_ONE, TIMES = 1.1, 3
 SIZE = 253_849
 TABLE = "version = 1\n"
 
@@ -70,8 +73,18 @@ def ask(program, work, data):
     return (*told, os.waitstatus_to_exitcode(status)), 1024 * usage.ru_maxrss
 
 
+def lakes_peak(bench, workers):
+    """The peak of memory of ticks in which 200 lakes of 15 by 15 sources spread, in bytes, and whether they ended well."""
+    peaks = []
+    for _ in range(TIMES):
+        process = subprocess.Popen([bench, "tick", "15", "100", str(workers)], stdout=subprocess.DEVNULL)
+        _, status, usage = os.wait4(process.pid, 0)
+        peaks.append((status != 0, 1024 * usage.ru_maxrss))
+    return sorted(peaks)[TIMES // 2]
+
+
 def main():
-    program = os.path.abspath(sys.argv[1])
+    program, bench = map(os.path.abspath, sys.argv[1:])
     payload = list_of_lists((SIZE - 29) // 70)
     # A location within the header is refused. It is that of the first place, or none is.
     cases = (("all places", region(payload), ("chunks 0 turns 0", "", 0)),
@@ -84,7 +97,11 @@ def main():
             if told != answer or peak > MOST:
                 wrong += 1
                 print("%s: %s, %d MB at the peak" % (name, told, peak // 10**6))
-    print("%d asked of peaks, %d wrong" % (len(cases), wrong))
+    (one_failed, one), (eight_failed, eight) = lakes_peak(bench, 1), lakes_peak(bench, 8)
+    if one_failed or eight_failed or eight > MOST_OF_ONE * one:
+        wrong += 1
+        print("lakes: %d MB at the peak with one worker, %d MB with eight" % (one // 10**6, eight // 10**6))
+    print("%d asked of peaks, %d wrong" % (len(cases) + 1, wrong))
     sys.exit(wrong > 0)
 
 
