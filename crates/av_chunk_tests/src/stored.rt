@@ -3,8 +3,8 @@ ghost use Rattle.std.specs.Prelude.{length};
 ghost use Rattle.av_state.specs.Table.{states};
 ghost use Rattle.av_section.specs.Section.{HasNumbersBelow};
 
-use crate::expecting::{expect_equal, expect_true};
-use av_section::Section;
+use crate::expecting::expect_equal;
+use av_section::{KnownStates, Section};
 use av_state::StateTable;
 use av_tags::{Named, Tag, TagType};
 use av_types::{Fault, Place};
@@ -258,22 +258,31 @@ pub(crate) fn two_longs(alloc: Global) -> Result<Vec<i64>, Fault> {
     Ok(packed)
 }
 
-/// A table that knows a palette's states reads its sections as before and stays as it is. One that lacks a state reads none.
+/// A section, read by the states that a table knows.
+fn read_by_known(
+    alloc: Global,
+    palette: &Tag,
+    longs: Option<&Tag>,
+    table: &StateTable,
+) -> Result<Section, Fault> {
+    Section::read(alloc, Some(palette), longs, &mut KnownStates { table })
+}
+
+/// A table that knows a palette's states reads its sections as before and stays as it is. One that lacks a state takes none.
 #[test]
 fn known_states_are_read_by_their_numbers(rt: HostRuntime) -> Result<(), Fail> {
     let mut table = StateTable::new(rt.alloc())?;
     let (palette, longs) = (palette(rt.alloc(), 17)?, two_longs(rt.alloc())?);
     let longs = Tag::long_array(longs);
-    let unknown = Section::read_known(rt.alloc(), Some(&palette), Some(&longs), &table)?;
-    expect_true(&rt, unknown.is_none());
+    let unknown = read_by_known(rt.alloc(), &palette, Some(&longs), &table);
+    expect_equal(&rt, unknown.err(), Some(Fault::TooManyStates));
     let _first = Section::read(rt.alloc(), Some(&palette), Some(&longs), &mut table)?;
-    let known = Section::read_known(rt.alloc(), Some(&palette), Some(&longs), &table)?;
-    let section = known.ok_or(Fault::BadPalette)?;
+    let section = read_by_known(rt.alloc(), &palette, Some(&longs), &table)?;
     expect_sizes(&rt, &section, (17, 342, 5));
     for (place, number) in [(12, 22), (4092, 22), (4095, 25)] {
         expect_number(&rt, &section, place, number);
     }
-    let short = Section::read_known(rt.alloc(), Some(&palette), None, &table);
+    let short = read_by_known(rt.alloc(), &palette, None, &table);
     expect_equal(&rt, short.err(), Some(Fault::BadPacked));
     Ok(())
 }

@@ -156,7 +156,7 @@ HoldSections-part : (h : Height) (old new : List BlockState) (rows : List (List 
 HoldSections-part h old new rows ms (Inside y s kept) r u g p new_number placed held = HoldSections-inside h old new rows ms y s kept r u g p (new_number y p.number) placed held
 HoldSections-part h old new rows ms (Outside o) r u g p new_number placed held = HoldSections-outside h old new rows ms o r u g p placed held
 
-pub AreFound-part : (h : Height) (rows : List (List NamedTag)) (ms : List NamedTag) (start old new : List BlockState) (part : Part) (r u : Sections)
+AreFound-part : (h : Height) (rows : List (List NamedTag)) (ms : List NamedTag) (start old new : List BlockState) (part : Part) (r u : Sections)
     → OnlyGrows old new → IsSectionRead h ms old new part → HasNewNumber rows ms → IsPartPlaced h part r u → AreFound h rows start old r → AreFound h (rows ++ ms ∷ []) start new u
 AreFound-part h rows ms start old new part r u g read new_number placed before = record {
   no_fault = flat_map-append (section_faults h) rows (ms ∷ []) ∙ rw (before.no_fault, read.no_fault) refl;
@@ -164,20 +164,22 @@ AreFound-part h rows ms start old new part r u g read new_number placed before =
   held = HoldSections-part h old new rows ms part r u g read.is_part new_number placed before.held;
 }
 
-pub AreJudged-part : (h : Height) (rows : List (List NamedTag)) (ms : List NamedTag) (start old new : List BlockState) (part : Part) (r u : Sections) (refused : Option Fault)
-    → OnlyGrows old new → IsSectionRead h ms old new part → HasNewNumber rows ms → IsPartPlaced h part r u → AreJudged h rows start old r refused → AreJudged h (rows ++ ms ∷ []) start new u refused
-AreJudged-part h rows ms start old new part r u None g read new_number placed before = AreFound-part h rows ms start old new part r u g read new_number placed before
-AreJudged-part h rows ms start old new part r u (Some e) g read new_number placed before = λ ne. record { first = first_kept h rows ms start (fault_number e) (before ne).first read.no_fault }
+pub AreJudged-part : (takes : Bool) (h : Height) (rows : List (List NamedTag)) (ms : List NamedTag) (start old new : List BlockState) (part : Part) (r u : Sections) (refused : Option Fault)
+    → OnlyGrows old new → IsSectionRead h ms old new part → HasNewNumber rows ms → IsPartPlaced h part r u → AreJudged takes h rows start old r refused
+    → AreJudged takes h (rows ++ ms ∷ []) start new u refused
+AreJudged-part takes h rows ms start old new part r u None g read new_number placed before = AreFound-part h rows ms start old new part r u g read new_number placed before
+AreJudged-part takes h rows ms start old new part r u (Some e) g read new_number placed before =
+    λ t ne. record { first = first_kept h rows ms start (fault_number e) (before t ne).first read.no_fault }
 
-pub AreJudged-refused : (h : Height) (rows : List (List NamedTag)) (ms : List NamedTag) (start old new : List BlockState) (r u : Sections) (refused : Option Fault) (e f : Fault)
-    → IsSectionRefused h ms old e → fault_number f ≡ lesser (fault_number e) (option_map fault_number refused) → AreJudged h rows start old r refused
-    → AreJudged h (rows ++ ms ∷ []) start new u (Some f)
-AreJudged-refused h rows ms start old new r u None e f bad n before =
-    λ nf. record { first = first_of h rows ms start (fault_number f) before.no_fault (rw (← before.states, n) (bad.first (memory_first e f None n nf))) }
-AreJudged-refused h rows ms start old new r u (Some d) e f bad n before =
-    λ nf.
-    let early = before (memory_before e d f n nf) in
-    let first = first_lesser h rows ms start old (fault_number d) (fault_number e) early.first (bad.first (memory_first e f (Some (fault_number d)) n nf)) in
+pub AreJudged-refused : (takes : Bool) (h : Height) (rows : List (List NamedTag)) (ms : List NamedTag) (start old new : List BlockState) (r u : Sections) (refused : Option Fault) (e f : Fault)
+    → (takes ≡ true → IsSectionRefused h ms old e) → fault_number f ≡ lesser (fault_number e) (option_map fault_number refused) → AreJudged takes h rows start old r refused
+    → AreJudged takes h (rows ++ ms ∷ []) start new u (Some f)
+AreJudged-refused takes h rows ms start old new r u None e f bad n before =
+    λ t nf. record { first = first_of h rows ms start (fault_number f) before.no_fault (rw (← before.states, n) ((bad t).first (memory_first e f None n nf))) }
+AreJudged-refused takes h rows ms start old new r u (Some d) e f bad n before =
+    λ t nf.
+    let early = before t (memory_before e d f n nf) in
+    let first = first_lesser h rows ms start old (fault_number d) (fault_number e) early.first ((bad t).first (memory_first e f (Some (fault_number d)) n nf)) in
     record { first = first ∙ ap Some (sym n) }
 
 -- ---- none before the first, and air where there is none after the last
@@ -255,6 +257,3 @@ kept_counts h (Outside o) r u p l = ap length p.1 ∙ l
 pub part_fits : (h : Height) (table : List BlockState) (ms : List NamedTag) (part : Part) → IsPart h table ms part → FitsHeight h part
 part_fits h table ms (Inside y s kept) p = p.within
 part_fits h table ms (Outside o) p = tt
-
-pub OnlyGrows-same : (table : List BlockState) → OnlyGrows table table
-OnlyGrows-same table = record { more = []; grown = sym (append-nil table) }

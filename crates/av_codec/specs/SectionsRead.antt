@@ -144,7 +144,7 @@ pub record AreSectionsRead (h : Height) (rows : List (List NamedTag)) (old new :
 pub record AreRefusedBy (h : Height) (rows : List (List NamedTag)) (old : List BlockState) (e : Fault) : Type 0 where
   pub first : judged (flat_map (section_faults h) rows) old (flat_map (section_states h) rows) ≡ Some (fault_number e)
 
--- after some sections: read, or the first fault of them so far
-abbrev pub AreJudged : Height → List (List NamedTag) → List BlockState → List BlockState → Sections → Option Fault → Type 0
-AreJudged h rows old new r None = AreFound h rows old new r
-AreJudged h rows old new r (Some e) = e ≢ OutOfMemory → AreRefusedBy h rows old e
+-- after some sections: read, or the first fault of them so far, where new states are taken
+abbrev pub AreJudged : Bool → Height → List (List NamedTag) → List BlockState → List BlockState → Sections → Option Fault → Type 0
+AreJudged takes h rows old new r None = AreFound h rows old new r
+AreJudged takes h rows old new r (Some e) = takes ≡ true → e ≢ OutOfMemory → AreRefusedBy h rows old e

@@ -1,5 +1,5 @@
 //! A chunk, read from its document.
-ghost use Rattle.std.specs.Prelude.{◌≡◌, IfOk, IfErr, false, option_map};
+ghost use Rattle.std.specs.Prelude.{◌≡◌, IfOk, IfErr, IfSome, true, false, option_map};
 ghost use Rattle.av_types.specs.declared.fault.Fault.TheVariants.{OutOfMemory};
 ghost use Rattle.av_tags.specs.Shape.{compounds_of};
 ghost use Rattle.av_tags.specs.View.{document, view, views};
@@ -14,7 +14,6 @@ ghost use Rattle.av_document.specs.Stored.{IsStored};
 ghost use Rattle.av_chunk.specs.Reading.{IsReading, IsChunkRefusal, IsAdmitted};
 
 pub(crate) mod faults;
-pub mod known;
 pub(crate) mod loaded;
 mod pending;
 pub(crate) mod sections;
@@ -28,11 +27,11 @@ use crate::reading::sections::{Sections, emptied, read_sections};
 use crate::reading::shape::admitted;
 use crate::reading::water::{Ticks, read_ticks};
 use av_chunk::Reading;
+use av_section::{KnownStates, Numbering};
 use av_state::StateTable;
 use av_tags::{Root, Tag};
 use av_types::{ChunkPos, Fault, Height};
-pub use known::read_known;
-use std::alloc::Global;
+use std::alloc::{AllocError, Global};
 
 /// The tags of a List, none where there is no tag.
 pub(crate) fn items(alloc: Global, list: Option<Tag>) -> Vec<Tag>
@@ -48,35 +47,75 @@ pub(crate) fn items(alloc: Global, list: Option<Tag>) -> Vec<Tag>
 }
 
 /// The sections and the scheduled ticks of a chunk. Of several faults the first is answered.
-fn read_parts(
+fn read_parts<N: Numbering>(
     alloc: Global,
     sections: Vec<Tag>,
     ticks: Vec<Tag>,
     place: ChunkPos,
     height: Height,
-    table: &mut StateTable,
+    numbering: &mut N,
 ) -> Result<(Sections, Ticks), Fault>
     requires numbers { has_bad_number height (views sections.items) ≡ false }
     requires apart { share_a_number (opened (views sections.items)) ≡ false }
     requires compounds { has_other (views ticks.items) ≡ false }
     ensures sections { IfOk result (λ parts. AreSectionsRead height (opened (views sections.items))
-        (states table.old) (states table.new) parts.0) }
+        (states (N.table numbering.old)) (states (N.table numbering.new)) parts.0) }
     ensures ticks { IfOk result (λ parts. AreTicks place height
         (opened (views ticks.items)) parts.1) }
-    ensures err { IfErr result (ArePartsRefused place height (opened (views sections.items))
-        (opened (views ticks.items)) (states table.old)) }
-    ensures table { OnlyGrows (states table.old) (states table.new) }
+    ensures err { IfErr result (λ e. N.takes ≡ true → ArePartsRefused place height
+        (opened (views sections.items)) (opened (views ticks.items))
+        (states (N.table numbering.old)) e) }
+    ensures table { OnlyGrows (states (N.table numbering.old)) (states (N.table numbering.new)) }
+    ensures same { N.takes ≡ false
+        → states (N.table numbering.new) ≡ states (N.table numbering.old) }
 {
     match read_ticks(alloc, ticks, place, height) {
         Ok(ticks) => {
-            let sections = read_sections(alloc, sections, height, table)?;
+            let sections = read_sections(alloc, sections, height, numbering)?;
             Ok((sections, ticks))
         }
-        Err(bad) => match read_sections(alloc, sections, height, table) {
+        Err(bad) => match read_sections(alloc, sections, height, numbering) {
             Ok(_) => Err(bad),
             Err(fault) => Err(lesser(Some(bad), fault)),
         },
     }
+}
+
+/// The chunk of a document at its place, whose states have the numbers that are given them.
+fn chunk_by<N: Numbering>(
+    alloc: Global,
+    root: Root,
+    place: ChunkPos,
+    height: Height,
+    numbering: &mut N,
+) -> Result<Reading, Fault>
+    requires { IsStored (document root) }
+    ensures ok { IfOk result (IsReading place height (document root)
+        (states (N.table numbering.old)) (states (N.table numbering.new))) }
+    ensures err { IfErr result (λ e. N.takes ≡ true → IsChunkRefusal place height (document root)
+        (states (N.table numbering.old)) e) }
+    ensures memory { IfErr result (λ e. e ≡ OutOfMemory
+        → IsAdmitted height place (root_tags (document root))) }
+    ensures table { OnlyGrows (states (N.table numbering.old))
+        (states (N.table numbering.new)) }
+    ensures same { N.takes ≡ false
+        → states (N.table numbering.new) ≡ states (N.table numbering.old) }
+{
+    let Root { name, mut tags } = root;
+    if !admitted(&tags, place, height)? {
+        return Ok(Reading::Kept);
+    }
+    let sections = emptied(alloc, &mut tags, b"sections")?;
+    let ticks = emptied(alloc, &mut tags, b"fluid_ticks")?;
+    let (read, ticks) = read_parts(
+        alloc,
+        items(alloc, sections),
+        items(alloc, ticks),
+        place,
+        height,
+        numbering,
+    )?;
+    Ok(assembled(name, tags, read, ticks, place, height))
 }
 
 /// The chunk of a document at its place. New states are numbered after those of the table, in the order of the file.
@@ -103,19 +142,26 @@ pub fn read_chunk(
         → IsAdmitted height place (root_tags (document root))) }
     ensures table { OnlyGrows (states table.old) (states table.new) }
 {
-    let Root { name, mut tags } = root;
-    if !admitted(&tags, place, height)? {
-        return Ok(Reading::Kept);
+    chunk_by(alloc, root, place, height, table)
+}
+
+/// What `read_chunk` reads of the same, where the table knows all states of the chunk: nearly all, after the first chunks of a
+/// world. The table does not change, so several readers can share it. None where the chunk has a state that the table lacks, or
+/// where it is refused: `read_chunk` tells which.
+pub fn read_known(
+    alloc: Global,
+    root: Root,
+    place: ChunkPos,
+    height: Height,
+    table: &StateTable,
+) -> Result<Option<Reading>, AllocError>
+    requires { IsStored (document root) }
+    ensures { IfOk result (λ found. IfSome found
+        (IsReading place height (document root) (states table.now) (states table.now))) }
+{
+    match chunk_by(alloc, root, place, height, &mut KnownStates { table }) {
+        Ok(read) => Ok(Some(read)),
+        Err(Fault::OutOfMemory) => Err(AllocError),
+        Err(_) => Ok(None),
     }
-    let sections = emptied(alloc, &mut tags, b"sections")?;
-    let ticks = emptied(alloc, &mut tags, b"fluid_ticks")?;
-    let (read, ticks) = read_parts(
-        alloc,
-        items(alloc, sections),
-        items(alloc, ticks),
-        place,
-        height,
-        table,
-    )?;
-    Ok(assembled(name, tags, read, ticks, place, height))
 }

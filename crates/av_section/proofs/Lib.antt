@@ -13,5 +13,5 @@ pub mod WrittenOne
 pub mod FirstUse
 pub mod Rising
 pub mod Placing
-pub mod KnownStates
+pub mod KnownEntries
 pub mod KnownRead

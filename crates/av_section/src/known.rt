@@ -15,6 +15,12 @@ use av_state::{PropertyText, StateTable};
 use av_tags::{Named, Tag, find};
 use std::alloc::{AllocError, Global};
 
+/// The states that a table knows. Palettes are read by it where several threads share the table, which stays as it is.
+#[derive(Drop)]
+pub struct KnownStates<'a> {
+    pub table: &'a StateTable,
+}
+
 /// The texts of a property's tag.
 fn property_text(named: &Named) -> Option<PropertyText<'_>>
     ensures { option_map property_told result ≡ property_in (named_view named.now) }

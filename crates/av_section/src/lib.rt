@@ -3,12 +3,14 @@
 #![tactic(auto)]
 
 mod indices;
-mod known;
-mod numbering;
+pub mod known;
+pub mod numbering;
 mod order;
 mod palette;
 mod preparing;
 pub mod section;
 mod writing;
 
+pub use known::KnownStates;
+pub use numbering::Numbering;
 pub use section::Section;

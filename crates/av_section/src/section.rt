@@ -7,8 +7,7 @@ ghost use Rattle.av_section.specs.Packed.{HasAllBelow, IsPackedSection};
 ghost use Rattle.std.proofs.Props.{props};
 
 use crate::indices::{Once, distinct, index_of, judged_longs, mapped, unpacked};
-use crate::known::known_numbers;
-use crate::numbering::number_entries;
+use crate::numbering::Numbering;
 use crate::order::written_order;
 use crate::palette::palette_entries;
 use crate::writing::{indices_tag, palette_tag};
@@ -36,7 +35,7 @@ pub struct Section {
 }
 
 impl Section {
-    ghost use Rattle.std.specs.Prelude.{All, IsSome, IfSome, Some, true, false, option_map};
+    ghost use Rattle.std.specs.Prelude.{All, IsSome, Some, true, false, option_map};
     ghost use Rattle.std.specs.Option.{option_copied};
     ghost use Rattle.av_tags.specs.View.{view};
     ghost use Rattle.av_state.specs.Table.{states};
@@ -48,51 +47,32 @@ impl Section {
     ghost use Rattle.av_section.specs.Section.{number_at, is_pending, CanSet, SetsNumber, SetsPending, IsFilled, AreParts, HasNumbersBelow, section_states};
     ghost use Rattle.av_section.specs.Reading.{IsRead, IsStatesRefusal, OnlyGrows};
 
-    /// The section of a palette tag and a data tag. The palette's states are numbered after those of the table.
+    /// The section of a palette tag and a data tag. The palette's states have the numbers that are given them.
     ///
-    /// Refuses a palette of another shape with `BadPalette`, indices that do not fit it with `BadPacked`, water whose
-    /// level is not 0 to 15 with `BadWaterLevel`, the first of these that holds, and else more than 65,535 states with
-    /// `TooManyStates`. After a refusal the table may have gained states at its end.
-    pub fn read(
+    /// Refuses a palette of another shape with `BadPalette`, indices that do not fit it with `BadPacked`, and what `Numbering::number`
+    /// refuses: where it takes new states, the first fault that holds, and `TooManyStates` where none does.
+    pub fn read<N: Numbering>(
         alloc: Global,
         palette: Option<&Tag>,
         longs: Option<&Tag>,
-        table: &mut StateTable,
+        numbering: &mut N,
     ) -> Result<Self, Fault>
         ensures ok { IfOk result (IsRead (option_map view (option_copied palette.entry))
-            (option_map view (option_copied longs.entry)) (states table.old) (states table.new)) }
-        ensures err { IfErr result (IsStatesRefusal (option_map view (option_copied palette.entry))
-            (option_map view (option_copied longs.entry)) (states table.old)) }
-        ensures table { OnlyGrows (states table.old) (states table.new) }
+            (option_map view (option_copied longs.entry)) (states (N.table numbering.old))
+            (states (N.table numbering.new))) }
+        ensures err { IfErr result (λ e. N.takes ≡ true → IsStatesRefusal
+            (option_map view (option_copied palette.entry))
+            (option_map view (option_copied longs.entry)) (states (N.table numbering.old)) e) }
+        ensures table { OnlyGrows (states (N.table numbering.old))
+            (states (N.table numbering.new)) }
+        ensures same { N.takes ≡ false
+            → states (N.table numbering.new) ≡ states (N.table numbering.old) }
     {
         let entries = palette_entries(palette)?;
         let longs = judged_longs(alloc, entries, longs)?;
-        let numbers = number_entries(alloc, entries, table)?;
+        let numbers = numbering.number(alloc, entries)?;
         let section = Section::placed(alloc, numbers, longs)?;
         Ok(section)
-    }
-
-    /// What `read` answers of the same, where the table knows all states of the palette: their numbers are looked up by the
-    /// texts of the tags. None where it does not, and where longs that fit stand by a palette with an entry that is refused.
-    pub fn read_known(
-        alloc: Global,
-        palette: Option<&Tag>,
-        longs: Option<&Tag>,
-        table: &StateTable,
-    ) -> Result<Option<Self>, Fault>
-        ensures ok { IfOk result (λ found. IfSome found
-            (IsRead (option_map view (option_copied palette.entry))
-            (option_map view (option_copied longs.entry)) (states table.now) (states table.now))) }
-        ensures err { IfErr result (IsStatesRefusal (option_map view (option_copied palette.entry))
-            (option_map view (option_copied longs.entry)) (states table.now)) }
-    {
-        let entries = palette_entries(palette)?;
-        let longs = judged_longs(alloc, entries, longs)?;
-        let Some(numbers) = known_numbers(alloc, entries, table)? else {
-            return Ok(None);
-        };
-        let section = Section::placed(alloc, numbers, longs)?;
-        Ok(Some(section))
     }
 
     /// The section of the numbers of a palette's entries and the longs that hold the index of each place into them. Refuses with

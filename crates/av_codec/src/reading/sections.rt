@@ -1,5 +1,5 @@
 //! The sections of a chunk, taken apart in the order of the file.
-ghost use Rattle.std.specs.Prelude.{◌≡◌, IfOk, IfErr, OnOk, IsSome, ◌<◌, ◌≢◌, length, false, option_map};
+ghost use Rattle.std.specs.Prelude.{◌≡◌, IfOk, IfErr, OnOk, IsSome, ◌<◌, ◌≢◌, length, true, false, option_map};
 ghost use Rattle.av_types.specs.declared.fault.Fault.TheVariants.{OutOfMemory};
 ghost use Rattle.av_types.specs.Places.{is_section_of};
 ghost use Rattle.av_tags.specs.Place.{tag_of, emptied, blank};
@@ -16,8 +16,7 @@ use crate::index::section_index;
 use crate::reading::faults::lesser;
 use crate::reading::tags::byte_at;
 use av_chunk::{OutsideSection, SectionTags};
-use av_section::Section;
-use av_state::StateTable;
+use av_section::{Numbering, Section};
 use av_tags::{Named, Tag, exchange, find, remove};
 use av_types::{Fault, Height};
 use std::alloc::{AllocError, Global};
@@ -57,24 +56,26 @@ pub(crate) fn emptied(
 }
 
 /// The section of its `block_states`, one of air where there are none, and the tags that are kept of them.
-fn read_states(
+fn read_states<N: Numbering>(
     alloc: Global,
     block_states: Option<Tag>,
-    table: &mut StateTable,
+    numbering: &mut N,
 ) -> Result<(Section, Vec<Named>), Fault>
     requires { is_other compound_of (option_map view block_states) ≡ false }
     ensures ok { IfOk result (λ read. AreStates (compound_in (option_map view block_states))
-        (states table.old) (states table.new) read.0 (named_views read.1.items)) }
-    ensures err { IfErr result (AreStatesRefused (compound_in (option_map view block_states))
-        (states table.old)) }
-    ensures table { OnlyGrows (states table.old) (states table.new) }
+        (states (N.table numbering.old)) (states (N.table numbering.new)) read.0 (named_views read.1.items)) }
+    ensures err { IfErr result (λ e. N.takes ≡ true → AreStatesRefused
+        (compound_in (option_map view block_states)) (states (N.table numbering.old)) e) }
+    ensures table { OnlyGrows (states (N.table numbering.old)) (states (N.table numbering.new)) }
+    ensures same { N.takes ≡ false
+        → states (N.table numbering.new) ≡ states (N.table numbering.old) }
 {
     let Some(block_states) = block_states else {
         return Ok((Section::filled(alloc, 0)?, Vec::new(alloc)));
     };
     let mut others = block_states.into_members().unwrap();
     let palette = find(&others, b"palette");
-    let section = Section::read(alloc, palette, find(&others, b"data"), table)?;
+    let section = Section::read(alloc, palette, find(&others, b"data"), numbering)?;
     let _ = remove(&mut others, b"palette");
     let _ = remove(&mut others, b"data");
     Ok((section, others))
@@ -88,18 +89,20 @@ pub(crate) fn is_inside(height: Height, y: i8) -> bool
 }
 
 /// A section taken apart. Its number and its `block_states` are of the right kind.
-fn read_section(
+fn read_section<N: Numbering>(
     alloc: Global,
     section: Tag,
     height: Height,
-    table: &mut StateTable,
+    numbering: &mut N,
 ) -> Result<Part, Fault>
     requires { IsSome (checked_number height (compound_of (view section))) }
-    ensures ok { IfOk result (IsSectionRead height (tags_in (view section)) (states table.old)
-        (states table.new)) }
-    ensures err { IfErr result (IsSectionRefused height (tags_in (view section))
-        (states table.old)) }
-    ensures table { OnlyGrows (states table.old) (states table.new) }
+    ensures ok { IfOk result (IsSectionRead height (tags_in (view section)) (states (N.table numbering.old))
+        (states (N.table numbering.new))) }
+    ensures err { IfErr result (λ e. N.takes ≡ true → IsSectionRefused height (tags_in (view section))
+        (states (N.table numbering.old)) e) }
+    ensures table { OnlyGrows (states (N.table numbering.old)) (states (N.table numbering.new)) }
+    ensures same { N.takes ≡ false
+        → states (N.table numbering.new) ≡ states (N.table numbering.old) }
 {
     let mut tags = section.into_members().unwrap();
     let y = byte_at(&tags, b"Y").unwrap();
@@ -108,7 +111,7 @@ fn read_section(
     }
     let block_states = emptied(alloc, &mut tags, b"block_states")?;
     let _ = emptied(alloc, &mut tags, b"BlockLight")?;
-    let (section, states) = read_states(alloc, block_states, table)?;
+    let (section, states) = read_states(alloc, block_states, numbering)?;
     Ok(Part::Inside {
         y,
         section,
@@ -182,24 +185,26 @@ pub(crate) fn fill_all(alloc: Global, sections: &mut Vec<Option<Section>>) -> Re
 }
 
 /// The sections that a chunk has. Of several faults the first is answered; want of memory comes before all others.
-fn find_sections(
+fn find_sections<N: Numbering>(
     alloc: Global,
     sections: Vec<Tag>,
     height: Height,
-    table: &mut StateTable,
+    numbering: &mut N,
 ) -> Result<Sections, Fault>
     requires numbers { has_bad_number height (views sections.items) ≡ false }
     requires apart { share_a_number (opened (views sections.items)) ≡ false }
-    ensures ok { IfOk result (AreFound height (opened (views sections.items)) (states table.old)
-        (states table.new)) }
-    ensures err { IfErr result (λ e. e ≢ OutOfMemory
-        → AreRefusedBy height (opened (views sections.items)) (states table.old) e) }
-    ensures table { OnlyGrows (states table.old) (states table.new) }
+    ensures ok { IfOk result (AreFound height (opened (views sections.items)) (states (N.table numbering.old))
+        (states (N.table numbering.new))) }
+    ensures err { IfErr result (λ e. N.takes ≡ true → e ≢ OutOfMemory
+        → AreRefusedBy height (opened (views sections.items)) (states (N.table numbering.old)) e) }
+    ensures table { OnlyGrows (states (N.table numbering.old)) (states (N.table numbering.new)) }
+    ensures same { N.takes ≡ false
+        → states (N.table numbering.new) ≡ states (N.table numbering.old) }
 {
     let mut read = Sections::missing(alloc, height)?;
     let mut refused = None;
     for section in sections {
-        match read_section(alloc, section, height, table) {
+        match read_section(alloc, section, height, numbering) {
             Ok(part) => read.place(part, height)?,
             Err(fault) => refused = Some(lesser(refused, fault)),
         }
@@ -212,21 +217,23 @@ fn find_sections(
 
 /// The sections of a chunk, with air for those that it does not have. Of several faults the first is answered; want of
 /// memory comes before all others.
-pub(crate) fn read_sections(
+pub(crate) fn read_sections<N: Numbering>(
     alloc: Global,
     sections: Vec<Tag>,
     height: Height,
-    table: &mut StateTable,
+    numbering: &mut N,
 ) -> Result<Sections, Fault>
     requires numbers { has_bad_number height (views sections.items) ≡ false }
     requires apart { share_a_number (opened (views sections.items)) ≡ false }
     ensures ok { IfOk result (AreSectionsRead height (opened (views sections.items))
-        (states table.old) (states table.new)) }
-    ensures err { IfErr result (λ e. e ≢ OutOfMemory
-        → AreRefusedBy height (opened (views sections.items)) (states table.old) e) }
-    ensures table { OnlyGrows (states table.old) (states table.new) }
+        (states (N.table numbering.old)) (states (N.table numbering.new))) }
+    ensures err { IfErr result (λ e. N.takes ≡ true → e ≢ OutOfMemory
+        → AreRefusedBy height (opened (views sections.items)) (states (N.table numbering.old)) e) }
+    ensures table { OnlyGrows (states (N.table numbering.old)) (states (N.table numbering.new)) }
+    ensures same { N.takes ≡ false
+        → states (N.table numbering.new) ≡ states (N.table numbering.old) }
 {
-    let mut read = find_sections(alloc, sections, height, table)?;
+    let mut read = find_sections(alloc, sections, height, numbering)?;
     fill_all(alloc, &mut read.sections)?;
     Ok(read)
 }

@@ -4,7 +4,7 @@ use Rattle.av_tags.specs.View.{view}
 use Rattle.av_state.specs.Table.{states}
 use Rattle.av_section.specs.Palette.{state_in}
 use Rattle.av_section.specs.Known.{IsKnown}
-use Rattle.av_section.proofs.KnownStates.{known_more}
+use Rattle.av_section.proofs.KnownEntries.{known_more}
 use Rattle.av_section.proofs.known.known_numbers.Goals as goal
 
 pub loop-entry-preserved : goal.loop-entry-preserved

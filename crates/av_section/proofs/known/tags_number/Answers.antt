@@ -4,7 +4,7 @@ use Rattle.av_tags.specs.View.{view, named_views}
 use Rattle.av_state.specs.Table.{states}
 use Rattle.av_state.specs.Texts.{properties_told}
 use Rattle.av_section.specs.Palette.{properties_in}
-use Rattle.av_section.proofs.KnownStates.{known_state, written}
+use Rattle.av_section.proofs.KnownEntries.{known_state, written}
 use Rattle.av_section.proofs.known.tags_number.Goals as goal
 
 pub returns : goal.returns

@@ -13,7 +13,7 @@ use Rattle.av_codec.proofs.Slots.{AreJudged-part, AreJudged-refused, section_cou
 use Rattle.av_codec.proofs.reading.sections.find_sections.Goals as goal
 
 pub loop-section-preserved-in-Continue-branch-2 : goal.loop-section-preserved-in-Continue-branch-2
-loop-section-preserved-in-Continue-branch-2 c =
+loop-section-preserved-in-Continue-branch-2 g c =
     let inv = c.loop-section.invariant in
     let x : Tag = c.in-Some.section in
     let rest : List Tag = into_iter_items c.next.new.self in
@@ -26,15 +26,16 @@ loop-section-preserved-in-Continue-branch-2 c =
       split = rw append_assoc (rw step at inv.split);
       good = good_after c.args.height (view x) (views rest) (rw step at inv.good);
       grown = OnlyGrows-trans _ _ _ inv.grown c.in-Ok.ensures.table;
+      same = λ f. c.in-Ok.ensures.same f ∙ inv.same f;
       count = section_counts c.args.height c.in-Ok.part c.loop-section.read c.place.new.self placed inv.count;
       count_kept = kept_counts c.args.height c.in-Ok.part c.loop-section.read c.place.new.self placed inv.count_kept;
       so_far = rw (rows-push c.loop-section.yielded x)
-          (AreJudged-part c.args.height (opened (views c.loop-section.yielded)) (tags_in (view x)) (states c.args.table.now) (states c.loop-section.table) (states c.read_section.new.table)
+          (AreJudged-part g.N.Numbering.takes c.args.height (opened (views c.loop-section.yielded)) (tags_in (view x)) (states (g.N.Numbering.table c.args.numbering.now)) (states (g.N.Numbering.table c.loop-section.numbering)) (states (g.N.Numbering.table c.read_section.new.numbering))
           c.in-Ok.part c.loop-section.read c.place.new.self c.loop-section.refused c.in-Ok.ensures.table c.in-Ok.ensures.ok (new_number (opened (views c.loop-section.yielded)) (opened (views rest)) (tags_in (view x)) apart) placed inv.so_far);
     }
 
 pub loop-section-preserved : goal.loop-section-preserved
-loop-section-preserved c =
+loop-section-preserved g c =
     let inv = c.loop-section.invariant in
     let x : Tag = c.in-Some.section in
     let rest : List Tag = into_iter_items c.next.new.self in
@@ -43,9 +44,10 @@ loop-section-preserved c =
       split = rw append_assoc (rw step at inv.split);
       good = good_after c.args.height (view x) (views rest) (rw step at inv.good);
       grown = OnlyGrows-trans _ _ _ inv.grown c.in-Err.ensures.table;
+      same = λ f. c.in-Err.ensures.same f ∙ inv.same f;
       count = inv.count;
       count_kept = inv.count_kept;
       so_far = rw (rows-push c.loop-section.yielded x)
-          (AreJudged-refused c.args.height (opened (views c.loop-section.yielded)) (tags_in (view x)) (states c.args.table.now) (states c.loop-section.table) (states c.read_section.new.table)
+          (AreJudged-refused g.N.Numbering.takes c.args.height (opened (views c.loop-section.yielded)) (tags_in (view x)) (states (g.N.Numbering.table c.args.numbering.now)) (states (g.N.Numbering.table c.loop-section.numbering)) (states (g.N.Numbering.table c.read_section.new.numbering))
           c.loop-section.read c.loop-section.read c.loop-section.refused c.in-Err.fault c.lesser.result c.in-Err.ensures.err c.lesser.ensures inv.so_far);
     }

@@ -11,7 +11,7 @@ use Rattle.av_codec.proofs.OneSection.{good_states, outside_read, inside_read, i
 use Rattle.av_codec.proofs.reading.sections.read_section.Goals as goal
 
 pub returns-then-not-is_inside-clause-ok : goal.returns-then-not-is_inside-clause-ok
-returns-then-not-is_inside-clause-ok c =
+returns-then-not-is_inside-clause-ok g c =
     let ms = named_views c.unwrap-tags.result.items in
     let is : compound_of (view c.args.section) ≡ Some ms = sym (rw c.unwrap-tags.ensures at c.into_members.ensures) in
     let y = c.unwrap-y.result in
@@ -19,10 +19,10 @@ returns-then-not-is_inside-clause-ok c =
     let number : section_number ms ≡ Some y = rw (c.deref.ensures.value, c.unwrap-y.ensures) at (sym c.byte_at.ensures) in
     let same : to_z w8 (of_z w8 y) ≡ y = to_z-of_z fits in
     let outside : is_section_of c.args.height (to_z w8 (of_z w8 y)) ≡ false = sym c.is_inside.ensures ∙ c.if-not-is_inside.true in
-    rw is (outside_read c.args.height ms (states c.args.table.now) (record { y = to_z w8 (of_z w8 y); tags = c.unwrap-tags.result }) (number ∙ ap Some (sym same)) outside refl)
+    rw is (outside_read c.args.height ms (states (g.N.Numbering.table c.args.numbering.now)) (record { y = to_z w8 (of_z w8 y); tags = c.unwrap-tags.result }) (number ∙ ap Some (sym same)) outside refl)
 
 pub read_states-requires : goal.read_states-requires
-read_states-requires c =
+read_states-requires g c =
     let ms = named_views c.unwrap-tags.result.items in
     let is : compound_of (view c.args.section) ≡ Some ms = sym (rw c.unwrap-tags.ensures at c.into_members.ensures) in
     let y = c.unwrap-y.result in
@@ -33,7 +33,7 @@ read_states-requires c =
     rw c.in_ok-block_states.ensures.taken (good_states c.args.height ms y good number within)
 
 pub returns-in_err-section-clause-err : goal.returns-in_err-section-clause-err
-returns-in_err-section-clause-err c =
+returns-in_err-section-clause-err g c =
     let ms = named_views c.unwrap-tags.result.items in
     let is : compound_of (view c.args.section) ≡ Some ms = sym (rw c.unwrap-tags.ensures at c.into_members.ensures) in
     let y = c.unwrap-y.result in
@@ -41,12 +41,12 @@ returns-in_err-section-clause-err c =
     let number : section_number ms ≡ Some y = rw (c.deref.ensures.value, c.unwrap-y.ensures) at (sym c.byte_at.ensures) in
     let within : is_section_of c.args.height y ≡ true = rw (to_z-of_z fits) at (sym c.is_inside.ensures ∙ c.if-not-is_inside.false) in
     let e = c.in_err-section.field-0.0 in
-    let refused : AreStatesRefused (block_states_of ms) (states c.args.table.now) e = rw c.in_ok-block_states.ensures.taken at c.in_err-section.ensures.err in
-    let fact : IsSectionRefused c.args.height (tags_in (view c.args.section)) (states c.args.table.now) e = rw is (inside_refused c.args.height ms (states c.args.table.now) y e number within refused) in
+    let refused : g.N.Numbering.takes ≡ true → AreStatesRefused (block_states_of ms) (states (g.N.Numbering.table c.args.numbering.now)) e = rw c.in_ok-block_states.ensures.taken at c.in_err-section.ensures.err in
+    let fact : g.N.Numbering.takes ≡ true → IsSectionRefused c.args.height (tags_in (view c.args.section)) (states (g.N.Numbering.table c.args.numbering.now)) e = λ t. rw is (inside_refused c.args.height ms (states (g.N.Numbering.table c.args.numbering.now)) y e number within (refused t)) in
     search (rules, fact)
 
 pub returns-clause-ok : goal.returns-clause-ok
-returns-clause-ok c =
+returns-clause-ok g c =
     let ms = named_views c.unwrap-tags.result.items in
     let is : compound_of (view c.args.section) ≡ Some ms = sym (rw c.unwrap-tags.ensures at c.into_members.ensures) in
     let y = c.unwrap-y.result in
@@ -56,5 +56,5 @@ returns-clause-ok c =
     let within : is_section_of c.args.height (to_z w8 (of_z w8 y)) ≡ true = sym c.is_inside.ensures ∙ c.if-not-is_inside.false in
     let read = rw c.in_ok-block_states.ensures.taken at c.in_ok-section.ensures.ok in
     let kept : named_views c.emptied-2.new.tags.items ≡ emptied (codes "BlockLight") (emptied (codes "block_states") ms) = rw c.in_ok-block_states.ensures.place at c.in_ok-emptied.ensures.place in
-    rw is (inside_read c.args.height ms (states c.args.table.now) (states c.read_states.new.table) (to_z w8 (of_z w8 y)) c.in_ok-section.section
+    rw is (inside_read c.args.height ms (states (g.N.Numbering.table c.args.numbering.now)) (states (g.N.Numbering.table c.read_states.new.numbering)) (to_z w8 (of_z w8 y)) c.in_ok-section.section
     (record { tags = c.emptied-2.new.tags; states = c.in_ok-section.states }) (number ∙ ap Some (sym same)) within read kept)

@@ -13,24 +13,24 @@ use Rattle.av_section.proofs.KnownRead.{palette_read, unnumbered_refused}
 use Rattle.av_section.proofs.section.Section.read.Goals as goal
 
 pub returns-in_err-numbers-clause-err : goal.returns-in_err-numbers-clause-err
-returns-in_err-numbers-clause-err c =
+returns-in_err-numbers-clause-err g c =
     let palette = option_map view (option_copied c.args.palette) in
     let longs = option_map view (option_copied c.args.longs) in
-    let old = states c.args.table.now in
+    let old = states (g.N.Numbering.table c.args.numbering.now) in
     let entries = c.in_ok-entries.entries.now in
     let same = c.in_ok-entries.ensures.ok in
     let e = c.in_err-numbers.field-0.0 in
     let p = err_from_is_err_and c.from_residual-in_err-numbers.result c.from_residual-in_err-numbers.ensures.1 in
-    let refused = subst (λ o. AreNotOfPalette o old e) (sym same) c.in_err-numbers.ensures.err in
-    rw (p.1, p.2) (unnumbered_refused palette longs old c.in_ok-longs.longs.now (length entries) e
-    (λ told h. length-each state_in (views entries) told (sym same ∙ h) ∙ length-map entries view) c.in_ok-longs.ensures.ok refused)
+    rw (p.1, p.2) (λ t. unnumbered_refused palette longs old c.in_ok-longs.longs.now (length entries) e
+    (λ told h. length-each state_in (views entries) told (sym same ∙ h) ∙ length-map entries view) c.in_ok-longs.ensures.ok
+    (subst (λ o. AreNotOfPalette o old e) (sym same) (c.in_err-numbers.ensures.err t)))
 
 pub returns-clause-ok : goal.returns-clause-ok
-returns-clause-ok c =
+returns-clause-ok g c =
     let palette = option_map view (option_copied c.args.palette) in
     let longs = option_map view (option_copied c.args.longs) in
-    let old = states c.args.table.now in
-    let new = states c.number_entries.new.table in
+    let old = states (g.N.Numbering.table c.args.numbering.now) in
+    let new = states (g.N.Numbering.table c.number.new.self) in
     let numbers = c.in_ok-numbers.numbers.items in
     let all = subst (λ o. AreOfPalette old new o numbers) (sym c.in_ok-entries.ensures.ok) c.in_ok-numbers.ensures.ok in
-    palette_read palette longs old new c.in_ok-longs.longs.now numbers c.in_ok-section.section all c.in_ok-longs.ensures.ok.longs_are c.in_ok-section.ensures.ok c.number_entries.new.table.numbered.bounded
+    palette_read palette longs old new c.in_ok-longs.longs.now numbers c.in_ok-section.section all c.in_ok-longs.ensures.ok.longs_are c.in_ok-section.ensures.ok (g.N.Numbering.table c.number.new.self).numbered.bounded
