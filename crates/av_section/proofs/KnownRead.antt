@@ -14,7 +14,8 @@ use Rattle.av_state.specs.StateList.{most_states}
 use Rattle.av_section.specs.declared.section.Section.{Section}
 use Rattle.av_section.specs.BlockStates.{data_of, indices_if, indices_in, indices_of, packed_indices, are_below, all_zero, when, states_faults}
 use Rattle.av_section.specs.Palette.{palette_of}
-use Rattle.av_section.specs.Known.{AreOfPalette, ArePacked, AreUnfit, AreNotOfPalette, IsPlaced}
+use Rattle.av_section.specs.Known.{ArePacked, AreUnfit, IsPlaced}
+use Rattle.av_section.specs.Numbered.{AreOfPalette, AreNotOfPalette}
 use Rattle.av_section.specs.Reading.{IsRead, IsStatesRefusal}
 
 pub zero_at : (i : ℕ) → i < 4096 → get_or all_zero i 0 ≡ 0

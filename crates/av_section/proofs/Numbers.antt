@@ -11,7 +11,8 @@ use Rattle.av_tags.specs.Shape.{each}
 use Rattle.av_state.specs.BlockState.{BlockState, air, meant}
 use Rattle.av_state.specs.StateList.{with_state, with_states, same_state, Numbers, IsOneTooMany}
 use Rattle.av_state.proofs.Numbering.{with_state-keeps, number_in-none}
-use Rattle.av_section.specs.Numbered.{AreNumbered, AreTooMany, AreNotNumbered}
+use Rattle.av_section.specs.Known.{AreNotNumbered}
+use Rattle.av_section.specs.Numbered.{AreNumbered, AreTooMany}
 use Rattle.av_section.specs.Reading.{OnlyGrows}
 
 -- ---- forms

@@ -1,4 +1,4 @@
--- Sections whose longs fit their palettes, and palettes whose states are numbered, or are known to a table.
+-- Sections whose longs fit their palettes, and states that are numbered, or are known to a table.
 -- Working definitions. No public clause cites them.
 use Rattle.std.specs.Prelude.{◌≡◌, ℕ, ℤ, ◌<◌, List, Option, Some, None, IsSome, false, length, slice_index}
 use Rattle.av_types.specs.declared.fault.Fault.{Fault}
@@ -8,7 +8,7 @@ use Rattle.av_tags.specs.Nbt.{Nbt}
 use Rattle.av_state.specs.BlockState.{BlockState, meant}
 use Rattle.av_state.specs.StateList.{number_in}
 use Rattle.av_section.specs.BlockStates.{data_of, indices_in, indices_of}
-use Rattle.av_section.specs.Numbered.{AreNumbered, AreTooMany}
+use Rattle.av_section.specs.Numbered.{AreOfPalette, AreToldAnd, AreTooMany}
 use Rattle.av_section.specs.declared.section.Section.{Section}
 use Rattle.av_section.specs.Section.{number_at, is_pending}
 
@@ -20,13 +20,7 @@ pub record IsKnown (states : List BlockState) (state : Option BlockState) (numbe
   pub form_is : meant told ≡ Some form
   pub number_is : number_in states form ≡ Some number
 
--- there are states, the numbers are those of the forms that they take, and no other states were numbered
-pub record AreOfPalette (old new : List BlockState) (entries : Option (List BlockState)) (numbers : List ℕ) : Type 0 where
-  pub told : List BlockState
-  pub told_are : entries ≡ Some told
-  pub numbered : AreNumbered told old new numbers
-
--- they were numbered before
+-- the numbers of the forms of entries, all of which were numbered before
 abbrev pub AreKnown : List BlockState → Option (List BlockState) → List ℕ → Type 0
 AreKnown states entries numbers = AreOfPalette states states entries numbers
 
@@ -35,26 +29,12 @@ pub record ArePacked (tag : Option Nbt) (count : ℕ) (longs : List ℤ) : Type 
   pub longs_are : data_of tag ≡ Some longs
   pub fit : IsSome (indices_in count longs)
 
--- there are states, and something holds of them
-pub record AreToldAnd (entries : Option (List BlockState)) (why : List BlockState → Type 0) : Type 0 where
-  pub told : List BlockState
-  pub told_are : entries ≡ Some told
-  pub because : why told
-
 -- memory, an entry that is no state, or else a data tag that holds no indices into the palette
 abbrev pub AreUnfit : Option (List BlockState) → Option Nbt → Fault → Type 0
 AreUnfit entries tag OutOfMemory = Unit {0}
 AreUnfit entries tag BadPalette = entries ≡ None
 AreUnfit entries tag BadPacked = AreToldAnd entries (λ told. indices_of (length told) tag ≡ None)
 AreUnfit entries tag _ = ⊥
-
--- memory, an entry that is no state, or else states that are not numbered
-abbrev pub AreNotOfPalette : Option (List BlockState) → List BlockState → Fault → Type 0
-AreNotOfPalette entries old OutOfMemory = Unit {0}
-AreNotOfPalette entries old BadPalette = entries ≡ None
-AreNotOfPalette entries old BadWaterLevel = AreToldAnd entries (λ told. each meant told ≡ None)
-AreNotOfPalette entries old TooManyStates = AreToldAnd entries (λ told. AreTooMany told old)
-AreNotOfPalette entries old _ = ⊥
 
 -- there are indices, each place has the number of its index, and none is pending
 pub record IsPlaced (numbers : List ℕ) (indices : Option (List ℕ)) (s : Section) : Type 0 where
@@ -63,3 +43,10 @@ pub record IsPlaced (numbers : List ℕ) (indices : Option (List ℕ)) (s : Sect
   pub within : (i : ℕ) → i < 4096 → slice_index places i < length numbers
   pub numbers_are : (i : ℕ) → i < 4096 → number_at s i ≡ slice_index numbers (slice_index places i)
   pub pending : (i : ℕ) → is_pending s i ≡ false
+
+-- why entries were not numbered
+abbrev pub AreNotNumbered : List BlockState → List BlockState → Fault → Type 0
+AreNotNumbered entries old OutOfMemory = Unit {0}
+AreNotNumbered entries old BadWaterLevel = each meant entries ≡ None
+AreNotNumbered entries old TooManyStates = AreTooMany entries old
+AreNotNumbered entries old _ = ⊥

@@ -6,8 +6,8 @@ ghost use Rattle.av_state.specs.States.{state_of};
 ghost use Rattle.av_state.specs.Table.{states};
 ghost use Rattle.av_tags.specs.Shape.{each};
 ghost use Rattle.av_tags.specs.View.{views};
-ghost use Rattle.av_section.specs.Known.{AreOfPalette, AreNotOfPalette};
-ghost use Rattle.av_section.specs.Numbered.{AreNumbered, AreNotNumbered};
+ghost use Rattle.av_section.specs.Known.{AreNotNumbered};
+ghost use Rattle.av_section.specs.Numbered.{AreNumbered, AreOfPalette, AreNotOfPalette};
 ghost use Rattle.av_section.specs.Palette.{state_in};
 ghost use Rattle.av_section.specs.Reading.{OnlyGrows};
 

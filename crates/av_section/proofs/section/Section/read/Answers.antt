@@ -8,7 +8,7 @@ use Rattle.av_tags.specs.View.{view, views}
 use Rattle.av_tags.proofs.Each.{length-each}
 use Rattle.av_state.specs.Table.{states}
 use Rattle.av_section.specs.Palette.{state_in}
-use Rattle.av_section.specs.Known.{AreOfPalette, AreNotOfPalette}
+use Rattle.av_section.specs.Numbered.{AreOfPalette, AreNotOfPalette}
 use Rattle.av_section.proofs.KnownRead.{palette_read, unnumbered_refused}
 use Rattle.av_section.proofs.section.Section.read.Goals as goal
 
