@@ -9,7 +9,7 @@ use std::collections::hash_map;
 type SectionPos = (i32, i32, i32);
 
 struct Part {
-    /// With their places in the tick.
+    /// With their indices in the tick.
     entries: Vec<(usize, Entry)>,
     sections: Vec<SectionPos>,
 }
@@ -30,13 +30,13 @@ fn for_territory(world: &World, (x, y, z): Pos, mut found: impl FnMut(SectionPos
     }
 }
 
-/// The first place of a place's group. Halves the way to it.
-fn find(parents: &mut [usize], mut place: usize) -> usize {
-    while parents[place] != place {
-        parents[place] = parents[parents[place]];
-        place = parents[place];
+/// The first index of the group of one. Halves the way to it.
+fn find(parents: &mut [usize], mut index: usize) -> usize {
+    while parents[index] != index {
+        parents[index] = parents[parents[index]];
+        index = parents[index];
     }
-    place
+    index
 }
 
 fn join(parents: &mut [usize], a: usize, b: usize) {
@@ -47,21 +47,21 @@ fn join(parents: &mut [usize], a: usize, b: usize) {
 fn plan(world: &World, entries: &[Entry]) -> Vec<Part> {
     let mut owners: HashMap<SectionPos, usize> = HashMap::new();
     let mut parents: Vec<usize> = (0..entries.len()).collect();
-    for (place, entry) in entries.iter().enumerate() {
+    for (index, entry) in entries.iter().enumerate() {
         for_territory(world, (entry.x, entry.y, entry.z), |section| {
             match owners.entry(section) {
-                hash_map::Entry::Occupied(owner) => join(&mut parents, *owner.get(), place),
+                hash_map::Entry::Occupied(owner) => join(&mut parents, *owner.get(), index),
                 hash_map::Entry::Vacant(free) => {
-                    free.insert(place);
+                    free.insert(index);
                 }
             }
         });
     }
     let mut parts: Vec<Part> = Vec::new();
     let mut numbers = Vec::with_capacity(entries.len());
-    for (place, entry) in entries.iter().enumerate() {
-        let first = find(&mut parents, place);
-        let number = if first == place {
+    for (index, entry) in entries.iter().enumerate() {
+        let first = find(&mut parents, index);
+        let number = if first == index {
             parts.push(Part {
                 entries: Vec::new(),
                 sections: Vec::new(),
@@ -71,7 +71,7 @@ fn plan(world: &World, entries: &[Entry]) -> Vec<Part> {
             numbers[first]
         };
         numbers.push(number);
-        parts[number].entries.push((place, *entry));
+        parts[number].entries.push((index, *entry));
     }
     for (section, owner) in owners {
         parts[numbers[owner]].sections.push(section);
@@ -115,18 +115,18 @@ fn entry_of(kind: &str, number: u32) -> Option<Entry> {
     })
 }
 
-/// The sums of the entries' places and of the sections' coordinates, each times the number of its part.
+/// The sums of the entries' indices and of the sections' coordinates, each times the number of its part.
 fn sums_of(parts: &[Part]) -> (u64, i64) {
-    let (mut places, mut sections) = (0u64, 0i64);
+    let (mut indices, mut sections) = (0u64, 0i64);
     for (number, part) in (1i64..).zip(parts) {
-        let of_part: u64 = part.entries.iter().map(|(place, _)| *place as u64).sum();
-        places = places.wrapping_add((number as u64).wrapping_mul(of_part));
+        let of_part: u64 = part.entries.iter().map(|(index, _)| *index as u64).sum();
+        indices = indices.wrapping_add((number as u64).wrapping_mul(of_part));
         for (x, y, z) in &part.sections {
             let section = i64::from(*x) + 1_000 * i64::from(*y) + 1_000_000 * i64::from(*z);
             sections = sections.wrapping_add(number.wrapping_mul(section));
         }
     }
-    (places, sections)
+    (indices, sections)
 }
 
 /// Plans so many entries, so many times.
@@ -142,6 +142,6 @@ pub fn run(kind: &str, count: u32, rounds: u32) -> Option<String> {
         parts = plan.len();
         sums = sums_of(&plan);
     }
-    let (places, sections) = sums;
-    Some(format!("parts {parts} places {places} sections {sections}"))
+    let (indices, sections) = sums;
+    Some(format!("parts {parts} indices {indices} sections {sections}"))
 }

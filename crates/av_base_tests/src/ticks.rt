@@ -82,7 +82,7 @@ fn entries_stand_as_they_came(rt: HostRuntime) -> Result<(), Fail> {
 }
 
 #[test]
-fn entries_leave_by_time_priority_and_place(rt: HostRuntime) -> Result<(), Fail> {
+fn entries_leave_by_time_priority_and_order(rt: HostRuntime) -> Result<(), Fail> {
     let mut list = five(rt.alloc())?;
     expect_equal(&rt, list.take_due(5)?.as_slice(), [B, E, C, D].as_slice());
     expect_equal(&rt, list.len(), 5);

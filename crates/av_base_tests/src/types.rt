@@ -109,7 +109,7 @@ fn water(rt: HostRuntime) {
 #[test]
 fn faults_print_their_lines(rt: HostRuntime) -> Result<(), Fail> {
     let alloc = rt.alloc();
-    let place = ChunkPos { x: -3, z: 40 };
+    let chunk = ChunkPos { x: -3, z: 40 };
     let device = String::from_str(alloc, "r.0.0.mca")?;
     let lines = [
         (Fault::OutOfMemory, 1, "fault 01: OutOfMemory"),
@@ -136,7 +136,7 @@ fn faults_print_their_lines(rt: HostRuntime) -> Result<(), Fail> {
         (Fault::EditOutside(17), 22, "fault 22: EditOutside 17"),
         (Fault::BadCount, 23, "fault 23: BadCount"),
         (
-            Fault::ChunkTooLarge(place),
+            Fault::ChunkTooLarge(chunk),
             24,
             "fault 24: ChunkTooLarge -3 40",
         ),

@@ -97,12 +97,12 @@ fn watered(alloc: Global, kinds: &Kinds) -> Result<Option<Column>, Fault>
     Ok(Some(column))
 }
 
-/// Turns the entry of a place in the list, where there is one, and says whether there was.
-fn turn_entry(column: &mut Column, kinds: &Kinds, place: usize) -> Result<bool, Fault>
+/// Turns the entry of an index in the list, where there is one, and says whether there was.
+fn turn_entry(column: &mut Column, kinds: &Kinds, index: usize) -> Result<bool, Fault>
     requires { HasKinds (kind_count kinds.now) (blocks_of column.old) }
     ensures { HasKinds (kind_count kinds.now) (blocks_of column.new) }
 {
-    let entry = column.entries().get(place).copied();
+    let entry = column.entries().get(index).copied();
     match entry {
         Some(entry) => {
             turn_loaded(column, kinds, entry.pos)?;
@@ -126,8 +126,8 @@ fn play_world(alloc: Global, kinds: &Kinds, play: &mut Play) -> Result<(), Fault
     let Some(mut column) = watered(alloc, kinds)? else {
         return Ok(());
     };
-    for place in 0..MOST_ENTRIES {
-        if !turn_entry(&mut column, kinds, place)? {
+    for index in 0..MOST_ENTRIES {
+        if !turn_entry(&mut column, kinds, index)? {
             break;
         }
         play.turns = play.turns.wrapping_add(1);

@@ -60,8 +60,8 @@ fn run<R: Clock + Env + Files + AllocGlobal + Threads + Wait + Sync>(
         ["time", path, table, times] => {
             lighting::light_region(rt, *path, *table, times.parse()?, true)
         }
-        ["plan", kind, count, rounds] => {
-            planning::plan_entries(alloc, *kind, count.parse()?, rounds.parse()?)
+        ["plan", layout, count, rounds] => {
+            planning::plan_entries(alloc, *layout, count.parse()?, rounds.parse()?)
         }
         ["turn", worlds] => {
             let worlds: u64 = worlds.parse()?;

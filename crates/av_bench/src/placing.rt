@@ -10,7 +10,7 @@ use std::alloc::Global;
 
 /// How the entries lie.
 #[derive(Clone, Copy)]
-pub(crate) enum Kind {
+pub(crate) enum Layout {
     /// One layer of water, row after row.
     Lake,
     /// Anywhere.
@@ -19,11 +19,11 @@ pub(crate) enum Kind {
     Pools,
 }
 
-pub(crate) fn kind_of(word: &str) -> Option<Kind> {
+pub(crate) fn layout_of(word: &str) -> Option<Layout> {
     match word {
-        "lake" => Some(Kind::Lake),
-        "spread" => Some(Kind::Spread),
-        "pools" => Some(Kind::Pools),
+        "lake" => Some(Layout::Lake),
+        "spread" => Some(Layout::Spread),
+        "pools" => Some(Layout::Pools),
         _ => None,
     }
 }
@@ -64,12 +64,12 @@ fn in_pools(low: u32, mixed: u32) -> Pos {
 }
 
 /// The block of the entry with a number.
-fn block_of(kind: Kind, number: u32) -> Pos {
+fn block_of(layout: Layout, number: u32) -> Pos {
     let mixed = number.wrapping_mul(2_654_435_761);
-    match kind {
-        Kind::Lake => in_lake(number),
-        Kind::Spread => anywhere(mixed),
-        Kind::Pools => in_pools(number % 1024, mixed / 65_536),
+    match layout {
+        Layout::Lake => in_lake(number),
+        Layout::Spread => anywhere(mixed),
+        Layout::Pools => in_pools(number % 1024, mixed / 65_536),
     }
 }
 
@@ -93,7 +93,7 @@ fn push_loaded(world: &World, entries: &mut Vec<Entry>, pos: Pos) -> Result<(), 
 pub(crate) fn entries_of(
     alloc: Global,
     world: &World,
-    kind: Kind,
+    layout: Layout,
     count: u32,
 ) -> Result<Vec<Entry>, Fault>
     ensures { IfOk result (λ entries. All (λ e. IsTrue ((blocks world.now).loaded e.pos))
@@ -101,7 +101,7 @@ pub(crate) fn entries_of(
 {
     let mut entries = Vec::new(alloc);
     for number in 0..count {
-        push_loaded(world, &mut entries, block_of(kind, number))?;
+        push_loaded(world, &mut entries, block_of(layout, number))?;
     }
     Ok(entries)
 }

@@ -2,7 +2,7 @@
 ghost use Rattle.std.specs.Prelude.{All, IsTrue};
 ghost use Rattle.av_world.specs.Views.{blocks};
 
-use crate::placing::{Kind, entries_of, kind_of, square};
+use crate::placing::{Layout, entries_of, layout_of, square};
 use crate::summing::{PlanSums, sums_of};
 use anyhow::{Result, bail};
 use av_cluster::plan;
@@ -27,21 +27,21 @@ fn plan_rounds(
     Ok(sums)
 }
 
-fn plan_kind(alloc: Global, kind: Kind, count: u32, rounds: u32) -> Result<PlanSums, Fault> {
+fn plan_layout(alloc: Global, layout: Layout, count: u32, rounds: u32) -> Result<PlanSums, Fault> {
     let world = square(alloc)?;
-    let entries = entries_of(alloc, &world, kind, count)?;
+    let entries = entries_of(alloc, &world, layout, count)?;
     plan_rounds(alloc, &world, entries.as_slice(), rounds)
 }
 
 /// Plans so many entries that lie so, so often. The line has the number of parts of the last plan, and sums over it.
-pub(crate) fn plan_entries(alloc: Global, kind: &str, count: u32, rounds: u32) -> Result<String> {
-    let Some(kind) = kind_of(kind) else {
-        bail!("no such kind");
+pub(crate) fn plan_entries(alloc: Global, layout: &str, count: u32, rounds: u32) -> Result<String> {
+    let Some(layout) = layout_of(layout) else {
+        bail!("no such layout");
     };
     let PlanSums {
         parts,
-        places,
+        indices,
         sections,
-    } = plan_kind(alloc, kind, count, rounds)?;
-    Ok(format!(in alloc; "parts {parts} places {places} sections {sections}")?)
+    } = plan_layout(alloc, layout, count, rounds)?;
+    Ok(format!(in alloc; "parts {parts} indices {indices} sections {sections}")?)
 }

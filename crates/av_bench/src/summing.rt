@@ -1,21 +1,21 @@
 //! Sums over a plan, by which two programs compare theirs.
 use av_cluster::Cluster;
-use av_play::Placed;
+use av_play::DueEntry;
 use av_types::SectionPos;
 
-/// How many parts a plan has; the sums of its entries' places and of its sections' coordinates, each times the number of
+/// How many parts a plan has; the sums of its entries' indices and of its sections' coordinates, each times the number of
 /// its part from 1 on, which wrap round.
 #[derive(Clone, Copy, Default)]
 pub(crate) struct PlanSums {
     pub(crate) parts: u64,
-    pub(crate) places: u64,
+    pub(crate) indices: u64,
     pub(crate) sections: i64,
 }
 
-fn place_sum(entries: &[Placed]) -> u64 {
+fn index_sum(entries: &[DueEntry]) -> u64 {
     let mut sum = 0u64;
-    for placed in entries {
-        sum = sum.wrapping_add(placed.place);
+    for due in entries {
+        sum = sum.wrapping_add(due.index);
     }
     sum
 }
@@ -36,10 +36,10 @@ pub(crate) fn sums_of(clusters: &[Cluster]) -> PlanSums {
     for cluster in clusters {
         sums.parts = sums.parts.wrapping_add(1);
         number = number.wrapping_add(1);
-        let places = sums
+        let indices = sums
             .parts
-            .wrapping_mul(place_sum(cluster.entries.as_slice()));
-        sums.places = sums.places.wrapping_add(places);
+            .wrapping_mul(index_sum(cluster.entries.as_slice()));
+        sums.indices = sums.indices.wrapping_add(indices);
         let sections = number.wrapping_mul(section_sum(cluster.sections.as_slice()));
         sums.sections = sums.sections.wrapping_add(sections);
     }

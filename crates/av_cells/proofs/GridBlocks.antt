@@ -3,12 +3,12 @@ use Rattle.std.proofs.Common.{◌≡◌, ℕ, zero, suc, ◌<◌, Bool, true, fa
 use Rattle.std.specs.List.{Contains}
 use Rattle.std.proofs.lemmas.Bool.{true≢false}
 use Rattle.std.proofs.lemmas.Bool.Decides.{Decides-eqb}
-use Rattle.av_types.specs.Places.{section_of, place_of, same_pos, same_section}
-use Rattle.av_types.specs.declared.place.Pos.{Pos}
-use Rattle.av_types.specs.declared.place.SectionPos.{SectionPos}
+use Rattle.av_types.specs.Positions.{section_of, place_of, same_pos, same_section}
+use Rattle.av_types.specs.declared.position.Pos.{Pos}
+use Rattle.av_types.specs.declared.position.SectionPos.{SectionPos}
 use Rattle.av_types.specs.declared.tick.Entry.{Entry}
 use Rattle.av_types.proofs.Coordinates.{same_block}
-use Rattle.av_types.proofs.SamePlaces.{same_pos_is, same_pos_from, same_section_is, same_section_from, same_section-refl}
+use Rattle.av_types.proofs.SamePositions.{same_pos_is, same_pos_from, same_section_is, same_section_from, same_section-refl}
 use Rattle.av_cells.specs.World.{World, with_number, with_entry, with_entry_if, without_entry}
 use Rattle.av_cells.specs.Grid.{Grid, Filling, cells_of, with_filling, renumbered, renumbered_in, waited, waited_in, cleared, cleared_in, number_in, pending_in, is_here, among}
 

@@ -1,7 +1,7 @@
 -- What is wet or open is loaded.
 use Rattle.std.proofs.Common.{◌≡◌, ℕ, true, false, Bool, cond, sym, refl, not, ◌&&◌, ◌||◌}
 use Rattle.std.proofs.lemmas.Bool.{true≢false}
-use Rattle.av_types.specs.declared.place.Pos.{Pos}
+use Rattle.av_types.specs.declared.position.Pos.{Pos}
 use Rattle.av_types.specs.Water.{is_wet}
 use Rattle.av_cells.specs.declared.kind.Kind.{Kind}
 use Rattle.av_cells.specs.Rule.{kind_at, unloaded}

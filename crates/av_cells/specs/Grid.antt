@@ -1,8 +1,8 @@
 -- A world as its sections.
 use Rattle.std.specs.Prelude.{◌≡◌, IsTrue, ℕ, ℤ, pos, ◌≤ℤ◌, ◌<ℤ◌, ◌+ℤ◌, ◌*ℤ◌, Bool, true, false, nat_eq, if◌then◌else◌, Option, Some, None, List, [], ◌∷◌}
-use Rattle.av_types.specs.declared.place.Pos.{Pos}
-use Rattle.av_types.specs.declared.place.SectionPos.{SectionPos}
-use Rattle.av_types.specs.Places.{section_of, place_of}
+use Rattle.av_types.specs.declared.position.Pos.{Pos}
+use Rattle.av_types.specs.declared.position.SectionPos.{SectionPos}
+use Rattle.av_types.specs.Positions.{section_of, place_of}
 use Rattle.av_cells.specs.Positions.{same_section}
 use Rattle.av_cells.specs.World.{World}
 

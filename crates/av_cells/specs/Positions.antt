@@ -1,7 +1,7 @@
 -- Neighbours of a block, and the blocks that a turn can see.
 use Rattle.std.specs.Prelude.{pos, negsuc, ◌+ℤ◌, ◌-ℤ◌, ◌≤ℤ◌, List, [], ◌∷◌}
-pub use Rattle.av_types.specs.Places.{same_pos, same_chunk, same_section}
-use Rattle.av_types.specs.declared.place.Pos.{Pos}
+pub use Rattle.av_types.specs.Positions.{same_pos, same_chunk, same_section}
+use Rattle.av_types.specs.declared.position.Pos.{Pos}
 use Rattle.av_types.specs.declared.water.Direction.{Direction}
 use Rattle.av_types.specs.declared.water.Direction.TheVariants.{North, South, West, East}
 

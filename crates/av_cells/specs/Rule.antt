@@ -1,6 +1,6 @@
 -- The rule of water (minecraft.wiki, "Water" and "Fluid"): what a block is, what comes into it, how far it is to a drop.
 use Rattle.std.specs.Prelude.{◌≡◌, ℕ, zero, suc, ◌+◌, ◌-◌, ◌<◌, max, nat_le, List, [], ◌∷◌, Bool, true, false, not, ◌&&◌, ◌||◌, if◌then◌else◌, Option, Some, None, IsTrue, length}
-use Rattle.av_types.specs.declared.place.Pos.{Pos}
+use Rattle.av_types.specs.declared.position.Pos.{Pos}
 use Rattle.av_types.specs.declared.water.Direction.{Direction}
 use Rattle.av_types.specs.declared.water.Direction.TheVariants.{North, South, West, East}
 use Rattle.av_types.specs.declared.water.Wet.{Wet}

@@ -1,6 +1,6 @@
 -- Entries that are made, the lists to which they are added, and the room that they need.
 use Rattle.std.specs.Prelude.{◌≡◌, ℕ, ◌≤◌, List, [], ◌∷◌, ◌++◌, IsTrue}
-use Rattle.av_types.specs.declared.place.Pos.{Pos}
+use Rattle.av_types.specs.declared.position.Pos.{Pos}
 use Rattle.av_types.specs.declared.tick.Entry.{Entry}
 use Rattle.av_cells.specs.World.{World, Lists, listed_all}
 

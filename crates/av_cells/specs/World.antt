@@ -1,10 +1,10 @@
 -- A world as the rule sees it, and its changes.
 use Rattle.std.specs.Prelude.{Option, ℕ, List, [], ◌∷◌, ◌++◌, Bool, true, false, not, ◌&&◌, if◌then◌else◌}
-use Rattle.av_types.specs.declared.place.Pos.{Pos}
-use Rattle.av_types.specs.declared.place.ChunkPos.{ChunkPos}
-use Rattle.av_types.specs.declared.place.Height.{Height}
+use Rattle.av_types.specs.declared.position.Pos.{Pos}
+use Rattle.av_types.specs.declared.position.ChunkPos.{ChunkPos}
+use Rattle.av_types.specs.declared.position.Height.{Height}
 use Rattle.av_types.specs.declared.tick.Entry.{Entry}
-use Rattle.av_types.specs.Places.{chunk_of}
+use Rattle.av_types.specs.Positions.{chunk_of}
 use Rattle.av_cells.specs.Positions.{same_pos, same_chunk}
 
 -- which blocks are loaded, the number of each one's state, and which have an entry that waits

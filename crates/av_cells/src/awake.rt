@@ -8,7 +8,7 @@ ghost use Rattle.av_cells.specs.Rule.{HasKinds};
 ghost use Rattle.av_cells.specs.Turn.{change, entry_of, woken, woken_all, set_awake};
 ghost use Rattle.av_cells.specs.World.{listed_all};
 ghost use Rattle.av_cells.specs.Wakes.{Appends, HasRoom, HaveRoom, SameStates};
-ghost use Rattle.av_types.specs.declared.place.Pos.{Pos};
+ghost use Rattle.av_types.specs.declared.position.Pos.{Pos};
 
 use crate::cells::Cells;
 use crate::kind::kind_at;

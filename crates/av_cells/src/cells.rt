@@ -12,7 +12,7 @@ use av_types::{Entry, Fault, Pos};
 /// ticks of water), to which `add` appends. `set` and `add` can't want memory: what they need is made before,
 /// by `prepare` or `prepare_set`.
 pub trait Cells {
-    ghost use Rattle.av_types.specs.declared.place.Pos.{Pos};
+    ghost use Rattle.av_types.specs.declared.position.Pos.{Pos};
 
     /// The blocks, however they are kept.
     ghost world: { Self → World };

@@ -1,9 +1,9 @@
 //! Laws of grids of sections. These functions do nothing: each states a law by its contract.
 ghost use Rattle.std.specs.Prelude.{◌≡◌, ◌↔◌, ℕ, Bool, List, Option, IsTrue, Contains};
-ghost use Rattle.av_types.specs.declared.place.Pos.{Pos};
-ghost use Rattle.av_types.specs.declared.place.SectionPos.{SectionPos};
+ghost use Rattle.av_types.specs.declared.position.Pos.{Pos};
+ghost use Rattle.av_types.specs.declared.position.SectionPos.{SectionPos};
 ghost use Rattle.av_types.specs.declared.tick.Entry.{Entry};
-ghost use Rattle.av_types.specs.Places.{section_of, place_of};
+ghost use Rattle.av_types.specs.Positions.{section_of, place_of};
 ghost use Rattle.av_cells.specs.Grid.{Grid, Filling, cells_of, is_here, LiesIn, HasOneSection, only, without, over, among, with_filling, renumbered_in, waited_in, cleared_in};
 ghost use Rattle.av_cells.specs.World.{with_number, with_entry, without_entry};
 

@@ -6,8 +6,8 @@ use Rattle.std.proofs.lemmas.List.Sums.{count_by-le-length}
 use Rattle.std.proofs.Common.{Vec, Global, is_some}
 use Rattle.av_document.proofs.Inside.{map_range_agree}
 use Rattle.av_types.specs.declared.fault.Fault.{Fault}
-use Rattle.av_types.specs.declared.place.ChunkPos.{ChunkPos}
-use Rattle.av_types.specs.declared.place.Height.{Height}
+use Rattle.av_types.specs.declared.position.ChunkPos.{ChunkPos}
+use Rattle.av_types.specs.declared.position.Height.{Height}
 use Rattle.av_tags.specs.Nbt.{Document, NamedTag}
 use Rattle.av_nbt.specs.Spelling.{SpellsDocument}
 use Rattle.av_region.specs.Region.{IsAbsent, Holds, IsChunkFault}
@@ -30,8 +30,8 @@ use Rattle.av_chunk.specs.declared.rest.ChunkRest.{ChunkRest}
 use Rattle.av_survey.specs.Survey.{sectors, spelling, document}
 use Rattle.av_census.specs.Census.{joined, section_blocks, chunk_blocks, times, HasBlocksAt, absent, chunk, fault}
 use Rattle.av_census.specs.Counting.{slot_states, slots_states, AreSlotCounts, SlotBelow, SlotsBelow, IsCountOf, AreFew, HasBlocksIn, good, bad, IsCountedIn, IsCountedAt}
-use Rattle.av_census.specs.declared.places.Counted.{Counted}
-use Rattle.av_census.specs.declared.places.Counted.TheVariants.{Nothing, Blocks, LeftOut}
+use Rattle.av_census.specs.declared.counted.Counted.{Counted}
+use Rattle.av_census.specs.declared.counted.Counted.TheVariants.{Nothing, Blocks, LeftOut}
 use Rattle.av_census.proofs.Weighing.{joined-same}
 
 -- ---- how many
@@ -137,7 +137,7 @@ faulty_in h payload c e counted bad_for is = subst (IsCountedIn h payload c) (sy
   few = omega arith;
 })
 
--- ---- and of a place
+-- ---- and of an index
 
 at_index : (h : Height) (file payload : List ℕ) (c : ChunkPos) (index : ℕ) (blocks : List BlockState) (left_out : ℕ) → Holds file index payload → HasBlocksIn h payload c blocks left_out → HasBlocksAt h file c index blocks left_out
 at_index h file payload c index blocks left_out holds (good d spelled fine is none) = chunk payload d holds spelled fine is none

@@ -5,10 +5,10 @@ use Rattle.std.specs.BTreeMap.{BTreeMap, get, is_at, IsEmpty}
 use Rattle.std.specs.Map.{lookup}
 use Rattle.std.specs.Option.{unwrap_or}
 use Rattle.std.proofs.lemmas.List.{append-nil}
-use Rattle.av_types.specs.Places.{chunk_at}
-use Rattle.av_types.specs.declared.place.ChunkPos.{ChunkPos}
-use Rattle.av_types.specs.declared.place.Height.{Height}
-use Rattle.av_types.specs.declared.place.RegionPos.{RegionPos}
+use Rattle.av_types.specs.Positions.{chunk_at}
+use Rattle.av_types.specs.declared.position.ChunkPos.{ChunkPos}
+use Rattle.av_types.specs.declared.position.Height.{Height}
+use Rattle.av_types.specs.declared.position.RegionPos.{RegionPos}
 use Rattle.av_region.specs.Region.{IsShort}
 use Rattle.av_state.specs.BlockState.{BlockState}
 use Rattle.av_state.specs.States.{state_of}
@@ -21,13 +21,13 @@ use Rattle.std.specs.Ordering.{is_lt}
 use Rattle.av_region_files.specs.declared.files.RegionFile.{RegionFile}
 use Rattle.av_census.specs.Census.{state_order, times, HasBlocksAt, HasBlocksUpTo, HasBlocks, short, whole, HaveBlocks}
 use Rattle.av_census.specs.Counting.{weighed, tallied, Tallies, HasRoom, IsCountOf, AreFew, IsAdded, IsCountedAt, TalliesAt, TalliesUpTo, TalliesFile, TalliesFiles}
-use Rattle.av_census.specs.declared.places.Counted.{Counted}
-use Rattle.av_census.specs.declared.places.Counted.TheVariants.{Nothing, Blocks, LeftOut}
+use Rattle.av_census.specs.declared.counted.Counted.{Counted}
+use Rattle.av_census.specs.declared.counted.Counted.TheVariants.{Nothing, Blocks, LeftOut}
 use Rattle.av_census.proofs.Chunks.{times-le}
 use Rattle.av_census.proofs.States.{tallies_same, tallies_then, tallies_as}
 use Rattle.av_census.proofs.Weighing.{times-append}
 
--- how many are left out at a place
+-- how many are left out at an index
 one_at_most : (counted : Counted) (blocks : List BlockState) (n : ℕ) → IsCountOf blocks n counted → n ≤ 1
 one_at_most Nothing blocks n is = let e = is.1 in omega (arith, e)
 one_at_most (Blocks table counts) blocks n is = let e = is.0 in omega (arith, e)
@@ -59,9 +59,9 @@ blocks_room old table counts few room s =
     let free = room s in
     omega (arith, most, free)
 
-pub tallies_place : (h : Height) (file : List ℕ) (c : ChunkPos) (index : ℕ) (old new : BTreeMap State ℕ) (counted : Counted) (left_out : ℕ) (i : IsCountedAt h file c index counted)
+pub tallies_index : (h : Height) (file : List ℕ) (c : ChunkPos) (index : ℕ) (old new : BTreeMap State ℕ) (counted : Counted) (left_out : ℕ) (i : IsCountedAt h file c index counted)
     → IsAdded old new i.blocks i.left_out left_out → TalliesAt h file c index old new left_out
-tallies_place h file c index old new counted left_out i added = record {
+tallies_index h file c index old new counted left_out i added = record {
   blocks = i.blocks;
   read = subst (HasBlocksAt h file c index i.blocks) (sym added.answer) i.read;
   adds = added.adds;
@@ -101,7 +101,7 @@ region_next h r file n old now new left_out one all before more is =
       some = omega (arith, some, one_more, is);
     }
 
--- there is room for one more place
+-- there is room for one more index
 pub region_room : (h : Height) (r : RegionPos) (file : List ℕ) (n : ℕ) (old now : BTreeMap State ℕ) (left_out : ℕ) → n < 1024 → HasRoom old 268435456 → TalliesUpTo h r file n old now left_out → HasRoom now 262144
 region_room h r file n old now left_out low room before s =
     let is = before.adds.counts s in

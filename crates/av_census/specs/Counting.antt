@@ -5,9 +5,9 @@ use Rattle.std.specs.BTreeMap.{BTreeMap, get}
 use Rattle.std.specs.List.{range_with_len}
 use Rattle.std.specs.Option.{unwrap_or}
 use Rattle.av_types.specs.declared.fault.Fault.{Fault}
-use Rattle.av_types.specs.declared.place.ChunkPos.{ChunkPos}
-use Rattle.av_types.specs.declared.place.Height.{Height}
-use Rattle.av_types.specs.declared.place.RegionPos.{RegionPos}
+use Rattle.av_types.specs.declared.position.ChunkPos.{ChunkPos}
+use Rattle.av_types.specs.declared.position.Height.{Height}
+use Rattle.av_types.specs.declared.position.RegionPos.{RegionPos}
 use Rattle.av_tags.specs.Nbt.{Document}
 use Rattle.av_nbt.specs.Spelling.{SpellsDocument}
 use Rattle.av_state.specs.BlockState.{BlockState, air}
@@ -21,8 +21,8 @@ use Rattle.av_document.specs.Chunk.{root_tags, first_fault}
 use Rattle.av_codec.specs.Payload.{IsPayloadFault}
 use Rattle.av_region_files.specs.declared.files.RegionFile.{RegionFile}
 use Rattle.av_census.specs.Census.{joined, chunk_blocks, times, state_order, HasBlocksAt, HasBlocksUpTo, HasBlocks, HaveBlocks}
-use Rattle.av_census.specs.declared.places.Counted.{Counted}
-use Rattle.av_census.specs.declared.places.Counted.TheVariants.{Nothing, Blocks, LeftOut}
+use Rattle.av_census.specs.declared.counted.Counted.{Counted}
+use Rattle.av_census.specs.declared.counted.Counted.TheVariants.{Nothing, Blocks, LeftOut}
 
 -- ---- by numbers
 
@@ -88,7 +88,7 @@ pub record IsAdded (old new : BTreeMap State ℕ) (blocks : List BlockState) (n 
 abbrev pub HasRoom : BTreeMap State ℕ → ℕ → Type 0
 HasRoom m n = (s : State) → tallied m s + n < 2 ^ 64
 
--- ---- places
+-- ---- indices
 
 -- what was counted stands for these blocks, or for something that is left out
 abbrev pub IsCountOf : List BlockState → ℕ → Counted → Type 0

@@ -2,10 +2,10 @@
 #![tactic(auto)]
 
 mod blocks;
+mod counted;
 pub mod counting;
 pub mod counts;
 pub mod lines;
-mod places;
 mod regions;
 mod tally;
 

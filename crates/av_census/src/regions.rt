@@ -1,11 +1,11 @@
 //! The blocks of files, counted by their states.
 ghost use Rattle.std.specs.Prelude.{◌<◌, ◌≤◌, List, ℕ, IfOk, length};
 ghost use Rattle.std.specs.List.{All};
-ghost use Rattle.av_types.specs.Places.{IsInLimits, chunk_at};
+ghost use Rattle.av_types.specs.Positions.{IsInLimits, chunk_at};
 ghost use Rattle.av_state.specs.BlockState.{BlockState};
 ghost use Rattle.av_census.specs.Counting.{AreFew, HasRoom, IsAdded, IsCountOf, TalliesAt, TalliesFile, TalliesFiles, TalliesUpTo};
 
-use crate::places::{Counted, counted_at};
+use crate::counted::{Counted, counted_at};
 use crate::tally::{Tally, add_all};
 use av_region::{CHUNKS, Region};
 use av_region_files::RegionFile;
@@ -13,7 +13,7 @@ use av_types::{Height, RegionPos};
 use std::alloc::{AllocError, Global};
 use std::collections::BTreeMap;
 
-/// Counts the blocks of a place, and answers how many chunks it left out.
+/// Counts the blocks at an index, and answers how many chunks it left out.
 fn add_counted(tally: &mut Tally, counted: &Counted) -> Result<u64, AllocError>
     requires few { AreFew counted.now }
     requires room { HasRoom tally.old 262144 }
@@ -31,7 +31,7 @@ fn add_counted(tally: &mut Tally, counted: &Counted) -> Result<u64, AllocError>
 }
 
 /// Counts the blocks of the chunk at an index of a region, and answers how many chunks it left out.
-fn tally_place(
+fn tally_index(
     alloc: Global,
     tally: &mut Tally,
     region: &Region<'_>,
@@ -63,7 +63,7 @@ fn tally_region(
 {
     let mut left_out = 0;
     for index in 0..CHUNKS {
-        let more = tally_place(alloc, tally, region, pos, index, height)?;
+        let more = tally_index(alloc, tally, region, pos, index, height)?;
         left_out += more;
     }
     Ok(left_out)

@@ -84,7 +84,7 @@ fn blocks_of_a_chunk(rt: HostRuntime) -> Result<(), Fail> {
     expect_lines(&rt, alloc, &found, Some(&rules), LINES)
 }
 
-/// The third chunk is not that of its place, the fourth is not full, and the fifth file is cut short.
+/// The third chunk is not that of its position, the fourth is not full, and the fifth file is cut short.
 #[test]
 fn chunks_that_are_left_out(rt: HostRuntime) -> Result<(), Fail> {
     let alloc = rt.alloc();

@@ -4,8 +4,8 @@ use Rattle.std.specs.Prelude.{int_le, int_lt}
 use Rattle.std.proofs.lemmas.Int.{ints}
 use Rattle.std.proofs.lemmas.Bool.{false_from_ne_true}
 use Rattle.av_document.proofs.Numbers.{le_and_lt_from}
-use Rattle.av_types.specs.Places.{IsSectionOf, is_section_of, section_index}
-use Rattle.av_types.specs.declared.place.Height.{Height}
+use Rattle.av_types.specs.Positions.{IsSectionOf, is_section_of, section_index}
+use Rattle.av_types.specs.declared.position.Height.{Height}
 
 tested : (a b c d : ℤ) → a ≤ℤ b → c <ℤ d → int_le a b && int_lt c d ≡ true
 tested a b c d p q = grind (arith, ints)

@@ -2,10 +2,10 @@
 use Rattle.std.specs.Prelude.{◌≡◌, ℤ, List, length, None, true, false, IsSome}
 use Rattle.std.specs.List.{All}
 use Rattle.av_types.specs.Faults.{IsRefusal}
-use Rattle.av_types.specs.Places.{is_section_of}
-use Rattle.av_types.specs.declared.place.Pos.{Pos}
-use Rattle.av_types.specs.declared.place.ChunkPos.{ChunkPos}
-use Rattle.av_types.specs.declared.place.Height.{Height}
+use Rattle.av_types.specs.Positions.{is_section_of}
+use Rattle.av_types.specs.declared.position.Pos.{Pos}
+use Rattle.av_types.specs.declared.position.ChunkPos.{ChunkPos}
+use Rattle.av_types.specs.declared.position.Height.{Height}
 use Rattle.av_types.specs.declared.fault.Fault.{Fault}
 use Rattle.av_tags.specs.Nbt.{Document, NamedTag}
 use Rattle.av_tags.specs.Shape.{lacks}
@@ -37,7 +37,7 @@ pub record IsLoaded (c : ChunkPos) (h : Height) (d : Document) (old new : List B
   pub within : All (λ e. lies_in c h e.pos ≡ true) (entries chunk.ticks)
   pub ints : All (HasInts 0) (entries chunk.ticks)
   pub pending : (p : Pos) → lies_in c h p ≡ true → pending_in h chunk p ≡ is_pending p (entries chunk.ticks)
-  pub place_is : rest.place ≡ c
+  pub pos_is : rest.pos ≡ c
   pub height_is : rest.height ≡ h
   pub states : new ≡ with_states old (all_states h (root_tags d))
 
@@ -51,13 +51,13 @@ abbrev pub IsReading : ChunkPos → Height → Document → List BlockState → 
 IsReading c h d old new (Full chunk rest) = IsLoaded c h d old new chunk rest
 IsReading c h d old new Kept = IsKept c h d old new
 
--- a chunk that is to be loaded, and at its place: if it has a fault, then one of its sections, its ticks or the table
+-- a chunk that is to be loaded, and is at its position: if it has a fault, then one of its sections, its ticks or the table
 pub record IsAdmitted (h : Height) (c : ChunkPos) (root : List NamedTag) : Type 0 where
   pub level : has_level root ≡ false
   pub status : lacks (status_of root) ≡ false
   pub full : is_full root ≡ true
   pub shape : is_bad_chunk h root ≡ false
-  pub place : is_elsewhere c root ≡ false
+  pub here : is_elsewhere c root ≡ false
 
 -- every fault but memory is the first that holds
 abbrev pub IsChunkRefusal : ChunkPos → Height → Document → List BlockState → Fault → Type 0

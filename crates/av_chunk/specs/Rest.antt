@@ -1,8 +1,8 @@
 -- What a chunk keeps beside its cells, its entries and its light, from where it lies in memory.
 use Rattle.std.specs.Prelude.{ℕ, ℤ, List, [], ◌∷◌, map, Option, Some, None, codes, slice_index_or, if◌then◌else◌}
 use Rattle.std.specs.Ordering.{int_eq}
-use Rattle.av_types.specs.Places.{is_section_of, section_index}
-use Rattle.av_types.specs.declared.place.Height.{Height}
+use Rattle.av_types.specs.Positions.{is_section_of, section_index}
+use Rattle.av_types.specs.declared.position.Height.{Height}
 use Rattle.av_tags.specs.Nbt.{Nbt, byte, NamedTag}
 use Rattle.av_tags.specs.Shape.{compound_of, or_else}
 use Rattle.av_tags.specs.View.{views, named_views}

@@ -9,7 +9,7 @@ use std::process::Abort;
 use std::test::Fail;
 
 /// The root's begin: `xPos` and `zPos` of -1.
-pub(crate) const PLACE: &[u8] =
+pub(crate) const POSITION: &[u8] =
     b"\x0a\x00\x00\x03\x00\x04xPos\xff\xff\xff\xff\x03\x00\x04zPos\xff\xff\xff\xff";
 
 pub(crate) const FULL: &[u8] = b"\x08\x00\x06Status\x00\x04full";
@@ -30,7 +30,7 @@ pub(crate) const WATER_17: &[u8] =
 const ENDS: &[u8] = b"\x00\x00\x00";
 
 /// The root's begin, with an `xPos` of -2.
-const OTHER_PLACE: &[u8] =
+const OTHER_POSITION: &[u8] =
     b"\x0a\x00\x00\x03\x00\x04xPos\xff\xff\xff\xfe\x03\x00\x04zPos\xff\xff\xff\xff";
 
 const NO_SECTIONS: &[u8] = b"\x09\x00\x08sections\x0a\x00\x00\x00\x00";
@@ -100,7 +100,7 @@ fn region_of(
     longs: u16,
     fill: u8,
 ) -> Result<Vec<u8>, AllocError> {
-    let mut payload = joined(alloc, &[PLACE, FULL, SECTIONS, FOURTH])?;
+    let mut payload = joined(alloc, &[POSITION, FULL, SECTIONS, FOURTH])?;
     push_palette(&mut payload, count, last)?;
     push_longs(&mut payload, longs, fill)?;
     payload.extend_from_slice(ENDS)?;
@@ -201,9 +201,9 @@ fn expect_bad(rt: &impl Abort, alloc: Global, payload: &[u8], fault: &Fault) -> 
 #[test]
 fn chunks_that_are_not_read(rt: HostRuntime) -> Result<(), Fail> {
     let no_status: &[u8] = b"\x0a\x00\x00\x00";
-    let no_place: &[u8] = b"\x0a\x00\x00\x08\x00\x06Status\x00\x04full\x00";
+    let no_position: &[u8] = b"\x0a\x00\x00\x08\x00\x06Status\x00\x04full\x00";
     let old: &[u8] = b"\x0a\x00\x00\x01\x00\x05Level\x00\x00";
-    for payload in [no_status, no_place] {
+    for payload in [no_status, no_position] {
         expect_bad(&rt, rt.alloc(), payload, &Fault::BadChunk)?;
     }
     expect_bad(&rt, rt.alloc(), b"\x0a\x00\x00", &Fault::BadNbt)?;
@@ -233,25 +233,33 @@ fn expect_first(
 #[test]
 fn a_wrong_place_comes_after_a_missing_list(rt: HostRuntime) -> Result<(), Fail> {
     let alloc = rt.alloc();
-    let parts = [OTHER_PLACE, FULL, NO_SECTIONS, END];
+    let parts = [OTHER_POSITION, FULL, NO_SECTIONS, END];
     expect_first(&rt, alloc, parts.as_slice(), &Fault::WrongPlace)?;
-    let parts = [OTHER_PLACE, FULL, END];
+    let parts = [OTHER_POSITION, FULL, END];
     expect_first(&rt, alloc, parts.as_slice(), &Fault::BadChunk)
 }
 
 #[test]
 fn a_bad_palette_comes_after_a_wrong_place(rt: HostRuntime) -> Result<(), Fail> {
     let alloc = rt.alloc();
-    let parts = [OTHER_PLACE, FULL, SECTIONS, FOURTH, PALETTE, NAMELESS, ENDS];
+    let parts = [
+        OTHER_POSITION,
+        FULL,
+        SECTIONS,
+        FOURTH,
+        PALETTE,
+        NAMELESS,
+        ENDS,
+    ];
     expect_first(&rt, alloc, parts.as_slice(), &Fault::WrongPlace)?;
-    let parts = [PLACE, FULL, SECTIONS, FOURTH, PALETTE, NAMELESS, ENDS];
+    let parts = [POSITION, FULL, SECTIONS, FOURTH, PALETTE, NAMELESS, ENDS];
     expect_first(&rt, alloc, parts.as_slice(), &Fault::BadPalette)
 }
 
 #[test]
 fn a_bad_palette_comes_before_bad_longs(rt: HostRuntime) -> Result<(), Fail> {
     let parts = [
-        PLACE,
+        POSITION,
         FULL,
         TWO_SECTIONS,
         THIRD,
@@ -271,7 +279,7 @@ fn a_bad_palette_comes_before_bad_longs(rt: HostRuntime) -> Result<(), Fail> {
 #[test]
 fn ticks_out_of_the_chunk_and_of_nothing(rt: HostRuntime) -> Result<(), Fail> {
     for tick in [TICK_OUTSIDE, TICK_OF_NOTHING] {
-        let parts = [PLACE, FULL, tick, NO_SECTIONS, END];
+        let parts = [POSITION, FULL, tick, NO_SECTIONS, END];
         expect_first(&rt, rt.alloc(), parts.as_slice(), &Fault::BadTick)?;
     }
     Ok(())
@@ -280,7 +288,7 @@ fn ticks_out_of_the_chunk_and_of_nothing(rt: HostRuntime) -> Result<(), Fail> {
 #[test]
 fn bad_longs_come_before_a_bad_tick(rt: HostRuntime) -> Result<(), Fail> {
     let parts = [
-        PLACE,
+        POSITION,
         FULL,
         TICK_OUTSIDE,
         SECTIONS,
@@ -296,7 +304,7 @@ fn bad_longs_come_before_a_bad_tick(rt: HostRuntime) -> Result<(), Fail> {
 #[test]
 fn a_bad_tick_comes_before_a_bad_level(rt: HostRuntime) -> Result<(), Fail> {
     let parts = [
-        PLACE,
+        POSITION,
         FULL,
         TICK_OF_NOTHING,
         SECTIONS,
@@ -306,6 +314,6 @@ fn a_bad_tick_comes_before_a_bad_level(rt: HostRuntime) -> Result<(), Fail> {
         ENDS,
     ];
     expect_first(&rt, rt.alloc(), parts.as_slice(), &Fault::BadTick)?;
-    let parts = [PLACE, FULL, SECTIONS, FOURTH, PALETTE, WATER_17, ENDS];
+    let parts = [POSITION, FULL, SECTIONS, FOURTH, PALETTE, WATER_17, ENDS];
     expect_first(&rt, rt.alloc(), parts.as_slice(), &Fault::BadWaterLevel)
 }

@@ -1,5 +1,5 @@
 //! Chunks of more states than a table takes.
-use crate::blocks::{AIR, FULL, PLACE, STONE, TICK_OF_NOTHING, WATER_17, joined};
+use crate::blocks::{AIR, FULL, POSITION, STONE, TICK_OF_NOTHING, WATER_17, joined};
 use crate::expecting::{expect_equal, expect_true};
 use crate::parts::fault_of;
 use av_types::Fault;
@@ -39,7 +39,7 @@ fn push_zeros(payload: &mut Vec<u8>) -> Result<(), AllocError> {
 /// The begin of a chunk of 16 sections, with 15 of them, of 4,096 states each.
 fn full_sections(alloc: Global) -> Result<Vec<u8>, AllocError> {
     let sixteen = b"\x09\x00\x08sections\x0a\x00\x00\x00\x10";
-    let mut payload = joined(alloc, &[PLACE, FULL, sixteen])?;
+    let mut payload = joined(alloc, &[POSITION, FULL, sixteen])?;
     let mut name = 0u16;
     for y in 0..15 {
         push_section(&mut payload, y, 4096)?;

@@ -28,20 +28,20 @@ use std::test::Fail;
 /// The most bytes that a region's sectors hold of a chunk.
 pub(crate) const MOST_BYTES: usize = 1_044_475;
 
-const PLACE: ChunkPos = ChunkPos { x: 1, z: -2 };
+const POSITION: ChunkPos = ChunkPos { x: 1, z: -2 };
 
 pub(crate) const LOW: Height = Height {
     min_section: 0,
     sections: 16,
 };
 
-/// What the chunk that bytes spell is read as, at its place.
+/// What the chunk that bytes spell is read as, at its position.
 pub(crate) fn read(alloc: Global, bytes: &[u8], height: Height) -> Result<Reading, Fault>
     requires { length bytes.now ≤ 1044475 }
 {
     let root = decode(alloc, bytes)?;
     let mut table = StateTable::new(alloc)?;
-    read_chunk(alloc, root, PLACE, height, &mut table)
+    read_chunk(alloc, root, POSITION, height, &mut table)
 }
 
 /// The kinds of a table's states.
@@ -117,7 +117,7 @@ pub(crate) fn rewritten_after(
     };
     let root = decode(alloc, bytes)?;
     let mut table = StateTable::new(alloc)?;
-    let reading = read_chunk(alloc, root, PLACE, height, &mut table)?;
+    let reading = read_chunk(alloc, root, POSITION, height, &mut table)?;
     let Reading::Full { chunk, rest } = reading else {
         return Err(Fail::new("a chunk that is not full"));
     };

@@ -17,19 +17,19 @@ use std::alloc::Global;
 use std::process::Abort;
 use std::test::Fail;
 
-const PLACE: ChunkPos = ChunkPos { x: 1, z: -2 };
+const POSITION: ChunkPos = ChunkPos { x: 1, z: -2 };
 
 const TWO: Height = Height {
     min_section: 0,
     sections: 2,
 };
 
-/// What the chunk that bytes spell is read as, at its place.
+/// What the chunk that bytes spell is read as, at its position.
 fn read(alloc: Global, bytes: &[u8], table: &mut StateTable) -> Result<Reading, Fault>
     requires { length bytes.now ≤ 1044475 }
 {
     let root = decode(alloc, bytes)?;
-    read_chunk(alloc, root, PLACE, TWO, table)
+    read_chunk(alloc, root, POSITION, TWO, table)
 }
 
 /// The same, where a table knows its states.
@@ -37,7 +37,7 @@ fn read_by_known(alloc: Global, bytes: &[u8], table: &StateTable) -> Result<Opti
     requires { length bytes.now ≤ 1044475 }
 {
     let root = decode(alloc, bytes)?;
-    Ok(read_known(alloc, root, PLACE, TWO, table)?)
+    Ok(read_known(alloc, root, POSITION, TWO, table)?)
 }
 
 /// A table with the states of the chunk that bytes spell.

@@ -26,7 +26,7 @@ pub enum Part<'a> {
     End,
 }
 
-/// The place of chunk (-1, -1).
+/// The tags of the position of chunk (-1, -1).
 pub const X: Part<'static> = Part::Int("xPos", -1);
 
 pub const Z: Part<'static> = Part::Int("zPos", -1);

@@ -38,7 +38,7 @@ fn expect_bad_nbt(rt: &impl Abort, alloc: Global, payload: &[u8], x: i32, z: i32
     expect_equal(rt, sections_of(alloc, payload, x, z), Err(Fault::BadNbt));
 }
 
-/// A chunk whose making has begun is kept, at whichever place.
+/// A chunk whose making has begun is kept, wherever it stands.
 fn expect_kept(rt: &impl Abort, alloc: Global, x: i32, z: i32) {
     expect_equal(rt, sections_of(alloc, BEGUN, x, z), Ok(None));
 }
@@ -51,7 +51,7 @@ fn payloads_are_read_as_their_documents(rt: HostRuntime) {
     // x before z: (2, -1) is another chunk.
     expect_equal(&rt, sections_of(alloc, FULL, 2, -1), Err(Fault::WrongPlace));
     expect_kept(&rt, alloc, -1, 2);
-    // A chunk that is kept is at no place.
+    // A chunk that is kept has no position.
     expect_kept(&rt, alloc, 2, -1);
 }
 

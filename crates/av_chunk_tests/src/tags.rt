@@ -2,7 +2,7 @@
 use crate::pieces::Piece;
 use crate::pieces::Piece::Bytes;
 
-/// A root's begin, with its place and its `Status`.
+/// A root's begin, with its position and its `Status`.
 pub(crate) const ROOT: Piece<'static> = Bytes(
     b"\x0a\x00\x00\x03\x00\x04xPos\x00\x00\x00\x01\x03\x00\x04zPos\xff\xff\xff\xfe\x08\x00\x06Status\x00\x04full",
 );

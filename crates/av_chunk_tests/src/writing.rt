@@ -8,7 +8,7 @@ use std::alloc::{AllocError, Global};
 use std::process::Abort;
 use std::test::Fail;
 
-/// The place of the chunks.
+/// The position of the chunks.
 const X: Part<'static> = Int("xPos", 1);
 
 const Z: Part<'static> = Int("zPos", -2);
@@ -79,7 +79,7 @@ fn expect(rt: &impl Abort, alloc: Global, bytes: &[u8], want: &[u8]) -> Result<(
     Ok(())
 }
 
-/// Whatever its place is, and before all entries of water.
+/// Wherever it stands, and before all entries of water.
 #[test]
 fn water_with_another_tag_is_kept_and_not_run(rt: HostRuntime) -> Result<(), Fail> {
     for x in [16, 0] {

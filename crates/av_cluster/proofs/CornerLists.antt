@@ -4,10 +4,10 @@ use Rattle.std.specs.List.{Contains}
 use Rattle.std.proofs.lemmas.List.{append-nil, take_more}
 use Rattle.std.proofs.lemmas.List.Elements.{Contains-append_cases, Contains-append_left, Contains-append_right, Contains-push, Contains-push_cases}
 use Rattle.std.proofs.lemmas.Option.{slice_get-get_or, get_or_from_slice_get}
-use Rattle.av_types.specs.declared.place.Pos.{Pos}
-use Rattle.av_types.specs.declared.place.SectionPos.{SectionPos}
+use Rattle.av_types.specs.declared.position.Pos.{Pos}
+use Rattle.av_types.specs.declared.position.SectionPos.{SectionPos}
 use Rattle.av_types.specs.declared.tick.Entry.{Entry}
-use Rattle.av_types.specs.Places.{section_of}
+use Rattle.av_types.specs.Positions.{section_of}
 use Rattle.av_cells.specs.Grid.{Grid, is_here, cells_of}
 use Rattle.av_play.specs.Parts.{InTerritory}
 use Rattle.av_play.specs.Corners.{corner}
@@ -15,7 +15,7 @@ use Rattle.av_play.proofs.Corners.{by_corners}
 use Rattle.av_play.proofs.Lists.{none_contained}
 use Rattle.av_cluster.specs.Territory.{is_new, one_if, at_column, at_side, territory_list, corner_if, column_if, side_if, corner_list, sections_there, MeetSameSections}
 use Rattle.av_cluster.specs.Forest.{AreJoined}
-use Rattle.av_cluster.specs.Joining.{Owners, Touches, ArePlacesLinked, IsTouchedIf, IsNoted, IsBefore}
+use Rattle.av_cluster.specs.Joining.{Owners, Touches, AreIndicesLinked, IsTouchedIf, IsNoted, IsBefore}
 use Rattle.av_cluster.proofs.Sides.{territory_exact}
 use Rattle.av_cluster.proofs.Joinings.{linked_by, around_itself, noted_beside, IsWithin, within_more, within_all, taken_all}
 
@@ -96,34 +96,34 @@ module _ (g : Grid) where
           (subst (λ b. Contains (one_if b (section_of c)) (section_of c)) (sym h) (Contains-push [] (section_of c))))
 
 -- the next corner of an entry's reach
-module _ (g : Grid) (es : List Entry) (place : ℕ) (d : Entry) (inside : place < length es) where
+module _ (g : Grid) (es : List Entry) (index : ℕ) (d : Entry) (inside : index < length es) where
   abbrev at : Pos
-  at = (get_or es place d).pos
+  at = (get_or es index d).pos
 
   -- the section of a corner, where it is there, is in the territory
-  corner_touches : (c : Pos) → Contains (corner_list at) c → is_here (g (section_of c)) ≡ true → Touches (cells_of g) es place (section_of c)
-  corner_touches c m h = record { entry = get_or es place d; is_at = slice_get-get_or es place d inside; territory = (there_exact g at (section_of c)).0 (there_contains g (corner_list at) c m h) }
+  corner_touches : (c : Pos) → Contains (corner_list at) c → is_here (g (section_of c)) ≡ true → Touches (cells_of g) es index (section_of c)
+  corner_touches c m h = record { entry = get_or es index d; is_at = slice_get-get_or es index d inside; territory = (there_exact g at (section_of c)).0 (there_contains g (corner_list at) c m h) }
 
-  pub corner_noted : (old new : List ℕ) (was now : Owners) (cs ds : List Pos) (c : Pos) → ds ≡ cs ++ c ∷ [] → Contains (corner_list at) c → IsNoted (cells_of g) es old was (IsWithin (cells_of g) es place (sections_there g cs))
-      → IsTouchedIf (is_here (g (section_of c))) old new was now (section_of c) place → IsNoted (cells_of g) es new now (IsWithin (cells_of g) es place (sections_there g ds))
+  pub corner_noted : (old new : List ℕ) (was now : Owners) (cs ds : List Pos) (c : Pos) → ds ≡ cs ++ c ∷ [] → Contains (corner_list at) c → IsNoted (cells_of g) es old was (IsWithin (cells_of g) es index (sections_there g cs))
+      → IsTouchedIf (is_here (g (section_of c))) old new was now (section_of c) index → IsNoted (cells_of g) es new now (IsWithin (cells_of g) es index (sections_there g ds))
   corner_noted old new was now cs ds c e m n = by (is_here (g (section_of c))) refl where
     is : sections_there g ds ≡ sections_there g cs ++ one_if (is_here (g (section_of c))) (section_of c)
     is = ap (sections_there g) e ∙ there_push g cs c
 
-    by : (b : Bool) → is_here (g (section_of c)) ≡ b → IsTouchedIf b old new was now (section_of c) place → IsNoted (cells_of g) es new now (IsWithin (cells_of g) es place (sections_there g ds))
+    by : (b : Bool) → is_here (g (section_of c)) ≡ b → IsTouchedIf b old new was now (section_of c) index → IsNoted (cells_of g) es new now (IsWithin (cells_of g) es index (sections_there g ds))
     by true h t =
-        within_more (cells_of g) es old new was now place (sections_there g cs) (sections_there g ds) (section_of c) (is ∙ ap (λ b. sections_there g cs ++ one_if b (section_of c)) h) n (corner_touches c m h) t
+        within_more (cells_of g) es old new was now index (sections_there g cs) (sections_there g ds) (section_of c) (is ∙ ap (λ b. sections_there g cs ++ one_if b (section_of c)) h) n (corner_touches c m h) t
     by false h t =
         let same : sections_there g ds ≡ sections_there g cs = is ∙ ap (λ b. sections_there g cs ++ one_if b (section_of c)) h ∙ append-nil (sections_there g cs) in
-        subst (λ ps. IsNoted (cells_of g) es ps now (IsWithin (cells_of g) es place (sections_there g ds))) (sym t.0)
-        (subst (λ os. IsNoted (cells_of g) es old os (IsWithin (cells_of g) es place (sections_there g ds))) (sym t.1)
-        (subst (λ l. IsNoted (cells_of g) es old was (IsWithin (cells_of g) es place l)) (sym same) n))
+        subst (λ ps. IsNoted (cells_of g) es ps now (IsWithin (cells_of g) es index (sections_there g ds))) (sym t.0)
+        (subst (λ os. IsNoted (cells_of g) es old os (IsWithin (cells_of g) es index (sections_there g ds))) (sym t.1)
+        (subst (λ l. IsNoted (cells_of g) es old was (IsWithin (cells_of g) es index l)) (sym same) n))
 
-  pub corners_noted : (ps : List ℕ) (owners : Owners) (cs : List Pos) → cs ≡ corner_list at → (i : ℕ) → i ≡ length cs → IsNoted (cells_of g) es ps owners (IsWithin (cells_of g) es place (sections_there g (take i cs)))
-      → IsNoted (cells_of g) es ps owners (IsBefore (cells_of g) es (place + 1))
+  pub corners_noted : (ps : List ℕ) (owners : Owners) (cs : List Pos) → cs ≡ corner_list at → (i : ℕ) → i ≡ length cs → IsNoted (cells_of g) es ps owners (IsWithin (cells_of g) es index (sections_there g (take i cs)))
+      → IsNoted (cells_of g) es ps owners (IsBefore (cells_of g) es (index + 1))
   corners_noted ps owners cs e i l n =
-      within_all (cells_of g) es ps owners place (sections_there g (corner_list at)) (get_or es place d) (slice_get-get_or es place d inside) (there_exact g at)
-      (subst (λ xs. IsNoted (cells_of g) es ps owners (IsWithin (cells_of g) es place (sections_there g xs))) (taken_all cs i l ∙ e) n)
+      within_all (cells_of g) es ps owners index (sections_there g (corner_list at)) (get_or es index d) (slice_get-get_or es index d inside) (there_exact g at)
+      (subst (λ xs. IsNoted (cells_of g) es ps owners (IsWithin (cells_of g) es index (sections_there g xs))) (taken_all cs i l ∙ e) n)
 
 -- an element of a list
 pub item_of : (xs ys : List Pos) → xs ≡ ys → (i : ℕ) → i < length xs → (d : Pos) → Contains ys (get_or xs i d)
@@ -140,22 +140,22 @@ module _ (g : Grid) where
       let h = (by_corners g b s).0 t in
       (by_corners g a s).1 (record { here = h.here; east = h.east; high = h.high; south = h.south; lies = m.corners h.east h.high h.south ∙ h.lies })
 
-  pub beside_noted : (es : List Entry) (d : Entry) (b place : ℕ) (old new : List ℕ) (owners : Owners) → b < place → place < length es → MeetSameSections (get_or es b d).pos (get_or es place d).pos
-      → IsTrue ((cells_of g).loaded (get_or es place d).pos) → IsNoted (cells_of g) es old owners (IsBefore (cells_of g) es place) → AreJoined old new b place → IsNoted (cells_of g) es new owners (IsBefore (cells_of g) es (place + 1))
-  beside_noted es d b place old new owners less inside m loaded h j = noted_beside (cells_of g) es old new owners b place h less inside j same link where
+  pub beside_noted : (es : List Entry) (d : Entry) (b index : ℕ) (old new : List ℕ) (owners : Owners) → b < index → index < length es → MeetSameSections (get_or es b d).pos (get_or es index d).pos
+      → IsTrue ((cells_of g).loaded (get_or es index d).pos) → IsNoted (cells_of g) es old owners (IsBefore (cells_of g) es index) → AreJoined old new b index → IsNoted (cells_of g) es new owners (IsBefore (cells_of g) es (index + 1))
+  beside_noted es d b index old new owners less inside m loaded h j = noted_beside (cells_of g) es old new owners b index h less inside j same link where
     entry_is : (n : ℕ) (x : Entry) → n < length es → slice_get es n ≡ Some x → x ≡ get_or es n d
     entry_is n x l e = sym (get_or_from_slice_get es n x d e)
 
-    same : (s : SectionPos) → Touches (cells_of g) es place s → Touches (cells_of g) es b s
+    same : (s : SectionPos) → Touches (cells_of g) es index s → Touches (cells_of g) es b s
     same s t =
         record {
           entry = get_or es b d;
           is_at = slice_get-get_or es b d (omega (arith, less, inside));
-          territory = same_territory (get_or es b d).pos (get_or es place d).pos m s (subst (λ (x : Entry). InTerritory (cells_of g) x.pos s) (entry_is place t.entry inside t.is_at) t.territory);
+          territory = same_territory (get_or es b d).pos (get_or es index d).pos m s (subst (λ (x : Entry). InTerritory (cells_of g) x.pos s) (entry_is index t.entry inside t.is_at) t.territory);
         }
 
-    itself : Touches (cells_of g) es place (section_of (get_or es place d).pos)
-    itself = around_itself (cells_of g) es place (get_or es place d) (slice_get-get_or es place d inside) loaded
+    itself : Touches (cells_of g) es index (section_of (get_or es index d).pos)
+    itself = around_itself (cells_of g) es index (get_or es index d) (slice_get-get_or es index d inside) loaded
 
-    link : ArePlacesLinked (cells_of g) es place b
-    link = linked_by (cells_of g) es place b (section_of (get_or es place d).pos) itself (same (section_of (get_or es place d).pos) itself)
+    link : AreIndicesLinked (cells_of g) es index b
+    link = linked_by (cells_of g) es index b (section_of (get_or es index d).pos) itself (same (section_of (get_or es index d).pos) itself)

@@ -14,7 +14,7 @@ use Rattle.std.proofs.lemmas.Map.Entries.{lookup_from_place, length-keys_of}
 use Rattle.std.proofs.lemmas.Map.Keys.{IsDistinct-from_apart}
 use Rattle.std.proofs.lemmas.Option.{slice_get-get_or, slice_get_within, get_or_from_slice_get}
 use Rattle.std.proofs.Math.Seq.{get_or-append_seam}
-use Rattle.av_types.specs.declared.place.SectionPos.{SectionPos}
+use Rattle.av_types.specs.declared.position.SectionPos.{SectionPos}
 use Rattle.av_cluster.specs.Indices.{key_cmp, AreIndexed}
 use Rattle.av_cluster.specs.Joining.{key_of, same_key, owner_in}
 use Rattle.av_cluster.proofs.Joinings.{same_keyed}
@@ -40,7 +40,7 @@ key_is a b e = ap key_of (same_keyed (record { x = a.0; y = a.1; z = a.2 }) (rec
 pub are_distinct : (ks : List Key) → AllPairs (λ a b. same_key a b ≡ false) ks → IsDistinct same_key ks
 are_distinct ks h = IsDistinct-from_apart same_key ks (λ i j d l m. h i j d l m)
 
--- the entry at a place is the one that is found by its key
+-- the entry at an index is the one that is found by its key
 pub stands : (es : List (Key × ℕ)) (i : ℕ) (x : Key × ℕ) → IsDistinct same_key (keys_of es) → i < length es → x ≡ get_or es i x → lookup (same_key x.0) es ≡ Some x.1
 stands es i x h low at = lookup_from_place same_laws es i x.0 x.1 h (slice_get-get_or es i x low ∙ ap Some (sym at))
 

@@ -5,11 +5,11 @@ use Rattle.std.proofs.lemmas.List.{get_or-set_same, get_or-set_other, length-map
 use Rattle.std.proofs.lemmas.List.Elements.{Contains-append_left, Contains-push, Contains-push_cases}
 use Rattle.std.proofs.lemmas.Bool.{cases_eq}
 use Rattle.std.proofs.lemmas.Option.{same_Some}
-use Rattle.av_types.specs.declared.place.SectionPos.{SectionPos}
+use Rattle.av_types.specs.declared.position.SectionPos.{SectionPos}
 use Rattle.av_play.proofs.Lists.{none_contained}
 use Rattle.av_cluster.specs.Joining.{key_of, Owners}
 use Rattle.av_cluster.specs.Clusters.{parts_of, sections_of, IsGiven, AreBare, IsSharedTo, AreShared}
-use Rattle.av_play.specs.declared.event.Placed.{Placed}
+use Rattle.av_play.specs.declared.event.DueEntry.{DueEntry}
 use Rattle.av_cluster.specs.declared.cluster_part.Cluster.{Cluster}
 
 pub bare_more : (xs : List (List SectionPos)) → AreBare xs → AreBare (xs ++ [] ∷ [])
@@ -74,5 +74,5 @@ module _ (owners : Owners) (numbers : List ℕ) (ks : List (ℤ × ℤ × ℤ)) 
     by None f i = shared_not f i
     by (Some o) f i = shared_given o f (inside o f) i
 
-pub part_inside : (cs : List Cluster) (ps : List (List Placed)) (n : ℕ) → parts_of cs ≡ ps → n < length ps → n < length (sections_of cs)
+pub part_inside : (cs : List Cluster) (ps : List (List DueEntry)) (n : ℕ) → parts_of cs ≡ ps → n < length ps → n < length (sections_of cs)
 part_inside cs ps n e l = let a = length-map cs (λ u. u.sections.items) in let b = length-map cs (λ u. u.entries.items) in let d = ap length e in omega arith

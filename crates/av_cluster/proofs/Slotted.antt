@@ -12,7 +12,7 @@ use Rattle.std.proofs.Math.Seq.{get_or-append_seam}
 use Rattle.std.proofs.Math.Bool.{and_assoc}
 use Rattle.av_cluster.specs.Indices.{key_cmp, slot_of, index_by, index_in, AreIndexed, AreSlots}
 use Rattle.av_cluster.specs.Joining.{key_of, same_key}
-use Rattle.av_types.specs.declared.place.SectionPos.{SectionPos}
+use Rattle.av_types.specs.declared.position.SectionPos.{SectionPos}
 use Rattle.av_cluster.proofs.Indexed.{Key, cmp_tells, key_is, same_laws, found_owner, indexed_more, keys_more}
 
 by_others : (n : ℕ) (ks : List Key) (f g : Key → Option ℕ) (q : Key) → g q ≡ f q → index_by n ks g q ≡ index_by n ks f q
@@ -59,14 +59,14 @@ module _ (slots : List ℕ) (f : Key → Option ℕ) (es : List (Key × ℕ)) (k
   abbrev ks : List Key
   ks = keys_of es
 
-  abbrev place : Key → ℕ
-  place q = slot_of (length slots) q
+  abbrev slot : Key → ℕ
+  slot q = slot_of (length slots) q
 
-  placed : (q : Key) → place q < length slots
-  placed q = mod_below _ (length slots) s.some
+  in_slots : (q : Key) → slot q < length slots
+  in_slots q = mod_below _ (length slots) s.some
 
-  within_at : (q : Key) → get_or slots (place q) 0 ≤ length ks
-  within_at q = omega (arith, s.within (place q) 0 (placed q), length-keys_of es)
+  within_at : (q : Key) → get_or slots (slot q) 0 ≤ length ks
+  within_at q = omega (arith, s.within (slot q) 0 (in_slots q), length-keys_of es)
 
   -- the key was not found
   fresh : index_in slots ks f k ≡ None
@@ -84,7 +84,7 @@ module _ (slots : List ℕ) (f : Key → Option ℕ) (es : List (Key × ℕ)) (k
 
   -- ---- the slot is taken, and the tree has the key
 
-  module _ (g : Key → Option ℕ) (full : get_or slots (place k) 0 ≢ 0) (says : (q : Key) → g q ≡ cond (is_eq (key_cmp k q)) (Some (length es)) (f q)) where
+  module _ (g : Key → Option ℕ) (full : get_or slots (slot k) 0 ≢ 0) (says : (q : Key) → g q ≡ cond (is_eq (key_cmp k q)) (Some (length es)) (f q)) where
     told : (q : Key) (b : Bool) → same_key k q ≡ b → g q ≡ cond b (Some (length es)) (f q)
     told q b e = says q ∙ ap (λ c. cond c (Some (length es)) (f q)) (cmp_tells k q ∙ e)
 
@@ -92,9 +92,9 @@ module _ (slots : List ℕ) (f : Key → Option ℕ) (es : List (Key × ℕ)) (k
     index_full q = by (same_key k q) refl where
       by : (b : Bool) → same_key k q ≡ b → index_in slots (ks ++ k ∷ []) g q ≡ cond b (Some (length es)) (index_in slots ks f q)
       by true e =
-          let own = taken (get_or slots (place k) 0) ks k f g (length es) full (within_at k) fresh (told k true (same_laws.refl k)) in
+          let own = taken (get_or slots (slot k) 0) ks k f g (length es) full (within_at k) fresh (told k true (same_laws.refl k)) in
           subst (λ p. index_in slots (ks ++ k ∷ []) g p ≡ Some (length es)) (same q e) own
-      by false e = by_more (get_or slots (place q) 0) ks k g q (within_at q) ∙ by_others (get_or slots (place q) 0) ks f g q (told q false e)
+      by false e = by_more (get_or slots (slot q) 0) ks k g q (within_at q) ∙ by_others (get_or slots (slot q) 0) ks f g q (told q false e)
 
     pub slots_full : AreSlots slots g (es ++ (k, o) ∷ [])
     slots_full = record {
@@ -104,42 +104,42 @@ module _ (slots : List ℕ) (f : Key → Option ℕ) (es : List (Key × ℕ)) (k
       indexed = subst (λ l. AreIndexed (index_in slots l g) (es ++ (k, o) ∷ [])) (sym (keys_more (index_in slots ks f) (index_in slots (ks ++ k ∷ []) g) es k o a none index_full)) (indexed_more (index_in slots ks f) (index_in slots (ks ++ k ∷ []) g) es k o a none index_full);
     }
       where
-        free : (q : Key) → get_or slots (place q) 0 ≡ 0 → (b : Bool) → same_key k q ≡ b → g q ≡ None
-        free q e true h = absurd (full (ap (λ p. get_or slots (place p) 0) (same q h) ∙ e))
+        free : (q : Key) → get_or slots (slot q) 0 ≡ 0 → (b : Bool) → same_key k q ≡ b → g q ≡ None
+        free q e true h = absurd (full (ap (λ p. get_or slots (slot p) 0) (same q h) ∙ e))
         free q e false h = told q false h ∙ s.free q e
 
   -- ---- the slot is free, and has the key
 
-  module _ (empty : get_or slots (place k) 0 ≡ 0) where
+  module _ (empty : get_or slots (slot k) 0 ≡ 0) where
     abbrev now : List ℕ
-    now = set slots (place k) (length es + 1)
+    now = set slots (slot k) (length es + 1)
 
     long : length now ≡ length slots
-    long = length-set slots (place k) (length es + 1)
+    long = length-set slots (slot k) (length es + 1)
 
-    here : (q : Key) → place q ≡ place k → get_or now (place q) 0 ≡ length es + 1
-    here q e = ap (λ p. get_or now p 0) e ∙ get_or-set_same slots (place k) (length es + 1) 0 (placed k)
+    here : (q : Key) → slot q ≡ slot k → get_or now (slot q) 0 ≡ length es + 1
+    here q e = ap (λ p. get_or now p 0) e ∙ get_or-set_same slots (slot k) (length es + 1) 0 (in_slots k)
 
-    there : (q : Key) → place q ≢ place k → get_or now (place q) 0 ≡ get_or slots (place q) 0
-    there q ne = get_or-set_other slots (place k) (place q) (length es + 1) 0 ne
+    there : (q : Key) → slot q ≢ slot k → get_or now (slot q) 0 ≡ get_or slots (slot q) 0
+    there q ne = get_or-set_other slots (slot k) (slot q) (length es + 1) 0 ne
 
-    index_now : (q : Key) → index_by (get_or now (place q) 0) (ks ++ k ∷ []) f q ≡ cond (same_key k q) (Some (length es)) (index_in slots ks f q)
-    index_now q = elim (cases_eq (place q) (place k)) [
+    index_now : (q : Key) → index_by (get_or now (slot q) 0) (ks ++ k ∷ []) f q ≡ cond (same_key k q) (Some (length es)) (index_in slots ks f q)
+    index_now q = elim (cases_eq (slot q) (slot k)) [
       | inl e ↦ (
-          let zero_at : get_or slots (place q) 0 ≡ 0 = ap (λ p. get_or slots p 0) e ∙ empty in
-          let next : get_or now (place q) 0 ≡ suc (length es) = here q e ∙ omega arith in
+          let zero_at : get_or slots (slot q) 0 ≡ 0 = ap (λ p. get_or slots p 0) e ∙ empty in
+          let next : get_or now (slot q) 0 ≡ suc (length es) = here q e ∙ omega arith in
           let last : get_or (ks ++ k ∷ []) (length es) q ≡ k = ap (λ n. get_or (ks ++ k ∷ []) n q) (sym (length-keys_of es)) ∙ get_or-append_seam ks k [] q in
           ap (λ n. index_by n (ks ++ k ∷ []) f q) next ∙ ap (λ x. cond (same_key q x) (Some (length es)) (f q)) last
           ∙ ap (λ b. cond b (Some (length es)) (f q)) (same_laws.symm q k) ∙ ap (λ r. cond (same_key k q) (Some (length es)) r) (s.free q zero_at)
           ∙ ap (λ n. cond (same_key k q) (Some (length es)) (index_by n ks f q)) (sym zero_at))
       | inr ne ↦ (
           let apart : same_key k q ≡ false = differ q ne (same_key k q) refl in
-          ap (λ n. index_by n (ks ++ k ∷ []) f q) (there q ne) ∙ by_more (get_or slots (place q) 0) ks k f q (within_at q)
+          ap (λ n. index_by n (ks ++ k ∷ []) f q) (there q ne) ∙ by_more (get_or slots (slot q) 0) ks k f q (within_at q)
           ∙ ap (λ b. cond b (Some (length es)) (index_in slots ks f q)) (sym apart))
     ]
       where
-        differ : (q : Key) → place q ≢ place k → (b : Bool) → same_key k q ≡ b → b ≡ false
-        differ q ne true e = absurd (ne (ap place (sym (same q e))))
+        differ : (q : Key) → slot q ≢ slot k → (b : Bool) → same_key k q ≡ b → b ≡ false
+        differ q ne true e = absurd (ne (ap slot (sym (same q e))))
         differ q ne false e = refl
 
     index_free : (q : Key) → index_in now (ks ++ k ∷ []) f q ≡ cond (same_key k q) (Some (length es)) (index_in slots ks f q)
@@ -148,13 +148,13 @@ module _ (slots : List ℕ) (f : Key → Option ℕ) (es : List (Key × ℕ)) (k
     pub slots_free : AreSlots now f (es ++ (k, o) ∷ [])
     slots_free = record {
       some = omega (arith, long, s.some);
-      within = All-set (λ n. n ≤ length (es ++ (k, o) ∷ [])) slots (place k) (length es + 1) (omega (arith, length-append es ((k, o) ∷ []))) (All-weaker (λ n. n ≤ length es) (λ n. n ≤ length (es ++ (k, o) ∷ [])) (λ n low. omega (arith, low, length-append es ((k, o) ∷ []))) slots s.within);
+      within = All-set (λ n. n ≤ length (es ++ (k, o) ∷ [])) slots (slot k) (length es + 1) (omega (arith, length-append es ((k, o) ∷ []))) (All-weaker (λ n. n ≤ length es) (λ n. n ≤ length (es ++ (k, o) ∷ [])) (λ n low. omega (arith, low, length-append es ((k, o) ∷ []))) slots s.within);
       free = λ q e. free q (ap (λ n. get_or now (slot_of n q) 0) (sym long) ∙ e);
       indexed = subst (λ l. AreIndexed (index_in now l f) (es ++ (k, o) ∷ [])) (sym (keys_more (index_in slots ks f) (index_in now (ks ++ k ∷ []) f) es k o a none index_free)) (indexed_more (index_in slots ks f) (index_in now (ks ++ k ∷ []) f) es k o a none index_free);
     }
       where
-        free : (q : Key) → get_or now (place q) 0 ≡ 0 → f q ≡ None
-        free q e = elim (cases_eq (place q) (place k)) [
+        free : (q : Key) → get_or now (slot q) 0 ≡ 0 → f q ≡ None
+        free q e = elim (cases_eq (slot q) (slot k)) [
           | inl h ↦ absurd (omega (arith, here q h, e))
           | inr ne ↦ s.free q (sym (there q ne) ∙ e)
         ]

@@ -1,18 +1,18 @@
 -- The parts of a plan, each with its entries and its sections.
 use Rattle.std.specs.Prelude.{◌≡◌, ◌↔◌, ℕ, ℤ, List, [], ◌∷◌, ◌++◌, map, false, Option, None, Some, slice_index, slice_set, slice_index_or}
 use Rattle.std.specs.List.{Contains, AllPairs}
-use Rattle.av_types.specs.declared.place.SectionPos.{SectionPos}
+use Rattle.av_types.specs.declared.position.SectionPos.{SectionPos}
 use Rattle.av_types.specs.declared.tick.Entry.{Entry}
 use Rattle.av_cells.specs.Positions.{same_section}
 use Rattle.av_cells.specs.World.{World}
-use Rattle.av_play.specs.declared.event.Placed.{Placed}
+use Rattle.av_play.specs.declared.event.DueEntry.{DueEntry}
 use Rattle.av_play.specs.Parts.{IsPlan, part_at}
 use Rattle.av_play.specs.Laws.{IsOfPart}
 use Rattle.av_cluster.specs.Joining.{key_of, Owners}
 use Rattle.av_cluster.specs.declared.cluster_part.Cluster.{Cluster}
 
 -- the entries of each part
-abbrev pub parts_of : List Cluster → List (List Placed)
+abbrev pub parts_of : List Cluster → List (List DueEntry)
 parts_of cs = map (λ c. c.entries.items) cs
 
 -- the sections of each part

@@ -29,7 +29,7 @@ index_by (suc i) keys others k = if same_key k (slice_index_or keys i k) then So
 abbrev pub index_in : List ℕ → List (ℤ × ℤ × ℤ) → (ℤ × ℤ × ℤ → Option ℕ) → ℤ × ℤ × ℤ → Option ℕ
 index_in slots keys others k = index_by (slice_index slots (slot_of (length slots) k)) keys others k
 
--- there is a slot, each holds a place of the entries, and no key of an empty one stands elsewhere
+-- there is a slot, each holds an index of the entries, and no key of an empty one stands elsewhere
 pub record AreSlots (slots : List ℕ) (others : ℤ × ℤ × ℤ → Option ℕ) (entries : List ((ℤ × ℤ × ℤ) × ℕ)) : Type 0 where
   pub some : 0 < length slots
   pub within : All (λ n. n ≤ length entries) slots

@@ -7,8 +7,8 @@ ghost use Rattle.av_world.specs.Views.{blocks};
 ghost use Rattle.av_cluster.specs.Forest.{first, IsFalling, AreSame};
 ghost use Rattle.av_cluster.specs.Gathering.{IsGathered, AreAlone};
 ghost use Rattle.av_cluster.specs.Clusters.{parts_of, sections_of, IsGiven, AreBare, AreShared, AreOnce, ArePlanned};
-ghost use Rattle.av_types.specs.declared.place.SectionPos.{SectionPos};
-ghost use Rattle.av_types.specs.Places.{section_of, is_section_of};
+ghost use Rattle.av_types.specs.declared.position.SectionPos.{SectionPos};
+ghost use Rattle.av_types.specs.Positions.{section_of, is_section_of};
 ghost use Rattle.av_cluster.specs.Joining.{owner_in, IsTouchedIf, IsNoted, IsBefore};
 
 use crate::cluster_part::Cluster;
@@ -16,7 +16,7 @@ use crate::forest::{find, join};
 use crate::owners::{Owners, of_key};
 use crate::territories::{corners, meet_same_sections, reach_index};
 use av_cells::Cells;
-use av_play::Placed;
+use av_play::DueEntry;
 use av_types::{Entry, Fault, Height, Pos, SectionPos};
 use av_world::World;
 use std::alloc::{AllocError, Global};
@@ -34,89 +34,89 @@ fn is_high(height: Height, section: SectionPos) -> bool
     height.has_section(section.y)
 }
 
-/// Notes that the entry at a place touches the section of a block of its reach, where that is loaded. One out of the
+/// Notes that the entry at an index touches the section of a block of its reach, where that is loaded. One out of the
 /// height is not. A section with an owner is loaded, and only one without is asked for.
 fn touch(
     world: &World,
     owners: &mut Owners,
     parents: &mut [usize],
     block: Pos,
-    place: usize,
+    index: usize,
 ) -> Result<(), AllocError>
     requires falling { IsFalling parents.old }
-    requires place { place < length parents.old }
+    requires index { index < length parents.old }
     requires owner { (k : ℕ) → owner_in owners.old.entries.items (section_of block) ≡ Some k
         → k < length parents.old }
     requires loaded { (k : ℕ) → owner_in owners.old.entries.items (section_of block) ≡ Some k
         → (blocks world.now).loaded block ≡ true }
     ensures { OnOk result (IsTouchedIf ((blocks world.now).loaded block) parents.old parents.new
         (owner_in owners.old.entries.items) (owner_in owners.new.entries.items)
-        (section_of block) place) }
+        (section_of block) index) }
 {
     let section = block.section();
     if !is_high(world.height(), section) {
         return Ok(());
     }
     if let Some(owner) = owners.owner(section) {
-        join(parents, owner, place);
+        join(parents, owner, index);
         return Ok(());
     }
     if !world.loaded(block) {
         return Ok(());
     }
-    owners.add(section, place)?;
+    owners.add(section, index)?;
     Ok(())
 }
 
-/// Notes that the entry at a place touches the sections of its territory.
+/// Notes that the entry at an index touches the sections of its territory.
 fn touch_all(
     world: &World,
     entries: &[Entry],
-    place: usize,
+    index: usize,
     owners: &mut Owners,
     parents: &mut [usize],
 ) -> Result<(), AllocError>
-    requires place { place < length entries.now }
+    requires index { index < length entries.now }
     requires loaded { All (λ e. IsTrue ((blocks world.now).loaded e.pos)) entries.now }
     requires noted { IsNoted (blocks world.now) entries.now parents.old
-        (owner_in owners.old.entries.items) (IsBefore (blocks world.now) entries.now place) }
+        (owner_in owners.old.entries.items) (IsBefore (blocks world.now) entries.now index) }
     ensures { OnOk result (IsNoted (blocks world.now) entries.now parents.new
-        (owner_in owners.new.entries.items) (IsBefore (blocks world.now) entries.now (place + 1))) }
+        (owner_in owners.new.entries.items) (IsBefore (blocks world.now) entries.now (index + 1))) }
 {
-    let corners = corners(entries[place].pos);
+    let corners = corners(entries[index].pos);
     for corner in corners.as_slice() {
-        touch(world, owners, parents, *corner, place)?;
+        touch(world, owners, parents, *corner, index)?;
     }
     Ok(())
 }
 
-/// Notes that the entry at a place touches the sections of its territory. Where these are the sections of an entry
+/// Notes that the entry at an index touches the sections of its territory. Where these are the sections of an entry
 /// before it, as was noted, the two are joined, and no section is looked up. The last entries stand by `reach_index`.
 fn touch_next(
     world: &World,
     entries: &[Entry],
-    place: usize,
+    index: usize,
     owners: &mut Owners,
     near: &mut [usize; 256],
     parents: &mut [usize],
 ) -> Result<(), AllocError>
-    requires place { place < length entries.now }
+    requires index { index < length entries.now }
     requires loaded { All (λ e. IsTrue ((blocks world.now).loaded e.pos)) entries.now }
     requires noted { IsNoted (blocks world.now) entries.now parents.old
-        (owner_in owners.old.entries.items) (IsBefore (blocks world.now) entries.now place) }
+        (owner_in owners.old.entries.items) (IsBefore (blocks world.now) entries.now index) }
     ensures { OnOk result (IsNoted (blocks world.now) entries.now parents.new
-        (owner_in owners.new.entries.items) (IsBefore (blocks world.now) entries.now (place + 1))) }
+        (owner_in owners.new.entries.items) (IsBefore (blocks world.now) entries.now (index + 1))) }
 {
-    let index = reach_index(entries[place].pos);
-    let before = near[index];
-    near[index] = place;
-    if before >= place {
-        return touch_all(world, entries, place, owners, parents);
+    let slot = reach_index(entries[index].pos);
+    let before = near[slot];
+    near[slot] = index;
+    if before >= index {
+        return touch_all(world, entries, index, owners, parents);
     }
-    if !meet_same_sections(entries[before].pos, entries[place].pos) {
-        return touch_all(world, entries, place, owners, parents);
+    if !meet_same_sections(entries[before].pos, entries[index].pos) {
+        return touch_all(world, entries, index, owners, parents);
     }
-    join(parents, before, place);
+    join(parents, before, index);
     Ok(())
 }
 
@@ -135,49 +135,49 @@ fn connect(
         (length entries.now))) }
 {
     let mut near = [0; 256];
-    for place in 0..entries.len() {
-        touch_next(world, entries, place, owners, &mut near, parents)?;
+    for index in 0..entries.len() {
+        touch_next(world, entries, index, owners, &mut near, parents)?;
     }
     Ok(())
 }
 
-/// So many places, each alone in its group.
+/// So many indices, each alone in its group.
 fn alone(alloc: Global, count: usize) -> Result<Vec<usize>, AllocError>
     ensures { IfOk result (λ ps. AreAlone ps.items count) }
 {
     let mut parents = Vec::with_capacity(alloc, count)?;
-    for place in 0..count {
-        parents.push(place)?;
+    for index in 0..count {
+        parents.push(index)?;
     }
     Ok(parents)
 }
 
 /// Begins a part, with room for as many entries as the parts before it have on average.
-fn begin(clusters: &mut Vec<Cluster>, placed: Placed) -> Result<(), AllocError>
+fn begin(clusters: &mut Vec<Cluster>, due: DueEntry) -> Result<(), AllocError>
     ensures parts { OnOk result (parts_of clusters.new.items
-        ≡ parts_of clusters.old.items ++ (placed ∷ []) ∷ []) }
+        ≡ parts_of clusters.old.items ++ (due ∷ []) ∷ []) }
     ensures bare { OnOk result (sections_of clusters.new.items
         ≡ sections_of clusters.old.items ++ [] ∷ []) }
 {
     let alloc = *clusters.allocator();
-    let usual = placed.place as usize / clusters.len().max(1);
+    let usual = due.index as usize / clusters.len().max(1);
     let mut entries = Vec::with_capacity(alloc, usual.max(1))?;
-    entries.push(placed)?;
+    entries.push(due)?;
     let sections = Vec::with_capacity(alloc, LIKELY_IN_PART)?;
     clusters.push(Cluster { entries, sections })?;
     Ok(())
 }
 
 /// Appends an entry to a part.
-fn put(clusters: &mut Vec<Cluster>, number: usize, placed: Placed) -> Result<(), AllocError>
+fn put(clusters: &mut Vec<Cluster>, number: usize, due: DueEntry) -> Result<(), AllocError>
     requires { number < length (parts_of clusters.old.items) }
     ensures parts { OnOk result (parts_of clusters.new.items
         ≡ slice_set (parts_of clusters.old.items) number
-        (slice_index_or (parts_of clusters.old.items) number [] ++ placed ∷ [])) }
+        (slice_index_or (parts_of clusters.old.items) number [] ++ due ∷ [])) }
     ensures bare { OnOk result (sections_of clusters.new.items ≡ sections_of clusters.old.items) }
 {
     let cluster = &mut clusters[number];
-    cluster.entries.push(placed)?;
+    cluster.entries.push(due)?;
     Ok(())
 }
 
@@ -197,35 +197,35 @@ fn own(clusters: &mut Vec<Cluster>, number: usize, section: SectionPos) -> Resul
 /// Puts one more entry into its part.
 fn gather_one(
     entries: &[Entry],
-    place: usize,
+    index: usize,
     parents: &mut [usize],
     numbers: &mut Vec<usize>,
     clusters: &mut Vec<Cluster>,
 ) -> Result<(), AllocError>
-    requires place { place < length entries.now }
+    requires index { index < length entries.now }
     requires falling { IsFalling parents.old }
     requires count { length parents.old ≡ length entries.now }
-    requires gathered { IsGathered entries.now (first parents.old) place numbers.old.items
+    requires gathered { IsGathered entries.now (first parents.old) index numbers.old.items
         (parts_of clusters.old.items) }
     ensures same { OnOk result (AreSame parents.old parents.new) }
     ensures bare { OnOk result (AreBare (sections_of clusters.old.items)
         → AreBare (sections_of clusters.new.items)) }
     ensures gathered { OnOk result (IsGathered entries.now (first parents.old)
-        (place + 1) numbers.new.items (parts_of clusters.new.items)) }
+        (index + 1) numbers.new.items (parts_of clusters.new.items)) }
 {
-    let placed = Placed {
-        place: place as u64,
-        entry: entries[place],
+    let due = DueEntry {
+        index: index as u64,
+        entry: entries[index],
     };
-    let first = find(parents, place);
-    if first == place {
+    let first = find(parents, index);
+    if first == index {
         numbers.push(clusters.len())?;
-        begin(clusters, placed)?;
+        begin(clusters, due)?;
         return Ok(());
     }
     let number = numbers[first];
     numbers.push(number)?;
-    put(clusters, number, placed)?;
+    put(clusters, number, due)?;
     Ok(())
 }
 
@@ -245,8 +245,8 @@ fn gather(
     ensures gathered { OnOk result (IsGathered entries.now (first parents.old)
         (length entries.now) numbers.new.items (parts_of clusters.new.items)) }
 {
-    for place in 0..entries.len() {
-        gather_one(entries, place, parents, numbers, clusters)?;
+    for index in 0..entries.len() {
+        gather_one(entries, index, parents, numbers, clusters)?;
     }
     Ok(())
 }

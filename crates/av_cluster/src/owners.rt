@@ -1,9 +1,9 @@
-//! The sections that a tick's entries touch, and the first place that touched each.
+//! The sections that a tick's entries touch, and the first index that touched each.
 ghost use Rattle.std.specs.Prelude.{◌≡◌, ◌<◌, [], None, Some, OnOk, OnErr, IfOk, if◌then◌else◌};
 ghost use Rattle.std.specs.BTreeMap.{get};
 ghost use Rattle.std.specs.List.{IsDistinct};
 ghost use Rattle.std.specs.Map.{keys_of};
-ghost use Rattle.av_types.specs.declared.place.SectionPos.{SectionPos};
+ghost use Rattle.av_types.specs.declared.position.SectionPos.{SectionPos};
 ghost use Rattle.av_cluster.specs.Indices.{key_cmp, slot_of, index_in, AreSlots};
 ghost use Rattle.av_cluster.specs.Joining.{key_of, same_key, owner_in};
 ghost use Rattle.std.proofs.Props.{props};
@@ -18,7 +18,7 @@ const LIKELY: usize = 4096;
 /// For how many entries there are slots at the most: 2 MB of them.
 const MOST_SLOTTED: usize = 65_536;
 
-/// The first place that touched each section, in the order in which the sections were first touched.
+/// The first index that touched each section, in the order in which the sections were first touched.
 ///
 /// A slot leads to the first section that fell there, and a tree to the others. So most are found at once, and one of many
 /// that a file chooses to share a slot by a search of the tree.

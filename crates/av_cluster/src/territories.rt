@@ -2,13 +2,13 @@
 ghost use Rattle.std.specs.Prelude.{◌≡◌, ◌<◌, ◌≤◌, ◌+◌, ◌++◌, ◌&&◌, ◌↔◌, IsTrue, true, if◌then◌else◌, pos, ◌+ℤ◌, ◌-ℤ◌};
 ghost use Rattle.std.specs.List.{Contains};
 ghost use Rattle.arrayvec.specs.ArrayVec.{array_vec_len};
-ghost use Rattle.av_types.specs.declared.place.Pos.{Pos};
-ghost use Rattle.av_types.specs.declared.place.SectionPos.{SectionPos};
+ghost use Rattle.av_types.specs.declared.position.Pos.{Pos};
+ghost use Rattle.av_types.specs.declared.position.SectionPos.{SectionPos};
 ghost use Rattle.av_cells.specs.Positions.{IsNearOrigin};
 ghost use Rattle.av_world.specs.Views.{blocks, grid};
 ghost use Rattle.av_play.specs.Parts.{InTerritory};
 ghost use Rattle.av_play.specs.Corners.{corner};
-ghost use Rattle.av_types.specs.Places.{section_of};
+ghost use Rattle.av_types.specs.Positions.{section_of};
 ghost use Rattle.av_cells.specs.Grid.{is_here};
 ghost use Rattle.av_cluster.specs.Territory.{is_new, one_if, corner_if, column_if, side_if, corner_list, AreRising, MeetSameSections};
 

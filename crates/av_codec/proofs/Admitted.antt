@@ -3,12 +3,12 @@ use Rattle.std.proofs.Common.{◌≡◌, ℕ, ◌≤◌, Bool, true, false, true
 use Rattle.std.specs.List.{flat_map, list_any}
 use Rattle.std.proofs.lemmas.Bool.{or_parts}
 use Rattle.av_types.specs.Faults.{fault_number, least, lesser}
-use Rattle.av_types.specs.declared.place.ChunkPos.{ChunkPos}
-use Rattle.av_types.specs.declared.place.Height.{Height}
+use Rattle.av_types.specs.declared.position.ChunkPos.{ChunkPos}
+use Rattle.av_types.specs.declared.position.Height.{Height}
 use Rattle.av_types.specs.declared.fault.Fault.{Fault}
 use Rattle.av_types.specs.declared.fault.Fault.TheVariants.{OutOfMemory, OldLayout, BadChunk, WrongPlace}
 use Rattle.av_tags.specs.Nbt.{Nbt, NamedTag}
-use Rattle.av_tags.specs.Place.{tag_of}
+use Rattle.av_tags.specs.ByName.{tag_of}
 use Rattle.av_types.specs.Options.{◌>>=◌}
 use Rattle.av_tags.specs.Shape.{compounds_of, lacks, or_else}
 use Rattle.av_state.specs.BlockState.{BlockState}
@@ -34,7 +34,7 @@ judge_true false false true false false h = (refl, refl, refl, refl, refl)
 pub admitted_true : (h : Height) (c : ChunkPos) (root : List NamedTag) → admitted h c root ≡ Ok true → IsAdmitted h c root
 admitted_true h c root e =
     let j = judge_true (has_level root) (lacks (status_of root)) (is_full root) (is_bad_chunk h root) (is_elsewhere c root) e in
-    record { level = j.0; status = j.1; full = j.2; shape = j.3; place = j.4 }
+    record { level = j.0; status = j.1; full = j.2; shape = j.3; here = j.4 }
 
 -- what is judged before a chunk is taken apart takes no memory
 judge_no_memory : (l s f b e : Bool) → judge l s f b e ≡ Err OutOfMemory → ⊥
@@ -173,7 +173,7 @@ admitted_false h c root old is =
 -- of a chunk that is to be loaded, the parts are left
 pub first_loaded : (h : Height) (c : ChunkPos) (root : List NamedTag) (old : List BlockState) → IsAdmitted h c root
     → first_fault h c old root ≡ parts_judged c h (sections root) (ticks root) old
-first_loaded h c root old a = rw (a.level, a.status, a.full, a.shape, a.place) refl
+first_loaded h c root old a = rw (a.level, a.status, a.full, a.shape, a.here) refl
 
 -- ---- the shape
 

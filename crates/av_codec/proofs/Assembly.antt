@@ -6,13 +6,13 @@ use Rattle.std.specs.List.{AllByRecursion, list_any, flat_map}
 use Rattle.std.proofs.lemmas.Bool.{and_parts}
 use Rattle.av_types.specs.Division.{divided}
 use Rattle.av_types.specs.Faults.{least, lesser}
-use Rattle.av_types.specs.Places.{is_section_of, place_of, section_index}
-use Rattle.av_types.specs.declared.place.Pos.{Pos}
-use Rattle.av_types.specs.declared.place.ChunkPos.{ChunkPos}
-use Rattle.av_types.specs.declared.place.Height.{Height}
+use Rattle.av_types.specs.Positions.{is_section_of, place_of, section_index}
+use Rattle.av_types.specs.declared.position.Pos.{Pos}
+use Rattle.av_types.specs.declared.position.ChunkPos.{ChunkPos}
+use Rattle.av_types.specs.declared.position.Height.{Height}
 use Rattle.av_types.specs.declared.tick.Entry.{Entry}
 use Rattle.av_tags.specs.Nbt.{NamedTag, Document, members_of}
-use Rattle.av_tags.specs.Place.{emptied}
+use Rattle.av_tags.specs.ByName.{emptied}
 use Rattle.av_tags.specs.Shape.{members_in}
 use Rattle.av_tags.specs.View.{named_views}
 use Rattle.av_tags.specs.declared.tag.Named.{Named}
@@ -105,7 +105,7 @@ pub denotes : (c : ChunkPos) (h : Height) (d : Document) (root : List NamedTag) 
 denotes c h d root old new read t chunk tags p e =
     let a = p.admitted in
     record {
-      no_fault = rw (e, a.level, a.status, a.full, a.shape, a.place, p.read_are.no_fault, p.ticks_are.good) refl;
+      no_fault = rw (e, a.level, a.status, a.full, a.shape, a.here, p.read_are.no_fault, p.ticks_are.good) refl;
       full = rw e a.full;
       cells_are = λ q s. rw (e, state_of c h root old new read t chunk tags p q s) refl;
       water_is = rw e (p.water ∙ p.ticks_are.water);
@@ -126,9 +126,9 @@ each_in c h (e ∷ es) p = ((and_parts (lies_in c h e.pos) _ p).0, each_in c h e
 
 pub loaded : (c : ChunkPos) (h : Height) (d : Document) (root : List NamedTag) (old new : List BlockState) (read : Sections) (t : Ticks) (chunk : Chunk) (rest : ChunkRest)
     → IsStored d → root_tags d ≡ root → Parts c h root old new read t chunk rest.tags.items
-    → rest.place ≡ c → rest.height ≡ h → rest_of rest ≡ rest_with h d.name rest.tags.items t.foreign.items read.kept.items read.outside.items
+    → rest.pos ≡ c → rest.height ≡ h → rest_of rest ≡ rest_with h d.name rest.tags.items t.foreign.items read.kept.items read.outside.items
     → IsLoaded c h d old new chunk rest
-loaded c h d root old new read t chunk rest stored e p place height same =
+loaded c h d root old new read t chunk rest stored e p own height same =
     let slot = slot_of c h root old new read t chunk rest.tags.items p in
     let read_in = water_in c h [] (ticks root) p.ticks_are.good refl in
     let within : AreIn c h (entries chunk.ticks) = rw p.water (rw (← p.ticks_are.water) at read_in) in
@@ -143,7 +143,7 @@ loaded c h d root old new read t chunk rest stored e p place height same =
       pending = λ q s.
           let f = slot (divided q.y 16) (within_from c h q s).height in
           rw f.is (f.pending (place_of q) ∙ (pending_at c h q (entries t.water) s (rw p.water at within) ∙ ap (is_pending q) (sym p.water)));
-      place_is = place;
+      pos_is = own;
       height_is = height;
       states = rw e p.read_are.states;
     }

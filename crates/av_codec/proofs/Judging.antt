@@ -7,7 +7,7 @@ use Rattle.av_types.specs.declared.fault.Fault.{Fault}
 use Rattle.av_types.specs.declared.fault.Fault.TheVariants.{OutOfMemory, TooManyStates}
 use Rattle.std.specs.List.{flat_map, list_any}
 use Rattle.std.proofs.lemmas.Grind.{flat_map-append}
-use Rattle.av_types.specs.declared.place.Height.{Height}
+use Rattle.av_types.specs.declared.position.Height.{Height}
 use Rattle.av_tags.specs.Nbt.{Nbt, NamedTag}
 use Rattle.av_document.specs.Chunk.{section_number, is_in_height, section_faults, section_states, block_states_of, block_faults}
 use Rattle.av_state.specs.BlockState.{BlockState}

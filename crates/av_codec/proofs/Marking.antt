@@ -6,8 +6,8 @@ use Rattle.std.proofs.lemmas.List.Folds.{list_any-append}
 use Rattle.std.specs.List.{list_any}
 use Rattle.std.proofs.lemmas.Bool.{eq-eqb}
 use Rattle.av_types.specs.Division.{divided}
-use Rattle.av_types.specs.Places.{place_of, section_index}
-use Rattle.av_types.specs.declared.place.Height.{Height}
+use Rattle.av_types.specs.Positions.{place_of, section_index}
+use Rattle.av_types.specs.declared.position.Height.{Height}
 use Rattle.av_types.specs.declared.tick.Entry.{Entry}
 use Rattle.av_section.specs.Section.{is_pending}
 use Rattle.av_section.specs.declared.section.Section.{Section}

@@ -8,12 +8,12 @@ use Rattle.av_types.specs.Options.{◌>>=◌}
 use Rattle.av_tags.specs.Shape.{compound_of, compounds_of, items_of_list, each, lacks}
 use Rattle.std.proofs.Common.{subst, Decides}
 use Rattle.std.proofs.lemmas.Bool.Decides.{Decides-int_eq}
-use Rattle.av_types.specs.declared.place.Height.{Height}
+use Rattle.av_types.specs.declared.position.Height.{Height}
 use Rattle.av_codec.specs.Working.{has_other, flag_of, Noted, are_bad_items, checked_number, good_number, is_refused}
 use Rattle.std.proofs.Common.{◌&&◌, if◌then◌else◌, codes}
 use Rattle.std.proofs.Math.Bool.{or-true, or-false}
-use Rattle.av_types.specs.Places.{is_section_of}
-use Rattle.av_tags.specs.Place.{tag_of}
+use Rattle.av_types.specs.Positions.{is_section_of}
+use Rattle.av_tags.specs.ByName.{tag_of}
 use Rattle.std.specs.Prelude.{◌++◌, is_some}
 use Rattle.std.proofs.lemmas.Bool.{or_parts}
 use Rattle.av_document.specs.Chunk.{section_number, numbered, is_number, is_numbered_in, share_a_number, is_other, is_bad_list}

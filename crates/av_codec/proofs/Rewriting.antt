@@ -6,9 +6,9 @@ use Rattle.std.specs.Int.RustNames.{FitsSigned}
 use Rattle.std.proofs.lemmas.Option.{slice_get-map, same_Some}
 use Rattle.std.proofs.lemmas.List.{length-drop, length-take-le}
 use Rattle.std.proofs.lemmas.List.Elements.{All-weaker, recursion_from_All}
-use Rattle.av_types.specs.Places.{is_section_of, section_index}
-use Rattle.av_types.specs.declared.place.ChunkPos.{ChunkPos}
-use Rattle.av_types.specs.declared.place.Height.{Height}
+use Rattle.av_types.specs.Positions.{is_section_of, section_index}
+use Rattle.av_types.specs.declared.position.ChunkPos.{ChunkPos}
+use Rattle.av_types.specs.declared.position.Height.{Height}
 use Rattle.av_tags.specs.Nbt.{Document}
 use Rattle.av_types.specs.Options.{◌>>=◌}
 use Rattle.av_tags.specs.Shape.{or_else}
@@ -50,9 +50,9 @@ pub loaded-can_write : (c : ChunkPos) (h : Height) (d : Document) (old new : Lis
 loaded-can_write c h d old new chunk rest kinds light l grows lit = record {
   whole = subst (λ k. HasAllSections k chunk) (sym l.height_is) l.whole;
   numbered = λ p inside.
-      let here : lies_in c h p ≡ true = rw (← l.place_is, ← l.height_is) inside in
+      let here : lies_in c h p ≡ true = rw (← l.pos_is, ← l.height_is) inside in
       rw (l.height_is, grows.grown) (found_longer (number_in h chunk p) new grows.more (l.numbered p here));
-  within = rw (l.place_is, l.height_is) l.within;
+  within = rw (l.pos_is, l.height_is) l.within;
   due = All-weaker (HasInts 0) (λ e. FitsSigned w32 (e.due -ℤ pos 0)) (λ e ints. ints.int_due) (entries chunk.ticks) l.ints;
   lit = lit ∙ ap (λ k. k.sections) (sym l.height_is);
 }
@@ -80,10 +80,10 @@ numbered_meant t None h = absurd cc
 numbered_meant t (Some n) h = found_meant t (slice_get (states t) n) n refl h
 
 lawful : (chunk : Chunk) (rest : ChunkRest) (kinds : Kinds) (light : ChunkLight) (elapsed : ℕ) → CanWrite chunk rest kinds light elapsed
-    → IsLawful rest.place rest.height (cells_of (states_of_kinds kinds) rest.height chunk) (entries chunk.ticks)
+    → IsLawful rest.pos rest.height (cells_of (states_of_kinds kinds) rest.height chunk) (entries chunk.ticks)
 lawful chunk rest kinds light elapsed can = record {
   meant_states = λ p inside. numbered_meant (table_in kinds) (number_in rest.height chunk p) (can.numbered p inside);
-  within = recursion_from_All (λ e. lies_in rest.place rest.height e.pos ≡ true) (entries chunk.ticks) can.within;
+  within = recursion_from_All (λ e. lies_in rest.pos rest.height e.pos ≡ true) (entries chunk.ticks) can.within;
   apart = chunk.ticks.apart;
 }
 
@@ -103,11 +103,11 @@ section-lit chunk rest kinds light elapsed can y inside =
 pub written-well_formed : (chunk : Chunk) (rest : ChunkRest) (kinds : Kinds) (light : ChunkLight) (elapsed : ℕ) → CanWrite chunk rest kinds light elapsed
     → All (HasInts elapsed) (entries chunk.ticks) → IsWellFormed (written chunk rest kinds light elapsed)
 written-well_formed chunk rest kinds light elapsed can ints =
-    was_read-well_formed rest.place rest.height (cells_of (states_of_kinds kinds) rest.height chunk) (entries chunk.ticks) (sources_of kinds rest.height chunk) (rest_of rest) (light_of light rest.height) elapsed
+    was_read-well_formed rest.pos rest.height (cells_of (states_of_kinds kinds) rest.height chunk) (entries chunk.ticks) (sources_of kinds rest.height chunk) (rest_of rest) (light_of light rest.height) elapsed
     rest.was_read (lawful chunk rest kinds light elapsed can) (recursion_from_All (HasInts elapsed) (entries chunk.ticks) ints) (section-lit chunk rest kinds light elapsed can)
 
 pub written-denotes : (chunk : Chunk) (rest : ChunkRest) (kinds : Kinds) (light : ChunkLight) (elapsed : ℕ) → CanWrite chunk rest kinds light elapsed
     → DenotesSooner chunk rest kinds elapsed (written chunk rest kinds light elapsed)
 written-denotes chunk rest kinds light elapsed can =
-    was_read-denotes rest.place rest.height (cells_of (states_of_kinds kinds) rest.height chunk) (entries chunk.ticks) (sources_of kinds rest.height chunk) (rest_of rest) (light_of light rest.height) elapsed
+    was_read-denotes rest.pos rest.height (cells_of (states_of_kinds kinds) rest.height chunk) (entries chunk.ticks) (sources_of kinds rest.height chunk) (rest_of rest) (light_of light rest.height) elapsed
     rest.was_read (lawful chunk rest kinds light elapsed can)

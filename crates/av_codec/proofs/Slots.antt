@@ -1,4 +1,4 @@
--- Sections put in their places.
+-- Sections put at their indices.
 use Rattle.std.proofs.Common.{◌≡◌, ◌≢◌, ℕ, ◌<◌, ◌≤◌, ◌+◌, ℤ, Bool, true, false, true≢false, Option, Some, None, List, [], ◌∷◌, ◌++◌, length, get_or, slice_set, slice_get, refl, sym, ap, ◌∙◌, arith, if◌then◌else◌, Decides, get_or-set_same, get_or-set_other, length-set, zero, suc, below_more, option_map, take}
 use Rattle.std.proofs.lemmas.Bool.Decides.{Decides-int_eq}
 use Rattle.std.proofs.lemmas.Option.{same_Some}
@@ -8,8 +8,8 @@ use Rattle.std.specs.List.{flat_map}
 use Rattle.std.proofs.lemmas.Grind.{flat_map-append}
 use Rattle.std.proofs.lemmas.List.{append-nil}
 use Rattle.av_types.specs.Faults.{fault_number, lesser}
-use Rattle.av_types.specs.Places.{is_section_of, section_index}
-use Rattle.av_types.specs.declared.place.Height.{Height}
+use Rattle.av_types.specs.Positions.{is_section_of, section_index}
+use Rattle.av_types.specs.declared.position.Height.{Height}
 use Rattle.av_types.specs.declared.fault.Fault.{Fault}
 use Rattle.av_tags.specs.Nbt.{NamedTag}
 use Rattle.av_tags.specs.View.{named_views}
@@ -21,11 +21,11 @@ use Rattle.av_section.specs.declared.section.Section.{Section}
 use Rattle.av_document.specs.Chunk.{section_number, numbered, is_number, section_faults, section_states, section_rest, block_states_of, block_cell}
 use Rattle.av_chunk.specs.declared.rest.SectionTags.{SectionTags}
 use Rattle.av_chunk.specs.declared.rest.OutsideSection.{OutsideSection}
-use Rattle.av_codec.specs.declared.reading.sections.Part.{Part}
-use Rattle.av_codec.specs.declared.reading.sections.Part.TheVariants.{Inside, Outside}
+use Rattle.av_codec.specs.declared.reading.sections.SplitSection.{SplitSection}
+use Rattle.av_codec.specs.declared.reading.sections.SplitSection.TheVariants.{Inside, Outside}
 use Rattle.av_codec.specs.declared.reading.sections.Sections.{Sections}
 use Rattle.av_chunk.specs.Rest.{section_or_missing, found_outside}
-use Rattle.av_codec.specs.SectionsRead.{HasCells, IsInside, IsOutside, IsPart, IsSectionRead, IsSectionRefused, or_missing, SlotHas, SlotFinds, SlotFilled, AreFilled, FilledBelow, HoldSections, AreMissing, IsPartPlaced, AreFound, AreSectionsRead, AreJudged, FitsHeight}
+use Rattle.av_codec.specs.SectionsRead.{HasCells, IsInside, IsOutside, IsSplitSection, IsSectionRead, IsSectionRefused, or_missing, SlotHas, SlotFinds, SlotFilled, AreFilled, FilledBelow, HoldSections, AreMissing, IsSplitAdded, AreFound, AreSectionsRead, AreJudged, FitsHeight}
 use Rattle.av_chunk.proofs.Heights.{offset_below, offset_apart}
 use Rattle.av_codec.proofs.Numbers.{HasNewNumber}
 use Rattle.av_codec.proofs.Judging.{with_states-append, first_kept, first_of, first_lesser, memory_first, memory_before}
@@ -92,7 +92,7 @@ apart_numbers : (h : Height) (y z : ℤ) → is_section_of h y ≡ true → is_s
 apart_numbers h y z s t true d = let e : y ≡ z = d.0 refl in absurd (true≢false (sym s ∙ (ap (is_section_of h) e ∙ t)))
 apart_numbers h y z s t false d = refl
 
--- ---- one more part
+-- ---- one more section
 
 inside_cells : (h : Height) (old new : List BlockState) (rows : List (List NamedTag)) (ms : List NamedTag) (z : ℤ) (s : Section) (kept : SectionTags) (xs : List (Option Section))
     → OnlyGrows old new → IsInside h new ms z s kept → numbered z rows ≡ None → length xs ≡ h.sections → (y : ℤ) → is_section_of h y ≡ true
@@ -128,13 +128,13 @@ symmetric y z e = sym_of (int_eq y z) (Decides-int_eq y z) (int_eq z y) (Decides
     sym_of false d b q e = refl
 
 pub HoldSections-inside : (h : Height) (old new : List BlockState) (rows : List (List NamedTag)) (ms : List NamedTag) (z : ℤ) (s : Section) (kept : SectionTags) (r u : Sections)
-    → OnlyGrows old new → IsInside h new ms z s kept → numbered z rows ≡ None → IsPartPlaced h (Inside z s kept) r u → HoldSections h old rows r → HoldSections h new (rows ++ ms ∷ []) u
-HoldSections-inside h old new rows ms z s kept r u g p none placed held = record {
-  count = ap length placed.0 ∙ (length-set r.sections.items (section_index h z) (Some s) ∙ held.count);
-  count_kept = ap length placed.1 ∙ (length-set r.kept.items (section_index h z) (Some kept) ∙ held.count_kept);
-  found = λ y t. rw placed.0 (inside_cells h old new rows ms z s kept r.sections.items g p none held.count y t (held.found y t) (int_eq y z) (Decides-int_eq y z) refl);
-  rests = λ y t. rw placed.1 (inside_rests h new rows ms z s kept r.kept.items p none held.count_kept y t (held.rests y t) (int_eq y z) (Decides-int_eq y z) refl);
-  others = λ y t. rw (placed.2, numbered-other y z rows ms p.number (symmetric y z (apart_numbers h z y p.within t (int_eq z y) (Decides-int_eq z y)))) (held.others y t);
+    → OnlyGrows old new → IsInside h new ms z s kept → numbered z rows ≡ None → IsSplitAdded h (Inside z s kept) r u → HoldSections h old rows r → HoldSections h new (rows ++ ms ∷ []) u
+HoldSections-inside h old new rows ms z s kept r u g p none added held = record {
+  count = ap length added.0 ∙ (length-set r.sections.items (section_index h z) (Some s) ∙ held.count);
+  count_kept = ap length added.1 ∙ (length-set r.kept.items (section_index h z) (Some kept) ∙ held.count_kept);
+  found = λ y t. rw added.0 (inside_cells h old new rows ms z s kept r.sections.items g p none held.count y t (held.found y t) (int_eq y z) (Decides-int_eq y z) refl);
+  rests = λ y t. rw added.1 (inside_rests h new rows ms z s kept r.kept.items p none held.count_kept y t (held.rests y t) (int_eq y z) (Decides-int_eq y z) refl);
+  others = λ y t. rw (added.2, numbered-other y z rows ms p.number (symmetric y z (apart_numbers h z y p.within t (int_eq z y) (Decides-int_eq z y)))) (held.others y t);
 }
 
 outside_found : (y : ℤ) (rows : List (List NamedTag)) (ms : List NamedTag) (os : List OutsideSection) (o : OutsideSection) → section_number ms ≡ Some o.y → named_views o.tags.items ≡ ms
@@ -142,33 +142,33 @@ outside_found : (y : ℤ) (rows : List (List NamedTag)) (ms : List NamedTag) (os
 outside_found y rows ms os o e t f = rw (found_outside-push y os o, numbered-push y rows ms, e, t, f) refl
 
 pub HoldSections-outside : (h : Height) (old new : List BlockState) (rows : List (List NamedTag)) (ms : List NamedTag) (o : OutsideSection) (r u : Sections)
-    → OnlyGrows old new → IsOutside h ms o → IsPartPlaced h (Outside o) r u → HoldSections h old rows r → HoldSections h new (rows ++ ms ∷ []) u
-HoldSections-outside h old new rows ms o r u g p placed held = record {
-  count = ap length placed.0 ∙ held.count;
-  count_kept = ap length placed.1 ∙ held.count_kept;
-  found = λ y t. rw (placed.0, numbered-other y o.y rows ms p.number (apart_numbers h y o.y t p.without (int_eq y o.y) (Decides-int_eq y o.y))) (SlotFinds-grown old new y _ _ g (held.found y t));
-  rests = λ y t. rw (placed.1, numbered-other y o.y rows ms p.number (apart_numbers h y o.y t p.without (int_eq y o.y) (Decides-int_eq y o.y))) (held.rests y t);
-  others = λ y t. rw placed.2 (outside_found y rows ms r.outside.items o p.number p.tags (held.others y t));
+    → OnlyGrows old new → IsOutside h ms o → IsSplitAdded h (Outside o) r u → HoldSections h old rows r → HoldSections h new (rows ++ ms ∷ []) u
+HoldSections-outside h old new rows ms o r u g p added held = record {
+  count = ap length added.0 ∙ held.count;
+  count_kept = ap length added.1 ∙ held.count_kept;
+  found = λ y t. rw (added.0, numbered-other y o.y rows ms p.number (apart_numbers h y o.y t p.without (int_eq y o.y) (Decides-int_eq y o.y))) (SlotFinds-grown old new y _ _ g (held.found y t));
+  rests = λ y t. rw (added.1, numbered-other y o.y rows ms p.number (apart_numbers h y o.y t p.without (int_eq y o.y) (Decides-int_eq y o.y))) (held.rests y t);
+  others = λ y t. rw added.2 (outside_found y rows ms r.outside.items o p.number p.tags (held.others y t));
 }
 
-HoldSections-part : (h : Height) (old new : List BlockState) (rows : List (List NamedTag)) (ms : List NamedTag) (part : Part) (r u : Sections)
-    → OnlyGrows old new → IsPart h new ms part → HasNewNumber rows ms → IsPartPlaced h part r u → HoldSections h old rows r → HoldSections h new (rows ++ ms ∷ []) u
-HoldSections-part h old new rows ms (Inside y s kept) r u g p new_number placed held = HoldSections-inside h old new rows ms y s kept r u g p (new_number y p.number) placed held
-HoldSections-part h old new rows ms (Outside o) r u g p new_number placed held = HoldSections-outside h old new rows ms o r u g p placed held
+HoldSections-split : (h : Height) (old new : List BlockState) (rows : List (List NamedTag)) (ms : List NamedTag) (split : SplitSection) (r u : Sections)
+    → OnlyGrows old new → IsSplitSection h new ms split → HasNewNumber rows ms → IsSplitAdded h split r u → HoldSections h old rows r → HoldSections h new (rows ++ ms ∷ []) u
+HoldSections-split h old new rows ms (Inside y s kept) r u g p new_number added held = HoldSections-inside h old new rows ms y s kept r u g p (new_number y p.number) added held
+HoldSections-split h old new rows ms (Outside o) r u g p new_number added held = HoldSections-outside h old new rows ms o r u g p added held
 
-AreFound-part : (h : Height) (rows : List (List NamedTag)) (ms : List NamedTag) (start old new : List BlockState) (part : Part) (r u : Sections)
-    → OnlyGrows old new → IsSectionRead h ms old new part → HasNewNumber rows ms → IsPartPlaced h part r u → AreFound h rows start old r → AreFound h (rows ++ ms ∷ []) start new u
-AreFound-part h rows ms start old new part r u g read new_number placed before = record {
+AreFound-split : (h : Height) (rows : List (List NamedTag)) (ms : List NamedTag) (start old new : List BlockState) (split : SplitSection) (r u : Sections)
+    → OnlyGrows old new → IsSectionRead h ms old new split → HasNewNumber rows ms → IsSplitAdded h split r u → AreFound h rows start old r → AreFound h (rows ++ ms ∷ []) start new u
+AreFound-split h rows ms start old new split r u g read new_number added before = record {
   no_fault = flat_map-append (section_faults h) rows (ms ∷ []) ∙ rw (before.no_fault, read.no_fault) refl;
   states = rw (flat_map-append (section_states h) rows (ms ∷ []), append-nil (section_states h ms), with_states-append start (flat_map (section_states h) rows) (section_states h ms), ← before.states) read.states;
-  held = HoldSections-part h old new rows ms part r u g read.is_part new_number placed before.held;
+  held = HoldSections-split h old new rows ms split r u g read.is_split new_number added before.held;
 }
 
-pub AreJudged-part : (takes : Bool) (h : Height) (rows : List (List NamedTag)) (ms : List NamedTag) (start old new : List BlockState) (part : Part) (r u : Sections) (refused : Option Fault)
-    → OnlyGrows old new → IsSectionRead h ms old new part → HasNewNumber rows ms → IsPartPlaced h part r u → AreJudged takes h rows start old r refused
+pub AreJudged-split : (takes : Bool) (h : Height) (rows : List (List NamedTag)) (ms : List NamedTag) (start old new : List BlockState) (split : SplitSection) (r u : Sections) (refused : Option Fault)
+    → OnlyGrows old new → IsSectionRead h ms old new split → HasNewNumber rows ms → IsSplitAdded h split r u → AreJudged takes h rows start old r refused
     → AreJudged takes h (rows ++ ms ∷ []) start new u refused
-AreJudged-part takes h rows ms start old new part r u None g read new_number placed before = AreFound-part h rows ms start old new part r u g read new_number placed before
-AreJudged-part takes h rows ms start old new part r u (Some e) g read new_number placed before =
+AreJudged-split takes h rows ms start old new split r u None g read new_number added before = AreFound-split h rows ms start old new split r u g read new_number added before
+AreJudged-split takes h rows ms start old new split r u (Some e) g read new_number added before =
     λ t ne. record { first = first_kept h rows ms start (fault_number e) (before t ne).first read.no_fault }
 
 pub AreJudged-refused : (takes : Bool) (h : Height) (rows : List (List NamedTag)) (ms : List NamedTag) (start old new : List BlockState) (r u : Sections) (refused : Option Fault) (e f : Fault)
@@ -246,14 +246,14 @@ FilledBelow-more old now n new l low f before = record {
 pub FilledBelow-all : (old now : List (Option Section)) (n : ℕ) → length now ≡ length old → length old ≤ n → FilledBelow n old now → AreFilled old now
 FilledBelow-all old now n l past all = record { count = l; slots = λ i p. all.filled i (omega arith) }
 
-pub section_counts : (h : Height) (part : Part) (r u : Sections) → IsPartPlaced h part r u → length r.sections.items ≡ h.sections → length u.sections.items ≡ h.sections
+pub section_counts : (h : Height) (split : SplitSection) (r u : Sections) → IsSplitAdded h split r u → length r.sections.items ≡ h.sections → length u.sections.items ≡ h.sections
 section_counts h (Inside y s kept) r u p l = ap length p.0 ∙ (length-set r.sections.items (section_index h y) (Some s) ∙ l)
 section_counts h (Outside o) r u p l = ap length p.0 ∙ l
 
-pub kept_counts : (h : Height) (part : Part) (r u : Sections) → IsPartPlaced h part r u → length r.kept.items ≡ h.sections → length u.kept.items ≡ h.sections
+pub kept_counts : (h : Height) (split : SplitSection) (r u : Sections) → IsSplitAdded h split r u → length r.kept.items ≡ h.sections → length u.kept.items ≡ h.sections
 kept_counts h (Inside y s kept) r u p l = ap length p.1 ∙ (length-set r.kept.items (section_index h y) (Some kept) ∙ l)
 kept_counts h (Outside o) r u p l = ap length p.1 ∙ l
 
-pub part_fits : (h : Height) (table : List BlockState) (ms : List NamedTag) (part : Part) → IsPart h table ms part → FitsHeight h part
-part_fits h table ms (Inside y s kept) p = p.within
-part_fits h table ms (Outside o) p = tt
+pub split_fits : (h : Height) (table : List BlockState) (ms : List NamedTag) (split : SplitSection) → IsSplitSection h table ms split → FitsHeight h split
+split_fits h table ms (Inside y s kept) p = p.within
+split_fits h table ms (Outside o) p = tt

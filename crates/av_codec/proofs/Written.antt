@@ -9,10 +9,10 @@ use Rattle.std.proofs.lemmas.List.FromFn.{map-range_with_len_more}
 use Rattle.std.proofs.lemmas.Simd.{map-map}
 use Rattle.av_document.proofs.Inside.{map_range_agree}
 use Rattle.av_types.specs.Division.{divided}
-use Rattle.av_types.specs.Places.{is_section_of, place_of}
-use Rattle.av_types.specs.declared.place.Pos.{Pos}
-use Rattle.av_types.specs.declared.place.ChunkPos.{ChunkPos}
-use Rattle.av_types.specs.declared.place.Height.{Height}
+use Rattle.av_types.specs.Positions.{is_section_of, place_of}
+use Rattle.av_types.specs.declared.position.Pos.{Pos}
+use Rattle.av_types.specs.declared.position.ChunkPos.{ChunkPos}
+use Rattle.av_types.specs.declared.position.Height.{Height}
 use Rattle.av_types.specs.declared.tick.Entry.{Entry}
 use Rattle.av_tags.specs.declared.tag.TagType.TheVariants as tag_type
 use Rattle.av_tags.specs.Nbt.{Nbt, NamedTag, list, items_of}
@@ -97,17 +97,17 @@ unfolding inside_layout
 inside_layout-is chunk rest kinds light y s kept bytes there same_kept same_light =
     ap (λ k. section_with k (section_states (states_of_kinds kinds) s) bytes) same_kept
     ∙ ap (λ b. section_with ((rest_of rest).section y) (section_states (states_of_kinds kinds) s) b) same_light
-    ∙ ap (λ states. section_with ((rest_of rest).section y) states (light_of light rest.height y)) (states-of_section (states_of_kinds kinds) rest.place rest.height chunk y s there)
+    ∙ ap (λ states. section_with ((rest_of rest).section y) states (light_of light rest.height y)) (states-of_section (states_of_kinds kinds) rest.pos rest.height chunk y s there)
 
 pub written_section-inside : (chunk : Chunk) (rest : ChunkRest) (kinds : Kinds) (light : ChunkLight) (y : ℤ) → is_section_of rest.height y ≡ true → written_section chunk rest kinds light y ≡ Some (inside_layout chunk rest kinds light y)
 unfolding inside_layout written_section
 written_section-inside chunk rest kinds light y e =
-    ap (λ b. if b then Some (section_layout ((rest_of rest).section y) (λ i. cells_of (states_of_kinds kinds) rest.height chunk (block_at rest.place y i)) (light_of light rest.height y)) else (rest_of rest).outside y) e
+    ap (λ b. if b then Some (section_layout ((rest_of rest).section y) (λ i. cells_of (states_of_kinds kinds) rest.height chunk (block_at rest.pos y i)) (light_of light rest.height y)) else (rest_of rest).outside y) e
 
 pub written_section-outside : (chunk : Chunk) (rest : ChunkRest) (kinds : Kinds) (light : ChunkLight) (y : ℤ) → is_section_of rest.height y ≡ false → written_section chunk rest kinds light y ≡ found_outside y rest.outside.items
 unfolding written_section
 written_section-outside chunk rest kinds light y e =
-    ap (λ b. if b then Some (section_layout ((rest_of rest).section y) (λ i. cells_of (states_of_kinds kinds) rest.height chunk (block_at rest.place y i)) (light_of light rest.height y)) else (rest_of rest).outside y) e
+    ap (λ b. if b then Some (section_layout ((rest_of rest).section y) (λ i. cells_of (states_of_kinds kinds) rest.height chunk (block_at rest.pos y i)) (light_of light rest.height y)) else (rest_of rest).outside y) e
     ∙ ap (λ b. if b then None else found_outside y rest.outside.items) e
 
 -- ---- entries
@@ -127,7 +127,7 @@ can_write-entries chunk rest kinds light elapsed can k d low =
     let e = slice_index_or (entries chunk.ticks) k d in
     let lies = can.within k d low in
     record {
-      inside = (within_from rest.place rest.height (slice_index_or (entries chunk.ticks) k d).pos lies).height;
+      inside = (within_from rest.pos rest.height (slice_index_or (entries chunk.ticks) k d).pos lies).height;
       below = number_below (number_in rest.height chunk (slice_index_or (entries chunk.ticks) k d).pos) (states_of_kinds kinds) (kind_count kinds) (sym kinds.listed.a_row_each) (can.numbered (slice_index_or (entries chunk.ticks) k d).pos lies);
       due = can.due k d low;
     }
@@ -154,7 +154,7 @@ ticks-written chunk rest kinds elapsed ticks e =
 pub sections-written : (chunk : Chunk) (rest : ChunkRest) (kinds : Kinds) (light : ChunkLight) (sections : List Nbt)
     → sections ≡ first_sections chunk rest kinds light 256
     → list tag_type.Compound (items_of sections)
-    ≡ compounds (all_of (section_at rest.place rest.height (cells_of (states_of_kinds kinds) rest.height chunk) (rest_of rest) (light_of light rest.height)) section_numbers)
+    ≡ compounds (all_of (section_at rest.pos rest.height (cells_of (states_of_kinds kinds) rest.height chunk) (rest_of rest) (light_of light rest.height)) section_numbers)
 unfolding written_section
 sections-written chunk rest kinds light sections e =
     ap (λ ts. list tag_type.Compound (items_of ts)) (e ∙ ap (λ ys. map compound_with (all_of (written_section chunk rest kinds light) ys)) first_numbers-all)

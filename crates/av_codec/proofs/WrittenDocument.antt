@@ -3,7 +3,7 @@ use Rattle.std.proofs.Common.{◌≡◌, ℕ, List, ◌++◌, map, ap, ◌∙◌
 use Rattle.std.specs.Prelude.{codes}
 use Rattle.av_tags.specs.declared.tag.TagType.TheVariants as tag_type
 use Rattle.av_tags.specs.Nbt.{Nbt, NamedTag, Document, list, items_of, members_of}
-use Rattle.av_tags.specs.Place.{with_tag}
+use Rattle.av_tags.specs.ByName.{with_tag}
 use Rattle.av_tags.specs.View.{views, named_views}
 use Rattle.av_rules.specs.declared.kinds.Kinds.{Kinds}
 use Rattle.av_ticks.specs.Ticks.{entries}
@@ -40,7 +40,7 @@ pub document-written : (chunk : Chunk) (rest : ChunkRest) (kinds : Kinds) (light
     → ◌≡◌ {A = Document} (record { name = name; members = members_of two }) (written chunk rest kinds light elapsed)
 document-written chunk rest kinds light elapsed name s t sections ticks none one two same_name same_tags first second s_is t_is sections_are ticks_are =
     assembled-from rest.name.items name s t
-    (compounds (all_of (section_at rest.place rest.height (cells_of (states_of_kinds kinds) rest.height chunk) (rest_of rest) (light_of light rest.height)) section_numbers))
+    (compounds (all_of (section_at rest.pos rest.height (cells_of (states_of_kinds kinds) rest.height chunk) (rest_of rest) (light_of light rest.height)) section_numbers))
     (ticks_layout (sources_of kinds rest.height chunk) (rest_of rest).foreign (entries chunk.ticks) elapsed)
     none one two (named_views rest.tags.items) same_name same_tags first second
     (s_is ∙ sections-written chunk rest kinds light sections sections_are) (t_is ∙ ticks-written chunk rest kinds elapsed ticks ticks_are)

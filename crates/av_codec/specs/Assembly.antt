@@ -1,9 +1,9 @@
 -- A chunk's document, taken apart. Working definitions: no public clause cites them.
 use Rattle.std.specs.Prelude.{◌≡◌, ◌≤◌, ℕ, List, length, codes}
-use Rattle.av_types.specs.declared.place.ChunkPos.{ChunkPos}
-use Rattle.av_types.specs.declared.place.Height.{Height}
+use Rattle.av_types.specs.declared.position.ChunkPos.{ChunkPos}
+use Rattle.av_types.specs.declared.position.Height.{Height}
 use Rattle.av_tags.specs.Nbt.{Document}
-use Rattle.av_tags.specs.Place.{emptied}
+use Rattle.av_tags.specs.ByName.{emptied}
 use Rattle.av_tags.specs.View.{named_views}
 use Rattle.av_tags.specs.declared.tag.Named.{Named}
 use Rattle.av_state.specs.BlockState.{BlockState}

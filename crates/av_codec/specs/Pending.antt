@@ -1,8 +1,8 @@
 -- Places that are made pending. Working definitions: no public clause cites them.
 use Rattle.std.specs.Prelude.{◌≡◌, ℕ, List, length, slice_index_or, Option, Some, None, Bool, true, ◌||◌}
 use Rattle.std.specs.List.{list_any}
-use Rattle.av_types.specs.Places.{is_block_of}
-use Rattle.av_types.specs.declared.place.Height.{Height}
+use Rattle.av_types.specs.Positions.{is_block_of}
+use Rattle.av_types.specs.declared.position.Height.{Height}
 use Rattle.av_types.specs.declared.tick.Entry.{Entry}
 use Rattle.av_section.specs.Section.{number_at, is_pending, SetsPending}
 use Rattle.av_section.specs.declared.section.Section.{Section}

@@ -2,12 +2,12 @@
 use Rattle.std.specs.Prelude.{◌≡◌, ◌≢◌, ℕ, ◌<◌, ◌≤◌, ℤ, List, [], ◌∷◌, ◌++◌, Option, Some, None, Bool, true, false, nat_lt, length, slice_get, slice_index_or, slice_set, codes}
 use Rattle.std.specs.List.{flat_map}
 use Rattle.av_types.specs.Faults.{fault_number, least, IsRefusal}
-use Rattle.av_types.specs.Places.{is_section_of, section_index}
-use Rattle.av_types.specs.declared.place.Height.{Height}
+use Rattle.av_types.specs.Positions.{is_section_of, section_index}
+use Rattle.av_types.specs.declared.position.Height.{Height}
 use Rattle.av_types.specs.declared.fault.Fault.{Fault}
 use Rattle.av_types.specs.declared.fault.Fault.TheVariants.{OutOfMemory}
 use Rattle.av_tags.specs.Nbt.{NamedTag, byte}
-use Rattle.av_tags.specs.Place.{without}
+use Rattle.av_tags.specs.ByName.{without}
 use Rattle.av_tags.specs.Shape.{or_else}
 use Rattle.av_tags.specs.View.{named_views}
 use Rattle.av_state.specs.BlockState.{BlockState}
@@ -16,8 +16,8 @@ use Rattle.av_section.specs.BlockStates.{when}
 use Rattle.av_section.specs.Section.{number_at, is_pending, IsFilled}
 use Rattle.av_section.specs.declared.section.Section.{Section}
 use Rattle.av_document.specs.Chunk.{section_number, numbered, section_faults, section_states, section_rest, block_states_of, block_faults, block_palette, block_cell}
-use Rattle.av_codec.specs.declared.reading.sections.Part.{Part}
-use Rattle.av_codec.specs.declared.reading.sections.Part.TheVariants.{Inside, Outside}
+use Rattle.av_codec.specs.declared.reading.sections.SplitSection.{SplitSection}
+use Rattle.av_codec.specs.declared.reading.sections.SplitSection.TheVariants.{Inside, Outside}
 use Rattle.av_codec.specs.declared.reading.sections.Sections.{Sections}
 use Rattle.av_chunk.specs.declared.rest.SectionTags.{SectionTags}
 use Rattle.av_chunk.specs.declared.rest.OutsideSection.{OutsideSection}
@@ -57,12 +57,12 @@ pub record IsOutside (h : Height) (ms : List NamedTag) (o : OutsideSection) : Ty
   pub without : is_section_of h o.y ≡ false
   pub tags : named_views o.tags.items ≡ ms
 
-abbrev pub IsPart : Height → List BlockState → List NamedTag → Part → Type 0
-IsPart h table ms (Inside y s kept) = IsInside h table ms y s kept
-IsPart h table ms (Outside o) = IsOutside h ms o
+abbrev pub IsSplitSection : Height → List BlockState → List NamedTag → SplitSection → Type 0
+IsSplitSection h table ms (Inside y s kept) = IsInside h table ms y s kept
+IsSplitSection h table ms (Outside o) = IsOutside h ms o
 
-pub record IsSectionRead (h : Height) (ms : List NamedTag) (old new : List BlockState) (part : Part) : Type 0 where
-  pub is_part : IsPart h new ms part
+pub record IsSectionRead (h : Height) (ms : List NamedTag) (old new : List BlockState) (split : SplitSection) : Type 0 where
+  pub is_split : IsSplitSection h new ms split
   pub no_fault : section_faults h ms ≡ []
   pub states : new ≡ with_states old (section_states h ms)
 
@@ -100,14 +100,14 @@ pub record AreMissing (h : Height) (r : Sections) : Type 0 where
   pub empty : (i : ℕ) → slice_index_or r.kept.items i None ≡ None
   pub none : r.outside.items ≡ []
 
--- one more part
-abbrev pub IsPartPlaced : Height → Part → Sections → Sections → Type 0
-IsPartPlaced h (Inside y s kept) old new =
+-- one more section
+abbrev pub IsSplitAdded : Height → SplitSection → Sections → Sections → Type 0
+IsSplitAdded h (Inside y s kept) old new =
     (new.sections.items ≡ slice_set old.sections.items (section_index h y) (Some s)) × (new.kept.items ≡ slice_set old.kept.items (section_index h y) (Some kept)) × (new.outside.items ≡ old.outside.items)
-IsPartPlaced h (Outside o) old new =
+IsSplitAdded h (Outside o) old new =
     (new.sections.items ≡ old.sections.items) × (new.kept.items ≡ old.kept.items) × (new.outside.items ≡ old.outside.items ++ o ∷ [])
 
-abbrev pub FitsHeight : Height → Part → Type 0
+abbrev pub FitsHeight : Height → SplitSection → Type 0
 FitsHeight h (Inside y s kept) = is_section_of h y ≡ true
 FitsHeight h (Outside o) = Unit {0}
 

@@ -6,8 +6,8 @@ use Rattle.av_state.specs.BlockState.{BlockState}
 use Rattle.av_section.specs.BlockStates.{when}
 use Rattle.av_document.specs.Chunk.{section_faults, section_states}
 use Rattle.av_codec.specs.SectionsRead.{are_too_many}
-use Rattle.av_types.specs.declared.place.ChunkPos.{ChunkPos}
-use Rattle.av_types.specs.declared.place.Height.{Height}
+use Rattle.av_types.specs.declared.position.ChunkPos.{ChunkPos}
+use Rattle.av_types.specs.declared.position.Height.{Height}
 use Rattle.av_types.specs.declared.fault.Fault.{Fault}
 use Rattle.av_types.specs.declared.fault.Fault.TheVariants.{OutOfMemory, BadTick}
 use Rattle.av_tags.specs.Nbt.{NamedTag}

@@ -4,13 +4,13 @@ use Rattle.std.specs.Int.RustNames.{FitsSigned}
 use Rattle.std.specs.Prelude.{◌≡◌, get_or, length, ℕ, ◌+◌, ◌-◌, ℤ, pos, negsuc, List, [], ◌∷◌, Option, Some, None, Bool, true, false, not, codes, ◌&&◌, ◌||◌, if◌then◌else◌, Result, Ok, Err}
 use Rattle.std.specs.List.{list_any}
 use Rattle.std.specs.Ordering.{int_eq}
-use Rattle.av_types.specs.Places.{is_section_of}
-use Rattle.av_types.specs.declared.place.ChunkPos.{ChunkPos}
-use Rattle.av_types.specs.declared.place.Height.{Height}
+use Rattle.av_types.specs.Positions.{is_section_of}
+use Rattle.av_types.specs.declared.position.ChunkPos.{ChunkPos}
+use Rattle.av_types.specs.declared.position.Height.{Height}
 use Rattle.av_types.specs.declared.fault.Fault.{Fault}
 use Rattle.av_types.specs.declared.fault.Fault.TheVariants.{OldLayout, BadChunk, WrongPlace}
 use Rattle.av_tags.specs.Nbt.{Nbt, NamedTag}
-use Rattle.av_tags.specs.Place.{tag_of}
+use Rattle.av_tags.specs.ByName.{tag_of}
 use Rattle.av_types.specs.Options.{◌>>=◌}
 use Rattle.av_tags.specs.Shape.{text_of, byte_of, compound_of, compounds_of, items_of_list, lacks, or_else}
 use Rattle.av_document.specs.Chunk.{section_number, is_other, has_level, status_of, is_full, is_bad_chunk, is_elsewhere}

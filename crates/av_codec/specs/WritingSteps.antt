@@ -4,15 +4,15 @@ use Rattle.std.specs.Int.{w32}
 use Rattle.std.specs.Int.RustNames.{FitsSigned}
 use Rattle.std.specs.List.{range_with_len}
 use Rattle.av_types.specs.Division.{divided}
-use Rattle.av_types.specs.Places.{is_section_of}
+use Rattle.av_types.specs.Positions.{is_section_of}
 use Rattle.av_rules.specs.Kinds.{kind_count}
 use Rattle.av_types.specs.declared.tick.Entry.{Entry}
-use Rattle.av_types.specs.declared.place.Pos.{Pos}
+use Rattle.av_types.specs.declared.position.Pos.{Pos}
 use Rattle.av_document.specs.Ticks.{lies_in}
 use Rattle.av_chunk.specs.Reading.{HasAllSections}
 use Rattle.av_chunk.specs.Light.{section_count}
 use Rattle.av_tags.specs.Nbt.{Nbt, NamedTag, byte_array}
-use Rattle.av_tags.specs.Place.{with_tag}
+use Rattle.av_tags.specs.ByName.{with_tag}
 use Rattle.av_state.specs.BlockState.{BlockState}
 use Rattle.av_rules.specs.declared.kinds.Kinds.{Kinds}
 use Rattle.av_document.specs.Chunk.{SectionRest}
@@ -29,13 +29,13 @@ section_with rest states light = with_tag (codes "BlockLight") (byte_array light
 
 -- the tags of a section in the height
 unfoldable pub inside_layout : Chunk → ChunkRest → Kinds → ChunkLight → ℤ → List NamedTag
-inside_layout chunk rest kinds light y = section_layout ((rest_of rest).section y) (λ i. cells_of (states_of_kinds kinds) rest.height chunk (block_at rest.place y i)) (light_of light rest.height y)
+inside_layout chunk rest kinds light y = section_layout ((rest_of rest).section y) (λ i. cells_of (states_of_kinds kinds) rest.height chunk (block_at rest.pos y i)) (light_of light rest.height y)
 
 -- the section of a number
 unfoldable pub written_section : Chunk → ChunkRest → Kinds → ChunkLight → ℤ → Option (List NamedTag)
-written_section chunk rest kinds light = section_at rest.place rest.height (cells_of (states_of_kinds kinds) rest.height chunk) (rest_of rest) (light_of light rest.height)
+written_section chunk rest kinds light = section_at rest.pos rest.height (cells_of (states_of_kinds kinds) rest.height chunk) (rest_of rest) (light_of light rest.height)
 
--- the number of a section, by its place among all that there can be
+-- the number of a section, by its index among all that there can be
 abbrev pub number_at : ℕ → ℤ
 number_at i = pos i -ℤ pos 128
 
@@ -54,7 +54,7 @@ written_entry chunk rest kinds elapsed e = compound_with (entry_layout (sources_
 -- a chunk whose sections can be written
 pub record CanWriteSections (chunk : Chunk) (rest : ChunkRest) (kinds : Kinds) (light : ChunkLight) : Type 0 where
   pub whole : HasAllSections rest.height chunk
-  pub numbered : (p : Pos) → lies_in rest.place rest.height p ≡ true → IsSome (state_in (states_of_kinds kinds) rest.height chunk p)
+  pub numbered : (p : Pos) → lies_in rest.pos rest.height p ≡ true → IsSome (state_in (states_of_kinds kinds) rest.height chunk p)
   pub lit : section_count light ≡ rest.height.sections
 
 -- an entry that can be written: of a section in the height, at a number of the table, and with a time that fits an Int

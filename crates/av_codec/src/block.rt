@@ -1,6 +1,6 @@
 //! One block of a region file.
 ghost use Rattle.std.specs.Prelude.{◌≡◌, ◌≤◌, ◌<◌, IfOk, IfErr, option_map, length, slice_get, Some, true};
-ghost use Rattle.av_types.specs.Places.{is_block_of};
+ghost use Rattle.av_types.specs.Positions.{is_block_of};
 ghost use Rattle.av_state.specs.States.{state_of};
 ghost use Rattle.av_state.specs.Table.{states};
 ghost use Rattle.av_chunk.specs.Views.{number_in};

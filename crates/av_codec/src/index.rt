@@ -1,6 +1,6 @@
 //! Where the sections of a chunk stand.
 ghost use Rattle.std.specs.Prelude.{◌≡◌, ◌<◌, true};
-ghost use Rattle.av_types.specs.Places.{is_section_of, section_index};
+ghost use Rattle.av_types.specs.Positions.{is_section_of, section_index};
 
 use av_types::Height;
 

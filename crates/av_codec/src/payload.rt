@@ -12,7 +12,7 @@ use av_state::StateTable;
 use av_types::{ChunkPos, Fault, Height};
 use std::alloc::Global;
 
-/// What the payload of the chunk at a place is read as: its document, read as by `read_chunk`. A payload has at most
+/// What the payload of the chunk at a position is read as: its document, read as by `read_chunk`. A payload has at most
 /// 1,044,475 bytes, as each has that is found in a region's file.
 ///
 /// Refuses bytes that spell no document (`BadNbt`), and then the first fault of the document. After a refusal the table
@@ -20,17 +20,17 @@ use std::alloc::Global;
 pub fn read_payload(
     alloc: Global,
     payload: &[u8],
-    place: ChunkPos,
+    at: ChunkPos,
     height: Height,
     table: &mut StateTable,
 ) -> Result<Reading, Fault>
     requires { length payload.now ≤ 1044475 }
-    ensures ok { IfOk result (IsPayloadReading place height payload.now (states table.old)
+    ensures ok { IfOk result (IsPayloadReading at height payload.now (states table.old)
         (states table.new)) }
     ensures err { IfErr result (λ e. e ≢ OutOfMemory
-        → IsPayloadFault place height payload.now (states table.old) e) }
+        → IsPayloadFault at height payload.now (states table.old) e) }
     ensures table { OnlyGrows (states table.old) (states table.new) }
 {
     let root = decode(alloc, payload)?;
-    read_chunk(alloc, root, place, height, table)
+    read_chunk(alloc, root, at, height, table)
 }

@@ -51,7 +51,7 @@ fn read_parts<N: Numbering>(
     alloc: Global,
     sections: Vec<Tag>,
     ticks: Vec<Tag>,
-    place: ChunkPos,
+    at: ChunkPos,
     height: Height,
     numbering: &mut N,
 ) -> Result<(Sections, Ticks), Fault>
@@ -60,16 +60,16 @@ fn read_parts<N: Numbering>(
     requires compounds { has_other (views ticks.items) ≡ false }
     ensures sections { IfOk result (λ parts. AreSectionsRead height (opened (views sections.items))
         (states (N.table numbering.old)) (states (N.table numbering.new)) parts.0) }
-    ensures ticks { IfOk result (λ parts. AreTicks place height
+    ensures ticks { IfOk result (λ parts. AreTicks at height
         (opened (views ticks.items)) parts.1) }
-    ensures err { IfErr result (λ e. N.takes ≡ true → ArePartsRefused place height
+    ensures err { IfErr result (λ e. N.takes ≡ true → ArePartsRefused at height
         (opened (views sections.items)) (opened (views ticks.items))
         (states (N.table numbering.old)) e) }
     ensures table { OnlyGrows (states (N.table numbering.old)) (states (N.table numbering.new)) }
     ensures same { N.takes ≡ false
         → states (N.table numbering.new) ≡ states (N.table numbering.old) }
 {
-    match read_ticks(alloc, ticks, place, height) {
+    match read_ticks(alloc, ticks, at, height) {
         Ok(ticks) => {
             let sections = read_sections(alloc, sections, height, numbering)?;
             Ok((sections, ticks))
@@ -81,28 +81,28 @@ fn read_parts<N: Numbering>(
     }
 }
 
-/// The chunk of a document at its place, whose states have the numbers that are given them.
+/// The chunk of a document at its position, whose states have the numbers that are given them.
 fn chunk_by<N: Numbering>(
     alloc: Global,
     root: Root,
-    place: ChunkPos,
+    at: ChunkPos,
     height: Height,
     numbering: &mut N,
 ) -> Result<Reading, Fault>
     requires { IsStored (document root) }
-    ensures ok { IfOk result (IsReading place height (document root)
+    ensures ok { IfOk result (IsReading at height (document root)
         (states (N.table numbering.old)) (states (N.table numbering.new))) }
-    ensures err { IfErr result (λ e. N.takes ≡ true → IsChunkRefusal place height (document root)
+    ensures err { IfErr result (λ e. N.takes ≡ true → IsChunkRefusal at height (document root)
         (states (N.table numbering.old)) e) }
     ensures memory { IfErr result (λ e. e ≡ OutOfMemory
-        → IsAdmitted height place (root_tags (document root))) }
+        → IsAdmitted height at (root_tags (document root))) }
     ensures table { OnlyGrows (states (N.table numbering.old))
         (states (N.table numbering.new)) }
     ensures same { N.takes ≡ false
         → states (N.table numbering.new) ≡ states (N.table numbering.old) }
 {
     let Root { name, mut tags } = root;
-    if !admitted(&tags, place, height)? {
+    if !admitted(&tags, at, height)? {
         return Ok(Reading::Kept);
     }
     let sections = emptied(alloc, &mut tags, b"sections")?;
@@ -111,14 +111,14 @@ fn chunk_by<N: Numbering>(
         alloc,
         items(alloc, sections),
         items(alloc, ticks),
-        place,
+        at,
         height,
         numbering,
     )?;
-    Ok(assembled(name, tags, read, ticks, place, height))
+    Ok(assembled(name, tags, read, ticks, at, height))
 }
 
-/// The chunk of a document at its place. New states are numbered after those of the table, in the order of the file.
+/// The chunk of a document at its position. New states are numbered after those of the table, in the order of the file.
 /// The root has a spelling of at most 1,044,475 bytes, as one that was decoded from a region's payload has.
 ///
 /// Of the faults that hold, the first by its number is answered: `OldLayout` where there is a `Level`; `BadChunk`
@@ -129,20 +129,20 @@ fn chunk_by<N: Numbering>(
 pub fn read_chunk(
     alloc: Global,
     root: Root,
-    place: ChunkPos,
+    at: ChunkPos,
     height: Height,
     table: &mut StateTable,
 ) -> Result<Reading, Fault>
     requires { IsStored (document root) }
-    ensures ok { IfOk result (IsReading place height (document root) (states table.old)
+    ensures ok { IfOk result (IsReading at height (document root) (states table.old)
         (states table.new)) }
-    ensures err { IfErr result (IsChunkRefusal place height (document root)
+    ensures err { IfErr result (IsChunkRefusal at height (document root)
         (states table.old)) }
     ensures memory { IfErr result (λ e. e ≡ OutOfMemory
-        → IsAdmitted height place (root_tags (document root))) }
+        → IsAdmitted height at (root_tags (document root))) }
     ensures table { OnlyGrows (states table.old) (states table.new) }
 {
-    chunk_by(alloc, root, place, height, table)
+    chunk_by(alloc, root, at, height, table)
 }
 
 /// What `read_chunk` reads of the same, where the table knows all states of the chunk: nearly all, after the first chunks of a
@@ -151,15 +151,15 @@ pub fn read_chunk(
 pub fn read_known(
     alloc: Global,
     root: Root,
-    place: ChunkPos,
+    at: ChunkPos,
     height: Height,
     table: &StateTable,
 ) -> Result<Option<Reading>, AllocError>
     requires { IsStored (document root) }
     ensures { IfOk result (λ found. IfSome found
-        (IsReading place height (document root) (states table.now) (states table.now))) }
+        (IsReading at height (document root) (states table.now) (states table.now))) }
 {
-    match chunk_by(alloc, root, place, height, &mut KnownStates { table }) {
+    match chunk_by(alloc, root, at, height, &mut KnownStates { table }) {
         Ok(read) => Ok(Some(read)),
         Err(Fault::OutOfMemory) => Err(AllocError),
         Err(_) => Ok(None),

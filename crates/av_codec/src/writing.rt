@@ -10,7 +10,7 @@ mod section;
 mod sections;
 mod ticks;
 
-use crate::writing::build::{compounds, placed};
+use crate::writing::build::{compounds, tagged};
 use crate::writing::sections::all_sections;
 use crate::writing::ticks::all_ticks;
 use av_chunk::{Chunk, ChunkLight, ChunkRest};
@@ -19,7 +19,7 @@ use av_tags::{Root, copy_tags};
 use av_types::Fault;
 use std::alloc::Global;
 
-/// The document of a chunk, after so many ticks were run: all that its rest has, in the places where it stood, with
+/// The document of a chunk, after so many ticks were run: all that its rest has, where it stood, with
 /// the states of its blocks, its light, and its scheduled ticks, each due so many ticks sooner.
 /// It can be encoded, and reads as the same chunk. Refuses with OutOfMemory alone.
 ///
@@ -44,8 +44,8 @@ pub fn write_chunk(
     let sections = all_sections(alloc, chunk, rest, kinds, light)?;
     let ticks = all_ticks(alloc, chunk, rest, kinds, elapsed)?;
     let tags = copy_tags(alloc, rest.tags.as_slice())?;
-    let tags = placed(alloc, tags, b"sections", compounds(sections))?;
-    let tags = placed(alloc, tags, b"fluid_ticks", compounds(ticks))?;
+    let tags = tagged(alloc, tags, b"sections", compounds(sections))?;
+    let tags = tagged(alloc, tags, b"fluid_ticks", compounds(ticks))?;
     let name = Vec::from_slice(alloc, rest.name.as_slice())?;
     Ok(Root { name, tags })
 }

@@ -3,7 +3,7 @@ use Rattle.std.proofs.Common.{◌≡◌, ◌↔◌, ℕ, zero, suc, ◌*◌, ◌
 use Rattle.std.specs.List.{list_all}
 use Rattle.std.proofs.lemmas.Bool.{and_parts, true≢false, ltb-true, and_from, lt-ltb}
 use Rattle.std.proofs.lemmas.List.{length-replicate}
-use Rattle.av_types.specs.declared.place.Pos.{Pos}
+use Rattle.av_types.specs.declared.position.Pos.{Pos}
 use Rattle.av_cells.specs.Rule.{HasKinds}
 use Rattle.av_column.specs.Columns.{is_there, slot, world_of}
 use Rattle.av_column.specs.Limits.{there_of}

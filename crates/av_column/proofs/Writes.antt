@@ -3,10 +3,10 @@ use Rattle.std.proofs.Common.{◌≡◌, ℕ, ◌*◌, ◌<◌, ℤ, List, [], �
 use Rattle.std.proofs.lemmas.Bool.{true≢false}
 use Rattle.std.proofs.lemmas.Grind.{get_or-set_at}
 use Rattle.std.proofs.lemmas.List.{get_or-set_other}
-use Rattle.av_types.specs.declared.place.Pos.{Pos}
+use Rattle.av_types.specs.declared.position.Pos.{Pos}
 use Rattle.av_types.specs.declared.tick.Entry.{Entry}
-use Rattle.av_types.specs.Places.{chunk_of}
-use Rattle.av_types.proofs.SamePlaces.{same_pos_is, same_pos-refl}
+use Rattle.av_types.specs.Positions.{chunk_of}
+use Rattle.av_types.proofs.SamePositions.{same_pos_is, same_pos-refl}
 use Rattle.av_cells.specs.Positions.{same_pos, same_chunk}
 use Rattle.av_cells.specs.World.{with_number, with_entry, with_entry_if, without_entry, listed_if}
 use Rattle.av_column.specs.Columns.{is_there, slot, world_of, lists_of}

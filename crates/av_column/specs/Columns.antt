@@ -1,8 +1,8 @@
 -- The blocks of the chunk at x 0 and z 0, layer by layer, each layer row by row.
 use Rattle.std.specs.Prelude.{ℕ, ◌+◌, ◌*◌, ℤ, pos, ◌+ℤ◌, ◌-ℤ◌, nat_abs, int_le, int_lt, List, slice_index, slice_index_or, Bool, false, ◌&&◌, if◌then◌else◌, filter}
-use Rattle.av_types.specs.declared.place.Pos.{Pos}
+use Rattle.av_types.specs.declared.position.Pos.{Pos}
 use Rattle.av_types.specs.declared.tick.Entry.{Entry}
-use Rattle.av_types.specs.Places.{chunk_of}
+use Rattle.av_types.specs.Positions.{chunk_of}
 use Rattle.av_cells.specs.Positions.{same_chunk}
 use Rattle.av_cells.specs.World.{World, Lists}
 

@@ -5,7 +5,7 @@ ghost use Rattle.av_rules.specs.Kinds.{kind_count};
 ghost use Rattle.av_cells.specs.Rule.{HasKinds};
 ghost use Rattle.av_cells.specs.World.{without_entry};
 ghost use Rattle.av_types.specs.declared.fault.Fault.TheVariants.{OutOfMemory};
-ghost use Rattle.av_types.specs.declared.place.Pos.{Pos};
+ghost use Rattle.av_types.specs.declared.position.Pos.{Pos};
 ghost use Rattle.av_column.specs.Columns.{is_in, is_there, slot, lists_of};
 
 use arrayvec::ArrayVec;

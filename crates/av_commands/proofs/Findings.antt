@@ -3,8 +3,8 @@ use Rattle.std.proofs.Common.{◌≡◌, ◌∙◌, ◌<◌, ◌+◌, ap, sym, �
 use Rattle.std.proofs.Math.Seq.{take-suc}
 use Rattle.av_types.specs.Faults.{fault_text}
 use Rattle.av_types.specs.declared.fault.Fault.{Fault}
-use Rattle.av_types.specs.declared.place.ChunkPos.{ChunkPos}
-use Rattle.av_types.specs.declared.place.RegionPos.{RegionPos}
+use Rattle.av_types.specs.declared.position.ChunkPos.{ChunkPos}
+use Rattle.av_types.specs.declared.position.RegionPos.{RegionPos}
 use Rattle.av_region_files.specs.Names.{region_name_of}
 use Rattle.av_survey.specs.declared.finding.Finding.{Finding}
 use Rattle.av_commands.specs.CheckCommand.{chunk_text, finding_lines, finding_text, written_at}

@@ -1,6 +1,6 @@
 -- The block table that a command names, and the height that it gives the world. Which bytes a table's file has, no clause can say.
 use Rattle.std.specs.Prelude.{◌≡◌, ◌⊎◌, List, ℕ, Option, Some, None, negsuc}
-use Rattle.av_types.specs.declared.place.Height.{Height}
+use Rattle.av_types.specs.declared.position.Height.{Height}
 use Rattle.av_types.specs.declared.fault.Fault.{Fault}
 use Rattle.av_types.specs.declared.fault.Fault.TheVariants.{OutOfMemory, BadTable}
 use Rattle.av_rules.specs.Rows.{BlockTable}

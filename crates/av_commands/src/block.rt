@@ -1,6 +1,6 @@
 //! The command `block`: the state of a block of a region file.
 ghost use Rattle.std.specs.Prelude.{◌≡◌, IfErr, IfOk, option_map};
-ghost use Rattle.av_types.specs.Places.{IsInLimits};
+ghost use Rattle.av_types.specs.Positions.{IsInLimits};
 ghost use Rattle.av_types.specs.declared.fault.Fault.TheVariants.{OutOfMemory};
 ghost use Rattle.av_state.specs.States.{state_of};
 ghost use Rattle.av_commands.specs.BlockCommand.{HasAnswered, answer_line, IsBlockLine, IsBlockRefusal, IsPathOf, IsPathRefused, status_of};
@@ -115,7 +115,7 @@ pub fn note_other_file<E: Write>(alloc: Global, path: &str, pos: Pos, err: &mut 
     }
 }
 
-/// Writes the line for the block at a position of a region file, whose place is taken from what follows the last `/` of
+/// Writes the line for the block at a position of a region file, whose position is taken from what follows the last `/` of
 /// its path, or why there is none, and where that is asked for, what is known of it. The answer is the program's status: 0; 1 after a
 /// fault, and where the line could not be written, or only its beginning; 2 where the file's name is not that of a region.
 pub fn block_text<O: Write, E: Write>(

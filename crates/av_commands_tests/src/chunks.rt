@@ -77,11 +77,11 @@ pub(crate) fn add_chunk(
     let payload = payload(alloc, x, layers)?;
     let start = 8192 + 1_040_384 * usize::from(x);
     file.resize(start, 0)?;
-    let place = 4 * usize::from(x);
+    let entry = 4 * usize::from(x);
     let [high, low] = (2 + 254 * u16::from(x)).to_be_bytes();
-    file[place + 1] = high;
-    file[place + 2] = low;
-    file[place + 3] = 254;
+    file[entry + 1] = high;
+    file[entry + 2] = low;
+    file[entry + 3] = 254;
     let length = (payload.len() % 1_048_576) as u32 + 1;
     file.extend_from_slice(&length.to_be_bytes())?;
     file.push(3)?;

@@ -2,7 +2,7 @@
 ghost use Rattle.std.specs.Prelude.{None};
 
 use crate::expecting::expect_equal;
-use av_exchange::{Folder, close, place, place_alone, repair, stage, sweep, unstage};
+use av_exchange::{Folder, close, commit, commit_alone, repair, stage, sweep, unstage};
 use av_sink::NoTeller;
 use std::alloc::{AllocError, Global};
 use std::io::{self, ErrorKind};
@@ -137,10 +137,10 @@ fn staged(alloc: Global, folder: &mut Memory) -> io::Result<Vec<String>> {
     Ok(names)
 }
 
-/// Writes two files, and lets them take their places.
+/// Writes two files, and lets them take their names.
 fn exchange(alloc: Global, folder: &mut Memory) -> io::Result<()> {
     let names = staged(alloc, folder)?;
-    if let Err(not) = place(alloc, folder, names.as_slice()) {
+    if let Err(not) = commit(alloc, folder, names.as_slice()) {
         return Err(not.error);
     }
     close(folder)
@@ -164,7 +164,7 @@ fn has(rt: &impl Abort, folder: &Memory, zero: &str, one: &str, count: usize) {
 }
 
 /// Two files are written, then the journal; the names are synced, and the sixth step but one gives the journal its name. Two files take their
-/// places behind the sync of that, one step each; then come a sync, the end of the journal, and a sync.
+/// names behind the sync of that, one step each; then come a sync, the end of the journal, and a sync.
 #[test]
 fn a_cut_off_leaves_old_or_new(rt: HostRuntime) -> Result<(), Fail> {
     for calls in 0..12 {
@@ -230,7 +230,7 @@ fn a_repair_waits_for_names_first(rt: HostRuntime) -> Result<(), Fail> {
     Ok(())
 }
 
-/// Where another program took a new file away, no file takes its place, and no journal is written.
+/// Where another program took a new file away, no file takes its name, and no journal is written.
 #[test]
 fn a_new_file_that_is_gone(rt: HostRuntime) -> Result<(), Fail> {
     for gone in [".anvilwater-r.0.0.mca", ".anvilwater-r.-1.2.mca"] {
@@ -238,7 +238,7 @@ fn a_new_file_that_is_gone(rt: HostRuntime) -> Result<(), Fail> {
         folder.add("r.0.0.mca", b"old zero")?;
         let names = staged(rt.alloc(), &mut folder)?;
         let _ = folder.take(gone);
-        let not = place(rt.alloc(), &mut folder, names.as_slice())
+        let not = commit(rt.alloc(), &mut folder, names.as_slice())
             .err()
             .ok_or("a new file that is gone")?;
         expect_equal(&rt, not.begun, false);
@@ -288,7 +288,7 @@ fn texts_that_are_no_journal(rt: HostRuntime) -> Result<(), Fail> {
     Ok(())
 }
 
-/// Behind the fifth call the journal has its name, and no file its place. What then is written, or comes, is not replaced, and nothing is done.
+/// Behind the fifth call the journal has its name, and no file its own. What then is written, or comes, is not replaced, and nothing is done.
 #[test]
 fn what_was_written_since_is_kept(rt: HostRuntime) -> Result<(), Fail> {
     for (name, text) in [("r.0.0.mca", "newer"), ("r.-1.2.mca", "came")] {
@@ -306,9 +306,9 @@ fn what_was_written_since_is_kept(rt: HostRuntime) -> Result<(), Fail> {
     Ok(())
 }
 
-/// One that is gone was written since too. One whose new file took its place may be written: behind the seventh call `r.0.0.mca` has its.
+/// One that is gone was written since too. One whose new file took its name may be written: behind the seventh call `r.0.0.mca` has its.
 #[test]
-fn what_has_its_place_may_be_written(rt: HostRuntime) -> Result<(), Fail> {
+fn what_has_its_name_may_be_written(rt: HostRuntime) -> Result<(), Fail> {
     let mut folder = cut_off(rt.alloc(), 5)?;
     let _ = folder.take("r.0.0.mca");
     expect_equal(
@@ -324,9 +324,9 @@ fn what_has_its_place_may_be_written(rt: HostRuntime) -> Result<(), Fail> {
     Ok(())
 }
 
-/// A new file that is lost while its old one stays has not its place: nothing is done, though the other one waits.
+/// A new file that is lost while its old one stays has not its name: nothing is done, though the other one waits.
 #[test]
-fn what_is_lost_has_no_place(rt: HostRuntime) -> Result<(), Fail> {
+fn what_is_lost_gets_no_name(rt: HostRuntime) -> Result<(), Fail> {
     for lost in [".anvilwater-r.0.0.mca", ".anvilwater-r.-1.2.mca"] {
         let mut folder = cut_off(rt.alloc(), 5)?;
         let _ = folder.take(lost);
@@ -374,13 +374,13 @@ fn what_is_left_of_one_file_is_taken_away(rt: HostRuntime) -> Result<(), Fail> {
     folder.add(".anvilwater-other.png", b"other")?;
     let error = stage(rt.alloc(), &mut folder, "map.png", b"new")
         .err()
-        .ok_or("a file in the place of the new one")?;
+        .ok_or("a file where the new one is to be")?;
     expect_equal(&rt, error.kind(), ErrorKind::AlreadyExists);
     unstage(rt.alloc(), &mut folder, "map.png")?;
     expect_equal(&rt, folder.text(".anvilwater-map.png"), "-");
     expect_equal(&rt, folder.text("map.png"), "old");
     stage(rt.alloc(), &mut folder, "map.png", b"new")?;
-    place_alone(rt.alloc(), &mut folder, "map.png")?;
+    commit_alone(rt.alloc(), &mut folder, "map.png")?;
     expect_equal(&rt, folder.text("map.png"), "new");
     expect_equal(&rt, folder.text(".anvilwater-other.png"), "other");
     expect_equal(&rt, folder.entries.len(), 2);

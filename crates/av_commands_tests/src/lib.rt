@@ -1,4 +1,4 @@
-//! Tests of words, of surveys of region files, of what the commands read and print, of changes, of files handed to a sink, and of files that take their places, by
+//! Tests of words, of surveys of region files, of what the commands read and print, of changes, of files handed to a sink, and of files that take their names, by
 //! the public calls of their crates.
 #![tactic(auto)]
 

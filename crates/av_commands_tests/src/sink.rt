@@ -39,7 +39,7 @@ struct Memory {
 }
 
 impl Sink for Memory {
-    ghost account = { λ s. record { folder = None; repair = None; failures = s.failures; handed = s.handed; placed = false; closed = false; kept = Some (map (λ f. file_named (string_bytes f.name) f.bytes.items) s.files.items) } };
+    ghost account = { λ s. record { folder = None; repair = None; failures = s.failures; handed = s.handed; committed = false; closed = false; kept = Some (map (λ f. file_named (string_bytes f.name) f.bytes.items) s.files.items) } };
 
     fn failures(&self) -> u64 {
         self.failures

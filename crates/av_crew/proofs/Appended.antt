@@ -3,9 +3,9 @@ use Rattle.std.proofs.Common.{◌≡◌, ℕ, zero, suc, ◌<◌, Bool, true, fa
 use Rattle.std.proofs.lemmas.Bool.{true≢false}
 use Rattle.std.proofs.lemmas.List.Elements.{All-from_recursion}
 use Rattle.std.specs.List.{AllByRecursion, AllPairs}
-use Rattle.av_types.specs.declared.place.Pos.{Pos}
+use Rattle.av_types.specs.declared.position.Pos.{Pos}
 use Rattle.av_types.specs.declared.tick.Made.{Made}
-use Rattle.av_types.proofs.SamePlaces.{same_pos_back}
+use Rattle.av_types.proofs.SamePositions.{same_pos_back}
 use Rattle.av_cells.specs.Positions.{same_pos}
 use Rattle.av_cells.specs.World.{World}
 use Rattle.av_world.specs.Appended.{entries_made}

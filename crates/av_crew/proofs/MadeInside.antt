@@ -4,14 +4,14 @@ use Rattle.std.specs.declared.cmp.Ordering.{Ordering}
 use Rattle.std.specs.Ordering.{is_lt}
 use Rattle.std.specs.List.{AllByRecursion, flat_map}
 use Rattle.av_types.proofs.Each.{each_append}
-use Rattle.av_types.specs.declared.place.Pos.{Pos}
+use Rattle.av_types.specs.declared.position.Pos.{Pos}
 use Rattle.av_types.specs.declared.tick.Entry.{Entry}
 use Rattle.av_types.specs.declared.tick.Made.{Made}
 use Rattle.av_types.specs.Order.{inserted, ordered}
 use Rattle.av_cells.specs.declared.kind.Kind.{Kind}
 use Rattle.av_cells.specs.World.{World}
 use Rattle.av_water.proofs.Inside.{turn_kept}
-use Rattle.av_play.specs.declared.event.Placed.{Placed}
+use Rattle.av_play.specs.declared.event.DueEntry.{DueEntry}
 use Rattle.av_play.specs.Play.{turn_of, made_by, labelled, made_after}
 use Rattle.av_crew.proofs.LandOrder.{AllIn, turn_inside}
 
@@ -23,11 +23,11 @@ labelled_in : (L : Pos → Bool) (maker n : ℕ) (es : List Entry) → AllIn L e
 labelled_in L maker n [] h = tt
 labelled_in L maker n (e ∷ es) h = (h.0, labelled_in L maker (suc n) es h.1)
 
-pub made_inside : (k : ℕ → Kind) (now : ℕ) (xs : List Placed) (w : World) → AllMadeIn w.loaded (made_after k now xs w)
+pub made_inside : (k : ℕ → Kind) (now : ℕ) (xs : List DueEntry) (w : World) → AllMadeIn w.loaded (made_after k now xs w)
 made_inside k now [] w = tt
 made_inside k now (x ∷ xs) w =
     each_append (λ m. IsTrue (w.loaded m.entry.pos)) (made_by k now x w) (made_after k now xs (turn_of k now x w).world)
-    (labelled_in w.loaded x.place 0 (turn_of k now x w).made (turn_inside k now x.entry.pos w))
+    (labelled_in w.loaded x.index 0 (turn_of k now x w).made (turn_inside k now x.entry.pos w))
     (subst (λ (L : Pos → Bool). AllMadeIn L (made_after k now xs (turn_of k now x w).world)) (turn_kept k now x.entry.pos w).kept_loaded (made_inside k now xs (turn_of k now x w).world))
 
 pub flat_inside : {X : Type 0} (L : Pos → Bool) (f : X → List Made) (xs : List X) → AllByRecursion (λ x. AllMadeIn L (f x)) xs → AllMadeIn L (flat_map f xs)

@@ -1,8 +1,8 @@
 -- Parts of a world put over its blocks one after the other.
 use Rattle.std.proofs.Common.{◌≡◌, ℕ, Bool, true, false, cond, List, [], ◌∷◌, refl, ap, ◌∙◌, inl, inr}
 use Rattle.std.specs.List.{AllByRecursion, AllZip}
-use Rattle.av_types.specs.Places.{chunk_of}
-use Rattle.av_types.specs.declared.place.Pos.{Pos}
+use Rattle.av_types.specs.Positions.{chunk_of}
+use Rattle.av_types.specs.declared.position.Pos.{Pos}
 use Rattle.av_ticks.specs.Entries.{is_pending}
 use Rattle.av_cells.specs.World.{World, Lists}
 use Rattle.av_world.specs.OutOf.{mended}

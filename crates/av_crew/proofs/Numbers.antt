@@ -2,14 +2,14 @@
 use Rattle.std.proofs.Common.{◌≡◌, ℕ, suc, ◌<◌, nat_eq, Bool, false, List, [], ◌∷◌, map, arith}
 use Rattle.std.specs.List.{AllByRecursion, IsDistinct}
 use Rattle.std.proofs.lemmas.Bool.{ne_eqb}
-use Rattle.av_types.specs.declared.place.SectionPos.{SectionPos}
+use Rattle.av_types.specs.declared.position.SectionPos.{SectionPos}
 use Rattle.av_cells.specs.Grid.{Grid}
-use Rattle.av_play.specs.declared.event.Placed.{Placed}
+use Rattle.av_play.specs.declared.event.DueEntry.{DueEntry}
 use Rattle.av_ring.specs.Numbers.{HaveDistinctNumbers}
 use Rattle.av_crew.specs.declared.jobs.Job.{Job}
 use Rattle.av_crew.specs.Jobs.{AreJobs}
 
-module _ (g : Grid) (parts : List (List Placed)) (picks : ℕ → SectionPos → Bool) where
+module _ (g : Grid) (parts : List (List DueEntry)) (picks : ℕ → SectionPos → Bool) where
   others : (n a : ℕ) (js : List Job) → n < a → AreJobs g parts picks a js → AllByRecursion (λ m. nat_eq n m ≡ false) (map (λ j. j.number) js)
   others n a [] u h = tt
   others n a (j ∷ js) u h = (ne_eqb n j.number (λ e. let i = h.0.number in absurd (omega (arith, e, i, u))), others n (suc a) js (omega (arith, u)) h.1)

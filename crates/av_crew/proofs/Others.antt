@@ -5,14 +5,14 @@ use Rattle.std.proofs.lemmas.List.Sorted.{All-permutation}
 use Rattle.std.specs.List.{AllByRecursion, AllZip}
 use Rattle.std.proofs.lemmas.Bool.{false_from_ne_true}
 use Rattle.av_types.proofs.Each.{each_then}
-use Rattle.av_types.specs.Places.{section_of, place_of}
-use Rattle.av_types.specs.declared.place.Pos.{Pos}
-use Rattle.av_types.specs.declared.place.SectionPos.{SectionPos}
+use Rattle.av_types.specs.Positions.{section_of, place_of}
+use Rattle.av_types.specs.declared.position.Pos.{Pos}
+use Rattle.av_types.specs.declared.position.SectionPos.{SectionPos}
 use Rattle.av_types.specs.declared.fault.Fault.{Fault}
 use Rattle.av_cells.specs.declared.kind.Kind.{Kind}
 use Rattle.av_cells.specs.World.{World, Lists}
 use Rattle.av_cells.specs.Grid.{Grid, is_here, number_in, pending_in, cells_of}
-use Rattle.av_play.specs.declared.event.Placed.{Placed}
+use Rattle.av_play.specs.declared.event.DueEntry.{DueEntry}
 use Rattle.av_play.proofs.Projection.{after_loaded}
 use Rattle.av_world.specs.ParcelViews.{blocks, lists}
 use Rattle.av_crew.specs.declared.jobs.Job.{Job}
@@ -47,7 +47,7 @@ zip_without k now q [] (d ∷ ds) h z = absurd z
 zip_without k now q (j ∷ js) [] h z = absurd z
 zip_without k now q (j ∷ js) (d ∷ ds) h z = (ap (λ f. f q) (done_loaded k now j d z.0) ∙ h.0, zip_without k now q js ds h.1 z.1)
 
-module _ (g : Grid) (parts : List (List Placed)) (picks : ℕ → SectionPos → Bool) where
+module _ (g : Grid) (parts : List (List DueEntry)) (picks : ℕ → SectionPos → Bool) where
   abbrev Is : Job → Type 0
   Is j = (m : ℕ) × IsJob g parts picks m j
 

@@ -5,15 +5,15 @@ use Rattle.std.proofs.lemmas.List.Elements.{recursion_from_All, All-from_recursi
 use Rattle.std.proofs.lemmas.List.Sorted.{All-permutation, Contains-permutation}
 use Rattle.std.specs.List.{AllByRecursion, flat_map, Contains}
 use Rattle.std.specs.List.Sorted.{IsPermutation}
-use Rattle.av_types.specs.Places.{section_of, place_of}
-use Rattle.av_types.specs.declared.place.Pos.{Pos}
-use Rattle.av_types.specs.declared.place.SectionPos.{SectionPos}
+use Rattle.av_types.specs.Positions.{section_of, place_of}
+use Rattle.av_types.specs.declared.position.Pos.{Pos}
+use Rattle.av_types.specs.declared.position.SectionPos.{SectionPos}
 use Rattle.av_types.specs.declared.tick.Entry.{Entry}
 use Rattle.av_types.specs.declared.tick.Made.{Made}
 use Rattle.av_cells.specs.declared.kind.Kind.{Kind}
 use Rattle.av_cells.specs.World.{World, Lists}
 use Rattle.av_cells.specs.Grid.{Grid, is_here, number_in, pending_in, cells_of, only}
-use Rattle.av_play.specs.declared.event.Placed.{Placed}
+use Rattle.av_play.specs.declared.event.DueEntry.{DueEntry}
 use Rattle.av_play.specs.Parts.{numbered, IsPlan, part_at, count_of}
 use Rattle.av_play.specs.Play.{world_after, made_after, made_by, turn_of}
 use Rattle.av_play.specs.Laws.{IsOfPart, made_for}
@@ -38,28 +38,28 @@ use Rattle.av_crew.proofs.Mending.{IsAt, SameAt, Tells, found, passed}
 abbrev one_of : ℕ → Job → ℕ
 one_of n j = cond (nat_eq j.number n) 1 0
 
-part_missing : (parts : List (List Placed)) (n : ℕ) → count_of parts ≤ n → part_at parts n ≡ []
+part_missing : (parts : List (List DueEntry)) (n : ℕ) → count_of parts ≤ n → part_at parts n ≡ []
 part_missing [] n h = refl
 part_missing (p ∷ ps) zero h = absurd (omega arith)
 part_missing (p ∷ ps) (suc n) h = part_missing ps n (omega arith)
 
 -- ---- what a part's turns put aside is for that part alone
 
-for_all : (k : ℕ → Kind) (now : ℕ) (b : ℕ → Bool) (xs : List Placed) (w : World) → AllByRecursion (λ x. b x.place ≡ true) xs → made_for b (made_after k now xs w) ≡ made_after k now xs w
+for_all : (k : ℕ → Kind) (now : ℕ) (b : ℕ → Bool) (xs : List DueEntry) (w : World) → AllByRecursion (λ x. b x.index ≡ true) xs → made_for b (made_after k now xs w) ≡ made_after k now xs w
 for_all k now b [] w e = refl
 for_all k now b (x ∷ xs) w e =
     filter-append (λ m. b m.maker) (made_by k now x w) (made_after k now xs (turn_of k now x w).world)
-    ∙ rw (all_for b x.place 0 (turn_of k now x w).made e.0, for_all k now b xs (turn_of k now x w).world e.1) refl
+    ∙ rw (all_for b x.index 0 (turn_of k now x w).made e.0, for_all k now b xs (turn_of k now x w).world e.1) refl
 
-for_none : (k : ℕ → Kind) (now : ℕ) (b : ℕ → Bool) (xs : List Placed) (w : World) → AllByRecursion (λ x. b x.place ≡ false) xs → made_for b (made_after k now xs w) ≡ []
+for_none : (k : ℕ → Kind) (now : ℕ) (b : ℕ → Bool) (xs : List DueEntry) (w : World) → AllByRecursion (λ x. b x.index ≡ false) xs → made_for b (made_after k now xs w) ≡ []
 for_none k now b [] w e = refl
 for_none k now b (x ∷ xs) w e =
     filter-append (λ m. b m.maker) (made_by k now x w) (made_after k now xs (turn_of k now x w).world)
-    ∙ rw (none_for b x.place 0 (turn_of k now x w).made e.0, for_none k now b xs (turn_of k now x w).world e.1) refl
+    ∙ rw (none_for b x.index 0 (turn_of k now x w).made e.0, for_none k now b xs (turn_of k now x w).world e.1) refl
 
 -- ---- jobs by their numbers
 
-module _ (g : Grid) (parts : List (List Placed)) (picks : ℕ → SectionPos → Bool) where
+module _ (g : Grid) (parts : List (List DueEntry)) (picks : ℕ → SectionPos → Bool) where
   abbrev Is : ℕ → Job → Type 0
   Is = IsJob g parts picks
 
@@ -103,11 +103,11 @@ picked_of : {X : Type 0} (b : Bool) (x : Option X) → (o : Option X → Bool) �
 picked_of true x o n h = refl
 picked_of false x o n h = absurd (true≢false (sym h ∙ n))
 
-module _ (g : Grid) (entries : List Entry) (parts : List (List Placed)) (plan : IsPlan (cells_of g) entries parts) (k : ℕ → Kind) (now : ℕ) (picks : ℕ → SectionPos → Bool) (exact : (n : ℕ) (s : SectionPos) → IsTrue (picks n s) ↔ IsOfPart (cells_of g) (part_at parts n) s) (l : Lists) (tied : IsTied (cells_of g) l) (rest : Grid) (carved : IsCarved g picks (count_of parts) rest) (jobs order : List Job) (are : AreJobs g parts picks 0 jobs) (count : length jobs ≡ count_of parts) (permuted : IsPermutation jobs order) where
+module _ (g : Grid) (entries : List Entry) (parts : List (List DueEntry)) (plan : IsPlan (cells_of g) entries parts) (k : ℕ → Kind) (now : ℕ) (picks : ℕ → SectionPos → Bool) (exact : (n : ℕ) (s : SectionPos) → IsTrue (picks n s) ↔ IsOfPart (cells_of g) (part_at parts n) s) (l : Lists) (tied : IsTied (cells_of g) l) (rest : Grid) (carved : IsCarved g picks (count_of parts) rest) (jobs order : List Job) (are : AreJobs g parts picks 0 jobs) (count : length jobs ≡ count_of parts) (permuted : IsPermutation jobs order) where
   abbrev w : World
   w = cells_of g
 
-  abbrev all : List Placed
+  abbrev all : List DueEntry
   all = numbered 0 entries
 
   -- the n-th part's sections after its turns, and what they make
@@ -155,7 +155,7 @@ module _ (g : Grid) (entries : List Entry) (parts : List (List Placed)) (plan : 
   number_below n s c = by (cases_lt n (count_of parts)) where
     by : (n < count_of parts) ⊎ (count_of parts ≤ n) → n < count_of parts
     by (inl u) = u
-    by (inr u) = let o = (exact n s).0 c in absurd (none_contained o.owner (subst (λ (p : List Placed). Contains p o.owner) (part_missing parts n u) o.there))
+    by (inr u) = let o = (exact n s).0 c in absurd (none_contained o.owner (subst (λ (p : List DueEntry). Contains p o.owner) (part_missing parts n u) o.there))
 
   same_part : (m n : ℕ) (s : SectionPos) → IsTrue (picks m s) → IsTrue (picks n s) → m ≡ n
   same_part m n s c d = by (nat_eq m n) refl where
@@ -181,8 +181,8 @@ module _ (g : Grid) (entries : List Entry) (parts : List (List Placed)) (plan : 
 
   -- ---- what was put aside
 
-  of_part : (n : ℕ) → AllByRecursion (λ x. own n x.place ≡ true) (part_at parts n)
-  of_part n = subst (AllByRecursion (λ x. own n x.place ≡ true)) (sym (plan.each n)) (each_then _ _ (λ x c. c.0) _ (each_chosen (Contains all) (λ x. nat_eq (plan.part_of x.place) n) all (known_all all)))
+  of_part : (n : ℕ) → AllByRecursion (λ x. own n x.index ≡ true) (part_at parts n)
+  of_part n = subst (AllByRecursion (λ x. own n x.index ≡ true)) (sym (plan.each n)) (each_then _ _ (λ x c. c.0) _ (each_chosen (Contains all) (λ x. nat_eq (plan.part_of x.index) n) all (known_all all)))
 
   gives : (n : ℕ) (j : Job) → ((m : ℕ) × IsJob g parts picks m j) → Gives (one_of n) (λ j. made_for (own n) (made_of k now j)) (own_made n) j
   gives n j i =
@@ -190,7 +190,7 @@ module _ (g : Grid) (entries : List Entry) (parts : List (List Placed)) (plan : 
         one = λ c. let e : i.0 ≡ n = sym i.1.number ∙ eqb-true j.number n (one_is (nat_eq j.number n) c) in
             ap (made_for (own n)) (made_is i.0 j i.1 ∙ ap own_made e) ∙ for_all k now (own n) (part_at parts n) (cells_of (only (picks n) g)) (of_part n);
         none = λ c. let f : ¬ (i.0 ≡ n) = λ e. true≢false (sym (ap (λ m. nat_eq m n) (i.1.number ∙ e) ∙ eq-eqb n n refl) ∙ none_is (nat_eq j.number n) c) in
-            ap (made_for (own n)) (made_is i.0 j i.1) ∙ for_none k now (own n) (part_at parts i.0) (cells_of (only (picks i.0) g)) (each_then _ _ (λ x e. other_number (plan.part_of x.place) n i.0 e (λ d. f (sym d))) (part_at parts i.0) (of_part i.0));
+            ap (made_for (own n)) (made_is i.0 j i.1) ∙ for_none k now (own n) (part_at parts i.0) (cells_of (only (picks i.0) g)) (each_then _ _ (λ x e. other_number (plan.part_of x.index) n i.0 e (λ d. f (sym d))) (part_at parts i.0) (of_part i.0));
         either = cases (nat_eq j.number n);
       }
     where
@@ -216,7 +216,7 @@ module _ (g : Grid) (entries : List Entry) (parts : List (List Placed)) (plan : 
   aside_for n = filter_flat (λ m. own n m.maker) (made_of k now) order ∙ by (cases_lt n (count_of parts)) where
     by : (n < count_of parts) ⊎ (count_of parts ≤ n) → flat_map (λ j. made_for (own n) (made_of k now j)) order ≡ own_made n
     by (inl u) = one_counts (one_of n) _ (own_made n) order (all_gives n) (total_permuted (one_of n) jobs order permuted ∙ within_one g parts picks 0 n jobs are (omega arith) (omega (arith, u, count)))
-    by (inr u) = none_counts (one_of n) _ (own_made n) order (all_gives n) (total_permuted (one_of n) jobs order permuted ∙ above_none g parts picks 0 n jobs are (omega (arith, u, count))) ∙ ap (λ (p : List Placed). made_after k now p (cells_of (only (picks n) g))) (sym (part_missing parts n u))
+    by (inr u) = none_counts (one_of n) _ (own_made n) order (all_gives n) (total_permuted (one_of n) jobs order permuted ∙ above_none g parts picks 0 n jobs are (omega (arith, u, count))) ∙ ap (λ (p : List DueEntry). made_after k now p (cells_of (only (picks n) g))) (sym (part_missing parts n u))
 
   -- ---- together
 

@@ -2,24 +2,24 @@
 use Rattle.std.proofs.Common.{◌≡◌, ℕ, Bool, true, false, cond, ◌||◌, List, [], ◌∷◌, length, take, Option, Some, None, refl, sym, ap, subst, ◌∙◌, IsTrue}
 use Rattle.std.proofs.lemmas.Bool.{true≢false, or_parts}
 use Rattle.av_play.proofs.LandTurns.{listed_pending}
-use Rattle.av_types.specs.Places.{chunk_of}
-use Rattle.av_types.specs.declared.place.Pos.{Pos}
-use Rattle.av_types.specs.declared.place.ChunkPos.{ChunkPos}
-use Rattle.av_types.specs.declared.place.Height.{Height}
+use Rattle.av_types.specs.Positions.{chunk_of}
+use Rattle.av_types.specs.declared.position.Pos.{Pos}
+use Rattle.av_types.specs.declared.position.ChunkPos.{ChunkPos}
+use Rattle.av_types.specs.declared.position.Height.{Height}
 use Rattle.av_types.specs.declared.tick.Entry.{Entry}
 use Rattle.av_types.specs.declared.tick.Made.{Made}
 use Rattle.av_ticks.specs.Entries.{is_pending}
 use Rattle.av_cells.specs.declared.kind.Kind.{Kind}
 use Rattle.av_cells.specs.Positions.{same_pos}
 use Rattle.av_cells.specs.World.{World, Lists, listed_all}
-use Rattle.av_play.specs.declared.event.Placed.{Placed}
+use Rattle.av_play.specs.declared.event.DueEntry.{DueEntry}
 use Rattle.av_play.specs.Play.{world_after, made_after, entries_of}
 use Rattle.av_play.specs.Waiting.{is_among, AreNew}
 use Rattle.av_play.proofs.Projection.{after_loaded}
 use Rattle.av_play.proofs.Waiting.{turns_wait, turns_fresh}
 use Rattle.av_world.specs.OutOf.{IsPartOf}
 use Rattle.av_types.specs.declared.fault.Fault.{Fault}
-use Rattle.av_types.proofs.SamePlaces.{same_pos_is}
+use Rattle.av_types.proofs.SamePositions.{same_pos_is}
 use Rattle.av_world.specs.ParcelViews.{blocks, lists}
 use Rattle.av_crew.specs.declared.jobs.Job.{Job}
 use Rattle.av_crew.specs.declared.jobs.Done.{Done}
@@ -32,7 +32,7 @@ new_among w p (e ∷ es) n h = by (same_pos p e.pos) refl h (new_among w p es n.
   by true s h rest = ap w.pending (same_pos_is p e.pos s) ∙ n.0
   by false s h rest = rest h
 
-module _ (h : Height) (ps : List ChunkPos) (l : Lists) (b : World) (aside : Lists) (i : IsPartOf h ps l b aside) (k : ℕ → Kind) (now : ℕ) (xs : List Placed) where
+module _ (h : Height) (ps : List ChunkPos) (l : Lists) (b : World) (aside : Lists) (i : IsPartOf h ps l b aside) (k : ℕ → Kind) (now : ℕ) (xs : List DueEntry) where
   abbrev made : List Entry
   made = entries_of (made_after k now xs b)
 
@@ -47,7 +47,7 @@ module _ (h : Height) (ps : List ChunkPos) (l : Lists) (b : World) (aside : List
   pub part_after : IsPartOf h ps l (world_after k now xs b) (listed_all aside made)
   part_after =
       record {
-        places = λ p t. i.places p (sym (loaded_is p) ∙ t);
+        inside = λ p t. i.inside p (sym (loaded_is p) ∙ t);
         tied = λ p t. turns_wait k now xs b p ∙ ap (λ c. cond (is_among p made) true c) (i.tied p (sym (loaded_is p) ∙ t)) ∙ both (is_among p made) (is_pending p (l (chunk_of p))) (is_pending p (aside (chunk_of p)))
             ∙ ap (λ c. is_pending p (l (chunk_of p)) || c) (sym (listed_pending p made aside));
         apart = λ p t e. by p (sym (loaded_is p) ∙ t) (is_among p made) refl (sym (listed_pending p made aside) ∙ e);
@@ -58,7 +58,7 @@ module _ (h : Height) (ps : List ChunkPos) (l : Lists) (b : World) (aside : List
       by p t false m e = i.apart p t e
 
 -- the same, of what was turned
-pub stays_part : (h : Height) (ps : List ChunkPos) (l : Lists) (k : ℕ → Kind) (now count : ℕ) (entries : List Placed) (old new : World) (aside aside' : Lists) (ms : List Made)
+pub stays_part : (h : Height) (ps : List ChunkPos) (l : Lists) (k : ℕ → Kind) (now count : ℕ) (entries : List DueEntry) (old new : World) (aside aside' : Lists) (ms : List Made)
     → AreTurned k now count entries old new aside aside' ms → IsPartOf h ps l old aside → IsPartOf h ps l new aside'
 stays_part h ps l k now count entries old new aside aside' ms t i =
     subst (λ w. IsPartOf h ps l w aside') (sym t.world)

@@ -5,19 +5,19 @@ use Rattle.std.proofs.lemmas.List.Elements.{All-push, All-from_recursion}
 use Rattle.std.proofs.lemmas.List.Folds.{list_any-append}
 use Rattle.std.specs.List.{list_any, AllByRecursion}
 use Rattle.std.proofs.Math.Bool.{or-false}
-use Rattle.av_types.specs.declared.place.SectionPos.{SectionPos}
+use Rattle.av_types.specs.declared.position.SectionPos.{SectionPos}
 use Rattle.av_types.specs.declared.fault.Fault.{Fault}
 use Rattle.av_types.specs.declared.tick.Entry.{Entry}
-use Rattle.av_types.proofs.SamePlaces.{same_section_from}
+use Rattle.av_types.proofs.SamePositions.{same_section_from}
 use Rattle.av_cells.specs.Positions.{same_section}
 use Rattle.av_cells.specs.World as cells
 use Rattle.av_cells.specs.World.{Lists}
 use Rattle.av_cells.specs.Grid.{Grid, is_here, cells_of, among, only, without}
-use Rattle.av_play.specs.declared.event.Placed.{Placed}
+use Rattle.av_play.specs.declared.event.DueEntry.{DueEntry}
 use Rattle.av_play.specs.Parts.{part_at}
 use Rattle.av_play.proofs.Interleaving.{parts_share_nothing}
 use Rattle.av_world.specs.OutOf.{mended, IsPartOf}
-use Rattle.av_world.specs.Views.{grid, lists, IsSamePlaces}
+use Rattle.av_world.specs.Views.{grid, lists, IsSameButBlocks}
 use Rattle.av_world.specs.Parcels.{with_aside}
 use Rattle.av_world.specs.ParcelViews.{blocks as parcel_blocks, lists as parcel_lists}
 use Rattle.av_world.specs.declared.worlds.World.{World}
@@ -33,13 +33,13 @@ pub mended_push : {X : Type 0} (part : X → cells.World) (l : Lists) (xs : List
 mended_push part l [] x w = refl
 mended_push part l (y ∷ ys) x w = mended_push part l ys x (mended l (part y) w)
 
-pub part_in_same : (v w : World) (p : Parcel) → IsSamePlaces v w → IsPartIn v p → IsPartIn w p
+pub part_in_same : (v w : World) (p : Parcel) → IsSameButBlocks v w → IsPartIn v p → IsPartIn w p
 part_in_same v w p s i =
     subst (λ h. IsPartOf h w.positions.items (lists w) (parcel_blocks p) (parcel_lists p)) (sym s.height)
     (subst (λ ps. IsPartOf v.height ps (lists w) (parcel_blocks p) (parcel_lists p)) (sym (ap (λ x. x.items) s.positions))
     (subst (λ l. IsPartOf v.height v.positions.items l (parcel_blocks p) (parcel_lists p)) (sym s.lists_are) i))
 
-pub are_more : (g : Grid) (parts : List (List Placed)) (picks : ℕ → SectionPos → Bool) (a : ℕ) (js : List Job) (j : Job) → AreJobs g parts picks a js → IsJob g parts picks (a + length js) j → AreJobs g parts picks a (js ++ j ∷ [])
+pub are_more : (g : Grid) (parts : List (List DueEntry)) (picks : ℕ → SectionPos → Bool) (a : ℕ) (js : List Job) (j : Job) → AreJobs g parts picks a js → IsJob g parts picks (a + length js) j → AreJobs g parts picks a (js ++ j ∷ [])
 are_more g parts picks a [] j h i = (subst (λ n. IsJob g parts picks n j) (omega arith) i, tt)
 are_more g parts picks a (x ∷ js) j h i = (h.0, are_more g parts picks (suc a) js j h.1 (subst (λ n. IsJob g parts picks n j) (omega arith) i))
 
@@ -120,7 +120,7 @@ at_middle {X} all ys x zs e = subst (λ l. (length ys < length l) × (x ≡ get_
   by [] = (omega arith, refl)
   by (y ∷ ys) = let r = by ys in (omega (arith, r.0), r.1)
 
-pub parts_more : (v w : World) (js : List Job) (j : Job) → HaveParts v js → IsSamePlaces v w → IsPartIn w j.parcel → HaveParts w (js ++ j ∷ [])
+pub parts_more : (v w : World) (js : List Job) (j : Job) → HaveParts v js → IsSameButBlocks v w → IsPartIn w j.parcel → HaveParts w (js ++ j ∷ [])
 parts_more v w js j h s p = All-push (λ j. IsPartIn w j.parcel) js j (λ k d u. part_in_same v w (slice_index_or js k d).parcel s (h k d u)) p
 
 pub refused_more : (ds : List Done) (d : Done) → list_any (λ d. is_some d.fault) (ds ++ d ∷ []) ≡ (list_any (λ d. is_some d.fault) ds || is_some d.fault)

@@ -13,13 +13,13 @@ use Rattle.av_rules.specs.declared.kinds.Kinds.{Kinds}
 use Rattle.av_cells.specs.Kinds.{kinds_of}
 use Rattle.av_ring.specs.Shown.{RingShown, SeatShown, seat_shown, IsSeatOf}
 use Rattle.av_crew.specs.declared.jobs.Job.{Job}
-use Rattle.av_crew.specs.Workers.{Part, Worker, WorkedPart, IsWorkerOf, GivesBack, IsNewSeat}
+use Rattle.av_crew.specs.Workers.{Returned, Worker, HasWorked, IsWorkerOf, GivesBack, IsNewSeat}
 
-pub worker_gives : (now : ℕ) (kinds : Kinds) (s : SeatShown Job) (w : Worker) (p : Part) → IsWorkerOf now kinds s w → GivesBack w p → WorkedPart (kinds_of kinds) now s p
+pub worker_gives : (now : ℕ) (kinds : Kinds) (s : SeatShown Job) (w : Worker) (p : Returned) → IsWorkerOf now kinds s w → GivesBack w p → HasWorked (kinds_of kinds) now s p
 worker_gives now kinds s w p i g =
-    subst (λ x. WorkedPart (kinds_of kinds) now x p) i.seat_is
-    (subst (λ n. WorkedPart (kinds_of kinds) n w.promise.seat.value p) i.tick
-    (subst (λ r. WorkedPart (kinds_of r) w.promise.now w.promise.seat.value p) i.rows g))
+    subst (λ x. HasWorked (kinds_of kinds) now x p) i.seat_is
+    (subst (λ n. HasWorked (kinds_of kinds) n w.promise.seat.value p) i.tick
+    (subst (λ r. HasWorked (kinds_of r) w.promise.now w.promise.seat.value p) i.rows g))
 
 -- ---- seats that came back
 
@@ -28,29 +28,29 @@ pub record IsBack (r : TableId) (n : ℕ) (js : List Job) (s : SeatShown Job) : 
   pub seats : s.seats ≡ n
   pub jobs : s.jobs ≡ js
 
-abbrev pub first : Part → SeatShown Job
+abbrev pub first : Returned → SeatShown Job
 first p = p.0
 
-abbrev pub answers : Part → List Done
+abbrev pub answers : Returned → List Done
 answers p = p.1.items
 
-each_back : (k : ℕ → Kind) (now : ℕ) (r : TableId) (n : ℕ) (js : List Job) (ss : List (SeatShown Job)) (ps : List Part) → AllByRecursion (λ s. s ≡ seat_shown r n js [] false) ss → AllZip (WorkedPart k now) ss ps → AllByRecursion (IsBack r n js) (map first ps)
+each_back : (k : ℕ → Kind) (now : ℕ) (r : TableId) (n : ℕ) (js : List Job) (ss : List (SeatShown Job)) (ps : List Returned) → AllByRecursion (λ s. s ≡ seat_shown r n js [] false) ss → AllZip (HasWorked k now) ss ps → AllByRecursion (IsBack r n js) (map first ps)
 each_back k now r n js [] [] h z = tt
 each_back k now r n js [] (p ∷ ps) h z = absurd z
 each_back k now r n js (s ∷ ss) [] h z = absurd z
 each_back k now r n js (s ∷ ss) (p ∷ ps) h z =
     (record { ring = z.0.ring ∙ ap (λ s. s.ring) h.0; seats = z.0.seats ∙ ap (λ s. s.seats) h.0; jobs = z.0.jobs ∙ ap (λ s. s.jobs) h.0 }, each_back k now r n js ss ps h.1 z.1)
 
-pub all_back : (k : ℕ → Kind) (now : ℕ) (r : TableId) (n : ℕ) (js : List Job) (ss : List (SeatShown Job)) (ps : List Part) → All (λ s. s ≡ seat_shown r n js [] false) ss → AllZip (WorkedPart k now) ss ps → All (IsBack r n js) (map first ps)
+pub all_back : (k : ℕ → Kind) (now : ℕ) (r : TableId) (n : ℕ) (js : List Job) (ss : List (SeatShown Job)) (ps : List Returned) → All (λ s. s ≡ seat_shown r n js [] false) ss → AllZip (HasWorked k now) ss ps → All (IsBack r n js) (map first ps)
 all_back k now r n js ss ps h z = All-from_recursion (IsBack r n js) (map first ps) (each_back k now r n js ss ps (recursion_from_All (λ s. s ≡ seat_shown r n js [] false) ss h) z)
 
-pub back_count : (k : ℕ → Kind) (now : ℕ) (ss : List (SeatShown Job)) (ps : List Part) → AllZip (WorkedPart k now) ss ps → length (map first ps) ≡ length ss
+pub back_count : (k : ℕ → Kind) (now : ℕ) (ss : List (SeatShown Job)) (ps : List Returned) → AllZip (HasWorked k now) ss ps → length (map first ps) ≡ length ss
 back_count k now [] [] z = refl
 back_count k now [] (p ∷ ps) z = absurd z
 back_count k now (s ∷ ss) [] z = absurd z
 back_count k now (s ∷ ss) (p ∷ ps) z = ap suc (back_count k now ss ps z.1)
 
-all_answered : (k : ℕ → Kind) (now : ℕ) (ss : List (SeatShown Job)) (ps : List Part) → AllZip (WorkedPart k now) ss ps → AllZip (IsDoneOf k now) (flat_map (λ s. s.taken) (map first ps)) (flat_map answers ps)
+all_answered : (k : ℕ → Kind) (now : ℕ) (ss : List (SeatShown Job)) (ps : List Returned) → AllZip (HasWorked k now) ss ps → AllZip (IsDoneOf k now) (flat_map (λ s. s.taken) (map first ps)) (flat_map answers ps)
 all_answered k now [] [] z = tt
 all_answered k now [] (p ∷ ps) z = absurd z
 all_answered k now (s ∷ ss) [] z = absurd z
@@ -66,7 +66,7 @@ pub seats_of : (ring : RingShown) (js : List Job) (ss : List (SeatShown Job)) �
 seats_of ring js ss h n = λ i d u. record { ring = (h i d u).ring; seats = (h i d u).seats; count = ap length (h i d u).jobs ∙ n }
 
 -- where no job is left, all are answered
-pub answers_all : (k : ℕ → Kind) (now : ℕ) (jobs : List Job) (ss : List (SeatShown Job)) (ps : List Part) (left : List Job) → AllZip (WorkedPart k now) ss ps → IsPermutation jobs (flat_map (λ s. s.taken) (map first ps) ++ left) → left ≡ [] → AnswersAll k now jobs (flat_map answers ps)
+pub answers_all : (k : ℕ → Kind) (now : ℕ) (jobs : List Job) (ss : List (SeatShown Job)) (ps : List Returned) (left : List Job) → AllZip (HasWorked k now) ss ps → IsPermutation jobs (flat_map (λ s. s.taken) (map first ps) ++ left) → left ≡ [] → AnswersAll k now jobs (flat_map answers ps)
 answers_all k now jobs ss ps left z p e =
     record {
       order = flat_map (λ s. s.taken) (map first ps);

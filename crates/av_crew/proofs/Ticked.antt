@@ -10,7 +10,7 @@ use Rattle.av_cells.proofs.Wakes.{HasKinds-same}
 use Rattle.av_land.specs.Tick.{turned_all}
 use Rattle.av_play.specs.Play.{Outcome, in_order}
 use Rattle.av_world.specs.Appended.{entries_made, with_entries}
-use Rattle.av_world.specs.Views.{blocks, lists, site, IsSamePlaces}
+use Rattle.av_world.specs.Views.{blocks, lists, site, IsSameButBlocks}
 use Rattle.av_world.specs.Lands.{land_of, IsUncarved}
 use Rattle.av_world.specs.declared.worlds.World.{World}
 use Rattle.av_world.proofs.Whole.{cells_of_land, land_after}
@@ -18,10 +18,10 @@ use Rattle.av_crew.specs.Gathered.{AreBroughtTogether}
 use Rattle.av_crew.proofs.Appended.{entries_are}
 use Rattle.av_crew.proofs.LandOrder.{land_with, order_is, order_known, order_loaded}
 
-pub same_site : (v w : World) → IsSamePlaces v w → site w ≡ site v
+pub same_site : (v w : World) → IsSameButBlocks v w → site w ≡ site v
 same_site v w s = λ i. record { height = Some (s.height i); chunks = (s.positions i).items; broken = s.broken i }
 
-module _ (k : ℕ → Kind) (now : ℕ) (es : List Entry) (mid h new : World) (ms : List Made) (same : IsSamePlaces mid h) (g : AreBroughtTogether k now es (blocks mid) (lists mid) (blocks h) ms) (s : site new ≡ site h) (b : blocks new ≡ with_entries (blocks h) (entries_made ms)) (l : lists new ≡ listed_all (lists h) (entries_made ms)) where
+module _ (k : ℕ → Kind) (now : ℕ) (es : List Entry) (mid h new : World) (ms : List Made) (same : IsSameButBlocks mid h) (g : AreBroughtTogether k now es (blocks mid) (lists mid) (blocks h) ms) (s : site new ≡ site h) (b : blocks new ≡ with_entries (blocks h) (entries_made ms)) (l : lists new ≡ listed_all (lists h) (entries_made ms)) where
   abbrev o : Outcome
   o = in_order k now es (blocks mid) (lists mid)
 

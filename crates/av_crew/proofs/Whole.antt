@@ -7,9 +7,9 @@ use Rattle.std.specs.List.{AllByRecursion, AllZip, flat_map}
 use Rattle.std.proofs.Math.Seq.{take-length}
 use Rattle.av_world.proofs.Corners.{reach_self}
 use Rattle.av_types.proofs.Each.{each_then}
-use Rattle.av_types.specs.Places.{section_of, place_of}
-use Rattle.av_types.specs.declared.place.Pos.{Pos}
-use Rattle.av_types.specs.declared.place.SectionPos.{SectionPos}
+use Rattle.av_types.specs.Positions.{section_of, place_of}
+use Rattle.av_types.specs.declared.position.Pos.{Pos}
+use Rattle.av_types.specs.declared.position.SectionPos.{SectionPos}
 use Rattle.av_types.specs.declared.tick.Entry.{Entry}
 use Rattle.av_types.specs.declared.tick.Made.{Made}
 use Rattle.av_ticks.specs.Entries.{made_order}
@@ -21,7 +21,7 @@ use Rattle.av_cells.specs.Rule.{HasKinds}
 use Rattle.av_cells.specs.World as cells
 use Rattle.av_cells.specs.World.{Lists}
 use Rattle.av_cells.specs.Grid.{Grid, is_here, number_in, cells_of, only}
-use Rattle.av_play.specs.declared.event.Placed.{Placed}
+use Rattle.av_play.specs.declared.event.DueEntry.{DueEntry}
 use Rattle.av_play.specs.Parts.{numbered, part_at, count_of}
 use Rattle.av_play.specs.Play.{world_after, made_after, entries_of}
 use Rattle.av_play.specs.Laws.{IsOfPart}
@@ -74,7 +74,7 @@ module _ (kinds : Kinds) (g : Grid) (entries : List Entry) (clusters : List Clus
 
   loaded_part : (m : ℕ) → AllByRecursion (λ x. IsTrue ((cells_of (only (picks m) g)).loaded x.entry.pos)) (part_at (parts_of clusters) m)
   loaded_part m =
-      let P : Placed → Type 0 = λ x. IsTrue ((cells_of g).loaded x.entry.pos) in
+      let P : DueEntry → Type 0 = λ x. IsTrue ((cells_of g).loaded x.entry.pos) in
       let all : AllByRecursion P (part_at (parts_of clusters) m) =
       subst (AllByRecursion P) (sym (cut.plan.each m)) (each_then _ _ (λ x c. c.1) _ (each_chosen P _ (numbered 0 entries) (each_numbered (λ e. IsTrue ((cells_of g).loaded e.pos)) entries 0 (recursion_from_All _ entries loaded)))) in
       each_then _ _ (λ x c.
@@ -126,10 +126,10 @@ zip_whole k now (j ∷ js) [] z f = absurd z
 zip_whole k now (j ∷ js) (d ∷ ds) z f =
     let t = z.0.whole f.0 in
     let all : take (length j.entries.items) j.entries.items ≡ j.entries.items = take-length j.entries.items in
-    (record { world = t.world ∙ ap (λ (xs : List Placed). world_after k now xs (parcel_blocks j.parcel)) all; made = t.put_aside ∙ ap (λ (xs : List Placed). made_after k now xs (parcel_blocks j.parcel)) all }, zip_whole k now js ds z.1 f.1)
+    (record { world = t.world ∙ ap (λ (xs : List DueEntry). world_after k now xs (parcel_blocks j.parcel)) all; made = t.put_aside ∙ ap (λ (xs : List DueEntry). made_after k now xs (parcel_blocks j.parcel)) all }, zip_whole k now js ds z.1 f.1)
 
 -- what a job's turns make is of blocks of the whole grid
-made_in : (k : ℕ → Kind) (now : ℕ) (g : Grid) (parts : List (List Placed)) (picks : ℕ → SectionPos → Bool) (L : Pos → Bool) → ((q : Pos) → L q ≡ (cells_of g).loaded q) → (j : Job) → ((m : ℕ) × IsJob g parts picks m j) → AllMadeIn L (made_of k now j)
+made_in : (k : ℕ → Kind) (now : ℕ) (g : Grid) (parts : List (List DueEntry)) (picks : ℕ → SectionPos → Bool) (L : Pos → Bool) → ((q : Pos) → L q ≡ (cells_of g).loaded q) → (j : Job) → ((m : ℕ) × IsJob g parts picks m j) → AllMadeIn L (made_of k now j)
 made_in k now g parts picks L same j i =
     let P : Made → Type 0 = λ x. IsTrue ((parcel_blocks j.parcel).loaded x.entry.pos) in
     let Q : Made → Type 0 = λ x. IsTrue (L x.entry.pos) in

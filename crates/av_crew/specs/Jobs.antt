@@ -1,11 +1,11 @@
 -- The jobs of a tick, and what they leave.
 use Rattle.std.specs.Prelude.{◌≡◌, ℕ, suc, ◌<◌, Bool, List, [], ◌∷◌, IsTrue}
-use Rattle.av_types.specs.declared.place.SectionPos.{SectionPos}
+use Rattle.av_types.specs.declared.position.SectionPos.{SectionPos}
 use Rattle.av_types.specs.declared.tick.Made.{Made}
 use Rattle.av_cells.specs.declared.kind.Kind.{Kind}
 use Rattle.av_cells.specs.World.{World, Lists}
 use Rattle.av_cells.specs.Grid.{Grid, cells_of, only}
-use Rattle.av_play.specs.declared.event.Placed.{Placed}
+use Rattle.av_play.specs.declared.event.DueEntry.{DueEntry}
 use Rattle.av_play.specs.Parts.{part_at}
 use Rattle.av_play.specs.Play.{world_after, made_after}
 use Rattle.av_world.specs.OutOf.{mended}
@@ -13,13 +13,13 @@ use Rattle.av_world.specs.ParcelViews.{blocks}
 use Rattle.av_crew.specs.declared.jobs.Job.{Job}
 
 -- the job of the n-th part: its entries, and the picked sections as they were in g
-pub record IsJob (g : Grid) (parts : List (List Placed)) (picks : ℕ → SectionPos → Bool) (n : ℕ) (job : Job) : Type 0 where
+pub record IsJob (g : Grid) (parts : List (List DueEntry)) (picks : ℕ → SectionPos → Bool) (n : ℕ) (job : Job) : Type 0 where
   pub number : job.number ≡ n
   pub entries : job.entries.items ≡ part_at parts n
   pub blocks_are : blocks job.parcel ≡ cells_of (only (picks n) g)
 
 -- the jobs of the parts from the n-th on
-abbrev pub AreJobs : Grid → List (List Placed) → (ℕ → SectionPos → Bool) → ℕ → List Job → Type 0
+abbrev pub AreJobs : Grid → List (List DueEntry) → (ℕ → SectionPos → Bool) → ℕ → List Job → Type 0
 AreJobs g parts picks n [] = Unit {0}
 AreJobs g parts picks n (j ∷ js) = IsJob g parts picks n j × AreJobs g parts picks (suc n) js
 

@@ -1,9 +1,9 @@
 -- Parts of a tick with their sections, as they are carved. Of public clauses those of `carve_all`, `mend_all` and `turn_parts` alone cite them.
 use Rattle.std.specs.Prelude.{◌≡◌, ℕ, List, [], Bool, false, IsTrue, ◌↔◌, All}
 use Rattle.std.specs.List.{AllPairs}
-use Rattle.av_types.specs.Places.{section_of}
-use Rattle.av_types.specs.declared.place.Pos.{Pos}
-use Rattle.av_types.specs.declared.place.SectionPos.{SectionPos}
+use Rattle.av_types.specs.Positions.{section_of}
+use Rattle.av_types.specs.declared.position.Pos.{Pos}
+use Rattle.av_types.specs.declared.position.SectionPos.{SectionPos}
 use Rattle.av_types.specs.declared.tick.Entry.{Entry}
 use Rattle.av_cells.specs.Positions.{same_section}
 use Rattle.av_cells.specs.World as cells

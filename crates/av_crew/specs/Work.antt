@@ -9,20 +9,20 @@ use Rattle.av_rules.specs.Kinds.{kind_count}
 use Rattle.av_cells.specs.declared.kind.Kind.{Kind}
 use Rattle.av_cells.specs.Rule.{HasKinds}
 use Rattle.av_cells.specs.World.{World, Lists, listed_all}
-use Rattle.av_play.specs.declared.event.Placed.{Placed}
+use Rattle.av_play.specs.declared.event.DueEntry.{DueEntry}
 use Rattle.av_play.specs.Play.{world_after, made_after, entries_of}
 use Rattle.av_world.specs.ParcelViews.{blocks, lists}
 use Rattle.av_crew.specs.declared.jobs.Job.{Job}
 use Rattle.av_crew.specs.declared.jobs.Done.{Done}
 
 -- the first so many entries were turned one after the other, and what they made was put aside
-pub record AreTurned (k : ℕ → Kind) (now count : ℕ) (entries : List Placed) (old new : World) (old_lists new_lists : Lists) (made : List Made) : Type 0 where
+pub record AreTurned (k : ℕ → Kind) (now count : ℕ) (entries : List DueEntry) (old new : World) (old_lists new_lists : Lists) (made : List Made) : Type 0 where
   pub world : new ≡ world_after k now (take count entries) old
   pub put_aside : made ≡ made_after k now (take count entries) old
   pub listed : new_lists ≡ listed_all old_lists (entries_of made)
 
 -- some first entries were turned, and not all
-pub record AreBegun (k : ℕ → Kind) (now : ℕ) (entries : List Placed) (old new : World) (old_lists new_lists : Lists) (made : List Made) : Type 0 where
+pub record AreBegun (k : ℕ → Kind) (now : ℕ) (entries : List DueEntry) (old new : World) (old_lists new_lists : Lists) (made : List Made) : Type 0 where
   pub count : ℕ
   pub fewer : count < length entries
   pub turned : AreTurned k now count entries old new old_lists new_lists made

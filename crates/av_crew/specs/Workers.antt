@@ -24,14 +24,14 @@ pub record Worked (k : ℕ → Kind) (now : ℕ) (old new : SeatShown Job) (done
   pub jobs : new.jobs ≡ old.jobs
   pub answered : AllZip (IsDoneOf k now) new.taken dones
 
-abbrev pub Part : Type 0
-Part = SeatShown Job × Vec Done Global
+abbrev pub Returned : Type 0
+Returned = SeatShown Job × Vec Done Global
 
-abbrev pub WorkedPart : (ℕ → Kind) → ℕ → SeatShown Job → Part → Type 0
-WorkedPart k now s p = Worked k now s p.0 p.1.items
+abbrev pub HasWorked : (ℕ → Kind) → ℕ → SeatShown Job → Returned → Type 0
+HasWorked k now s p = Worked k now s p.0 p.1.items
 
 abbrev pub Worker : Type 0
-Worker = PromisedHandle Part AnswersTaken
+Worker = PromisedHandle Returned AnswersTaken
 
 -- the worker promised to work at this seat
 pub record IsWorkerOf (now : ℕ) (kinds : Kinds) (seat : SeatShown Job) (worker : Worker) : Type 0 where
@@ -40,5 +40,5 @@ pub record IsWorkerOf (now : ℕ) (kinds : Kinds) (seat : SeatShown Job) (worker
   pub seat_is : worker.promise.seat.value ≡ seat
 
 -- what a worker gave back is what it promised
-abbrev pub GivesBack : Worker → Part → Type 0
-GivesBack w p = WorkedPart (kinds_of w.promise.kinds.value) w.promise.now w.promise.seat.value p
+abbrev pub GivesBack : Worker → Returned → Type 0
+GivesBack w p = HasWorked (kinds_of w.promise.kinds.value) w.promise.now w.promise.seat.value p

@@ -1,5 +1,5 @@
 //! A part of a tick as a job, and what a worker answers for it.
-use av_play::Placed;
+use av_play::DueEntry;
 use av_ring::Numbered;
 use av_types::{Fault, Made};
 use av_world::Parcel;
@@ -9,8 +9,8 @@ use av_world::Parcel;
 pub struct Job {
     /// The part's number.
     pub number: u32,
-    /// Its entries with their places in the tick, in the tick's order.
-    pub entries: Vec<Placed>,
+    /// Its entries with their indices in the tick, in the tick's order.
+    pub entries: Vec<DueEntry>,
     /// Its sections.
     pub parcel: Parcel,
 }

@@ -3,7 +3,7 @@ ghost use Rattle.std.specs.Prelude.{◌≡◌, ◌≤◌, ◌+◌, ◌<◌, ◌+
 ghost use Rattle.std.specs.List.{All, flat_map, list_any};
 ghost use Rattle.av_types.specs.declared.fault.Fault.TheVariants.{OutOfMemory};
 ghost use Rattle.av_types.specs.declared.tick.Entry.{Entry};
-ghost use Rattle.av_world.specs.Views.{grid, blocks, lists, is_broken, IsSamePlaces};
+ghost use Rattle.av_world.specs.Views.{grid, blocks, lists, is_broken, IsSameButBlocks};
 ghost use Rattle.av_world.specs.ParcelViews.{blocks as parcel_blocks};
 ghost use Rattle.av_crew.specs.Jobs.{mended_all, AreJobs, IsCarved};
 ghost use Rattle.av_cluster.specs.Clusters.{parts_of};
@@ -20,7 +20,7 @@ fn carve_one(world: &mut World, cluster: Cluster, number: u32) -> Result<Job, Al
     requires whole { is_broken world.old ≡ false }
     requires can { CanCarve (grid world.old) cluster }
     ensures ok { IfOk result (λ job. CarvesOne world.old world.new cluster number job) }
-    ensures same { IsSamePlaces world.old world.new }
+    ensures same { IsSameButBlocks world.old world.new }
     ensures unchanged { OnErr result (grid world.new ≡ grid world.old) }
 {
     let Cluster { entries, sections } = cluster;
@@ -54,7 +54,7 @@ pub fn carve_all(
     ensures carved { IsCarved (grid world.old) (picks_of clusters.items) (vec_len clusters)
         (grid world.new) }
     ensures parts { OnOk result (HaveParts world.new jobs.new.items) }
-    ensures same { IsSamePlaces world.old world.new }
+    ensures same { IsSameButBlocks world.old world.new }
     ensures memory { IfErr result (λ e. e ≡ OutOfMemory) }
 {
     let mut number: u32 = 0;
@@ -72,7 +72,7 @@ fn mend_one(world: &mut World, done: Done, made: &mut Vec<Vec<Made>>) -> bool
     requires room { vec_len made.old < vec_capacity made.old }
     ensures mended { blocks world.new ≡ mended_all (λ d. parcel_blocks d.parcel) (lists world.old)
         (done ∷ []) (blocks world.old) }
-    ensures same { IsSamePlaces world.old world.new }
+    ensures same { IsSameButBlocks world.old world.new }
     ensures made { made.new.items ≡ made.old.items ++ done.made ∷ [] }
     ensures capacity { vec_capacity made.new ≡ vec_capacity made.old }
     ensures refused { result ≡ is_some done.fault }
@@ -102,7 +102,7 @@ pub fn mend_all(world: &mut World, dones: Vec<Done>, made: &mut Vec<Vec<Made>>) 
     requires room { vec_len made.old + vec_len dones ≤ vec_capacity made.old }
     ensures mended { blocks world.new ≡ mended_all (λ d. parcel_blocks d.parcel)
         (lists world.old) dones.items (blocks world.old) }
-    ensures same { IsSamePlaces world.old world.new }
+    ensures same { IsSameButBlocks world.old world.new }
     ensures made { flat_map (λ m. m.items) made.new.items
         ≡ flat_map (λ m. m.items) made.old.items ++ flat_map (λ d. d.made.items) dones.items }
     ensures refused { result ≡ list_any (λ d. is_some d.fault) dones.items }

@@ -7,7 +7,7 @@ ghost use Rattle.av_land.specs.Tick.{run, run_count};
 ghost use Rattle.av_world.specs.Views.{is_broken};
 ghost use Rattle.av_world.specs.Lands.{land_of};
 ghost use Rattle.av_edits.specs.Numbered.{number_sets};
-ghost use Rattle.av_serial.specs.Ready.{IsReady, IsSamePlace, CanApply, CanTick, IsTick};
+ghost use Rattle.av_serial.specs.Ready.{IsReady, HasSameChunks, CanApply, CanTick, IsTick};
 ghost use Rattle.av_crew.specs.Counts.{is_count_of_workers};
 
 use crate::counts::Workers;
@@ -55,7 +55,7 @@ pub fn run_ticks<R: Threads + Wait + Sync, G: Gate + Sync>(
     ensures count { IfOk result (λ total. total ≡ run_count (kinds_of kinds.now)
         (number_sets edits.now) n (land_of world.old)) }
     ensures ready { OnOk result (IsReady (kind_count kinds.now) world.new) }
-    ensures place { OnOk result (IsSamePlace world.old world.new) }
+    ensures chunks { OnOk result (HasSameChunks world.old world.new) }
     ensures sound { OnOk result (is_broken world.old ≡ false) }
     ensures workers { OnOk result (is_count_of_workers workers ≡ true) }
     ensures stands { OnErr result ((world.new ≡ world.old) ⊎ (is_broken world.new ≡ true)) }

@@ -6,7 +6,7 @@ ghost use Rattle.av_types.specs.declared.tick.Entry.{Entry};
 ghost use Rattle.av_rules.specs.Kinds.{kind_count};
 ghost use Rattle.av_cells.specs.Kinds.{kinds_of};
 ghost use Rattle.av_cells.specs.Rule.{HasKinds};
-ghost use Rattle.av_world.specs.Views.{grid, blocks, lists, is_broken, IsSamePlaces};
+ghost use Rattle.av_world.specs.Views.{grid, blocks, lists, is_broken, IsSameButBlocks};
 ghost use Rattle.av_crew.specs.Parts.{IsCut, picks_of, AreOthersKept};
 ghost use Rattle.av_crew.specs.Gathered.{AreBroughtTogether};
 
@@ -47,7 +47,7 @@ pub fn turn_parts<R: Threads + Wait + Sync, G: Gate + Sync>(
         → IsCut (grid world.old) entries clusters.items
         → AreBroughtTogether (kinds_of kinds.now) now entries (blocks world.old) (lists world.old)
         (blocks world.new) made.items) }
-    ensures same { IsSamePlaces world.old world.new }
+    ensures same { IsSameButBlocks world.old world.new }
     ensures others { AreOthersKept (picks_of clusters.items) (blocks world.old) (blocks world.new) }
     ensures memory { IfErr result (λ e. e ≡ OutOfMemory) }
 {

@@ -9,7 +9,7 @@ ghost use Rattle.av_world.specs.Views.{is_broken, blocks};
 ghost use Rattle.av_world.specs.Lands.{land_of};
 ghost use Rattle.av_cluster.specs.Clusters.{ArePlanned};
 ghost use Rattle.av_edits.specs.Numbered.{number_sets};
-ghost use Rattle.av_serial.specs.Ready.{IsReady, IsSamePlace, CanApply};
+ghost use Rattle.av_serial.specs.Ready.{IsReady, HasSameChunks, CanApply};
 ghost use Rattle.av_crew.specs.Counts.{is_count_of_workers};
 
 use crate::counts::Workers;
@@ -48,7 +48,7 @@ fn turn_planned<R: Threads + Wait + Sync, G: Gate + Sync>(
     ensures done { OnOk result (land_of world.new ≡ turned_all (kinds_of kinds.now) now entries.now
         (land_of world.old)) }
     ensures ready { OnOk result (IsReady (kind_count kinds.now) world.new) }
-    ensures place { OnOk result (IsSamePlace world.old world.new) }
+    ensures chunks { OnOk result (HasSameChunks world.old world.new) }
 {
     let Ok(made) = turn_parts(rt, world, kinds, now, clusters, workers.count, gate) else {
         return Err(AllocError);
@@ -76,7 +76,7 @@ fn turn_taken<R: Threads + Wait + Sync, G: Gate + Sync>(
     ensures done { OnOk result (land_of world.new ≡ turned_all (kinds_of kinds.now) now entries.now
         (land_of world.old)) }
     ensures ready { OnOk result (IsReady (kind_count kinds.now) world.new) }
-    ensures place { OnOk result (IsSamePlace world.old world.new) }
+    ensures chunks { OnOk result (HasSameChunks world.old world.new) }
 {
     if gate.watches() {
         let Ok(clusters) = plan(alloc, world, entries) else {
@@ -102,7 +102,7 @@ fn turn_due<R: Threads + Wait + Sync, G: Gate + Sync>(
         (due_entries now (land_of world.old)) (without_due now (land_of world.old))) }
     ensures count { IfOk result (λ n. n ≡ length (due_entries now (land_of world.old))) }
     ensures ready { OnOk result (IsReady (kind_count kinds.now) world.new) }
-    ensures place { OnOk result (IsSamePlace world.old world.new) }
+    ensures chunks { OnOk result (HasSameChunks world.old world.new) }
 {
     let entries = world.due(now)?;
     let alloc = *entries.allocator();
@@ -141,7 +141,7 @@ fn work_tick<R: Threads + Wait + Sync, G: Gate + Sync>(
     ensures count { IfOk result (λ n. n ≡ tick_count (kinds_of kinds.now) now
         (number_sets edits.now) (land_of world.old)) }
     ensures ready { OnOk result (IsReady (kind_count kinds.now) world.new) }
-    ensures place { OnOk result (IsSamePlace world.old world.new) }
+    ensures chunks { OnOk result (HasSameChunks world.old world.new) }
 {
     let Ok(()) = apply_all(world, kinds, now, edits) else {
         return Err(AllocError);
@@ -167,7 +167,7 @@ pub(crate) fn tick_or_give_up<R: Threads + Wait + Sync, G: Gate + Sync>(
     ensures count { IfOk result (λ n. n ≡ tick_count (kinds_of kinds.now) now
         (number_sets edits.now) (land_of world.old)) }
     ensures ready { OnOk result (IsReady (kind_count kinds.now) world.new) }
-    ensures place { OnOk result (IsSamePlace world.old world.new) }
+    ensures chunks { OnOk result (HasSameChunks world.old world.new) }
     ensures broken { OnErr result (is_broken world.new ≡ true) }
 {
     match work_tick(rt, world, kinds, now, edits, workers, gate) {
@@ -203,7 +203,7 @@ pub fn tick<R: Threads + Wait + Sync, G: Gate + Sync>(
     ensures count { IfOk result (λ n. n ≡ tick_count (kinds_of kinds.now) now
         (number_sets edits.now) (land_of world.old)) }
     ensures ready { OnOk result (IsReady (kind_count kinds.now) world.new) }
-    ensures place { OnOk result (IsSamePlace world.old world.new) }
+    ensures chunks { OnOk result (HasSameChunks world.old world.new) }
     ensures sound { OnOk result (is_broken world.old ≡ false) }
     ensures workers { OnOk result (is_count_of_workers workers ≡ true) }
     ensures err { IfErr result (λ e. e ≡ (if is_count_of_workers workers

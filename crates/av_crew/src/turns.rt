@@ -11,7 +11,7 @@ use crate::gates::Gate;
 use crate::jobs::{Done, Job};
 use arrayvec::ArrayVec;
 use av_cells::Cells;
-use av_play::{Placed, turn_one};
+use av_play::{DueEntry, turn_one};
 use av_rules::Kinds;
 use av_types::{Fault, Made};
 use std::alloc::AllocError;
@@ -21,7 +21,7 @@ fn turn_all<C: Cells>(
     cells: &mut C,
     kinds: &Kinds,
     now: u32,
-    entries: &[Placed],
+    entries: &[DueEntry],
     made: &mut Vec<Made>,
 ) -> Result<(), AllocError>
     requires empty { made.old.items ≡ [] }
@@ -41,7 +41,7 @@ fn turn_all<C: Cells>(
 }
 
 /// Works a job off: turns its entries in its own sections, one after the other. The answer has the job's number, its
-/// sections as the turns left them, and the entries that were made, each with its maker's place and its number in the
+/// sections as the turns left them, and the entries that were made, each with its maker's index and its number in the
 /// turn. Where memory is refused, its fault is `OutOfMemory`, and only some first entries were turned.
 pub fn work<G: Gate>(job: Job, kinds: &Kinds, now: u32, gate: &G) -> Done
     requires { CanWork kinds.now job }

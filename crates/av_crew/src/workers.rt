@@ -6,7 +6,7 @@ ghost use Rattle.av_cells.specs.Kinds.{kinds_of};
 ghost use Rattle.av_ring.specs.Numbers.{HaveDistinctNumbers};
 ghost use Rattle.av_crew.specs.Work.{CanWork};
 ghost use Rattle.av_crew.specs.Answer.{AnswersAll};
-ghost use Rattle.av_crew.specs.Workers.{Worked, IsNewSeat, WorkedPart, IsWorkerOf, GivesBack};
+ghost use Rattle.av_crew.specs.Workers.{Worked, IsNewSeat, HasWorked, IsWorkerOf, GivesBack};
 
 use crate::gates::Gate;
 use crate::jobs::{Done, Job};
@@ -22,7 +22,7 @@ use std::thread;
 use std::thread::{Promise, PromisedHandle, Scope, Threads};
 
 /// What a worker gives back: its seat, and the answers to the jobs that it took.
-pub type Part = (Seat<Job>, Vec<Done>);
+pub type Returned = (Seat<Job>, Vec<Done>);
 
 #[derive(Drop)]
 struct AnswersTaken {
@@ -31,11 +31,11 @@ struct AnswersTaken {
     seat: Snapshot<Seat<Job>>,
 }
 
-impl Promise<Part> for AnswersTaken {
+impl Promise<Returned> for AnswersTaken {
     ghost kept_by = { λ p r. Worked (kinds_of p.kinds.value) p.now p.seat.value r.0 r.1.items };
 }
 
-type Worker = PromisedHandle<Part, AnswersTaken>;
+type Worker = PromisedHandle<Returned, AnswersTaken>;
 
 /// Takes jobs and works them off, until none is left or memory runs out.
 fn work_seat<R: Wait, G: Gate>(
@@ -46,7 +46,7 @@ fn work_seat<R: Wait, G: Gate>(
     kinds: &Kinds,
     now: u32,
     gate: &G,
-) -> Part
+) -> Returned
     requires new { IsNewSeat jobs.now seat }
     requires able { All (CanWork kinds.now) seat.jobs }
     ensures { Worked (kinds_of kinds.now) now seat result.0 result.1.items }
@@ -88,7 +88,7 @@ fn start_one<'s, E, R: Wait + Sync, G: Gate + Sync>(
     };
     let worker = scope.spawn_with(
         promise,
-        move || -> Part
+        move || -> Returned
             requires { IsNewSeat jobs.now seat × All (CanWork kinds.now) seat.jobs }
             ensures { Worked (kinds_of kinds.entry.now) now seat result.0 result.1.items }
         { work_seat(rt, alloc, jobs, seat, kinds, now, gate) },
@@ -122,11 +122,11 @@ fn start_all<'s, E, R: Wait + Sync, G: Gate + Sync>(
 }
 
 /// Joins all workers, also where memory is refused.
-fn join_all<R: Threads>(rt: &R, workers: Vec<Worker>) -> Result<Vec<Part>, AllocError>
-    ensures { IfOk result (λ parts. AllZip GivesBack workers.items parts.items) }
+fn join_all<R: Threads>(rt: &R, workers: Vec<Worker>) -> Result<Vec<Returned>, AllocError>
+    ensures { IfOk result (λ returned. AllZip GivesBack workers.items returned.items) }
 {
     match thread::join_promised(rt, workers) {
-        Ok(parts) => Ok(parts),
+        Ok(returned) => Ok(returned),
         Err(refused) => {
             for worker in refused.value {
                 let _ = worker.join(rt);
@@ -146,12 +146,12 @@ fn in_scope<'s, E, R: Threads + Wait + Sync, G: Gate + Sync>(
     kinds: &'s Kinds,
     now: u32,
     gate: &'s G,
-) -> Result<Vec<Part>, AllocError>
+) -> Result<Vec<Returned>, AllocError>
     requires some { 0 < vec_len seats }
     requires new { All (IsNewSeat jobs.now) seats.items }
     requires able { All (λ s. All (CanWork kinds.now) s.jobs) seats.items }
-    ensures { IfOk result (λ parts. AllZip (WorkedPart (kinds_of kinds.now) now) seats.items
-        parts.items) }
+    ensures { IfOk result (λ returned. AllZip (HasWorked (kinds_of kinds.now) now) seats.items
+        returned.items) }
 {
     let Some(last) = seats.pop() else {
         unreachable!()
@@ -171,26 +171,26 @@ fn in_scope<'s, E, R: Threads + Wait + Sync, G: Gate + Sync>(
     let mine = work_seat(rt, alloc, jobs, last, kinds, now, gate);
     let joined = join_all(rt, workers);
     started?;
-    let mut parts = joined?;
-    parts.reserve(1)?;
-    parts.push_reserved(mine);
-    Ok(parts)
+    let mut returned = joined?;
+    returned.reserve(1)?;
+    returned.push_reserved(mine);
+    Ok(returned)
 }
 
 /// Seats and answers apart.
 #[tactic(auto, using(crate::proofs::Zips::flat_push))]
 fn apart(
-    parts: Vec<Part>,
+    returned: Vec<Returned>,
     seats: &mut Vec<Seat<Job>>,
     dones: &mut Vec<Done>,
 ) -> Result<(), AllocError>
     requires no_seats { seats.old.items ≡ [] }
     requires no_dones { dones.old.items ≡ [] }
-    ensures seats { OnOk result (seats.new.items ≡ map (λ p. p.0) parts.items) }
-    ensures dones { OnOk result (dones.new.items ≡ flat_map (λ p. p.1.items) parts.items) }
+    ensures seats { OnOk result (seats.new.items ≡ map (λ p. p.0) returned.items) }
+    ensures dones { OnOk result (dones.new.items ≡ flat_map (λ p. p.1.items) returned.items) }
 {
-    for part in parts {
-        let (seat, mut mine) = part;
+    for one in returned {
+        let (seat, mut mine) = one;
         seats.reserve(1)?;
         seats.push_reserved(seat);
         dones.append(&mut mine)?;
@@ -207,21 +207,21 @@ fn in_threads<R: Threads + Wait + Sync, G: Gate + Sync>(
     kinds: &Kinds,
     now: u32,
     gate: &G,
-) -> Result<Vec<Part>, AllocError>
+) -> Result<Vec<Returned>, AllocError>
     requires some { 0 < vec_len seats }
     requires new { All (IsNewSeat jobs.now) seats.items }
     requires able { All (λ s. All (CanWork kinds.now) s.jobs) seats.items }
-    ensures { IfOk result (λ parts. AllZip (WorkedPart (kinds_of kinds.now) now) seats.items
-        parts.items) }
+    ensures { IfOk result (λ returned. AllZip (HasWorked (kinds_of kinds.now) now) seats.items
+        returned.items) }
 {
     thread::scope(
         thread::scope_env(),
         rt,
-        |scope| -> Result<Vec<Part>, AllocError>
+        |scope| -> Result<Vec<Returned>, AllocError>
             requires { (0 < vec_len seats) × All (IsNewSeat jobs.now) seats.items
                 × All (λ s. All (CanWork kinds.now) s.jobs) seats.items }
-            ensures { IfOk result (λ parts. AllZip
-                (WorkedPart (kinds_of kinds.entry.now) now) seats.items parts.items) }
+            ensures { IfOk result (λ returned. AllZip
+                (HasWorked (kinds_of kinds.entry.now) now) seats.items returned.items) }
         { in_scope(scope, rt, alloc, jobs, seats, kinds, now, gate) },
     )
 }
@@ -253,10 +253,10 @@ pub fn work_all<R: Threads + Wait + Sync, G: Gate + Sync>(
     let Ok((ring, seats)) = JobRing::fill(rt, alloc, jobs, seats) else {
         return Err(Fault::OutOfMemory);
     };
-    let parts = in_threads(rt, alloc, &ring, seats, kinds, now, gate)?;
+    let returned = in_threads(rt, alloc, &ring, seats, kinds, now, gate)?;
     let mut seats = Vec::new(alloc);
     let mut dones = Vec::new(alloc);
-    apart(parts, &mut seats, &mut dones)?;
+    apart(returned, &mut seats, &mut dones)?;
     let Ok(left) = ring.close(rt, alloc, seats) else {
         return Err(Fault::OutOfMemory);
     };

@@ -241,8 +241,8 @@ impl<'a> Gate for Expecting<'a> {
     fn after(&self, _done: &Done) {}
 
     fn reached(&self, step: Step) {
-        let place = self.told.fetch_add(1, SeqCst);
-        if self.steps.get(place) != Some(&step) {
+        let order = self.told.fetch_add(1, SeqCst);
+        if self.steps.get(order) != Some(&step) {
             self.others.fetch_add(1, SeqCst);
         }
     }

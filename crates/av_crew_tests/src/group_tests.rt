@@ -15,10 +15,10 @@ const ROWS: [i32; 13] = [0, 7, 8, 15, 16, 17, 23, 24, 31, 32, 33, 40, 47];
 /// Five chunks by three.
 fn chunks_of(alloc: Global) -> Result<Vec<ChunkPos>, AllocError> {
     let mut chunks = Vec::new(alloc);
-    for place in 0..15 {
+    for number in 0..15 {
         chunks.push(ChunkPos {
-            x: place % 5,
-            z: place / 5,
+            x: number % 5,
+            z: number / 5,
         })?;
     }
     Ok(chunks)
@@ -27,12 +27,12 @@ fn chunks_of(alloc: Global) -> Result<Vec<ChunkPos>, AllocError> {
 /// A source waits at each block of the rows. Those of every second column are turned later than the others.
 fn sources_of(alloc: Global, spread: bool) -> Result<Vec<Entry>, AllocError> {
     let mut entries = Vec::new(alloc);
-    for place in 0..1040usize {
-        let x = (place % 80) as i32;
+    for number in 0..1040usize {
+        let x = (number % 80) as i32;
         let pos = Pos {
             x,
             y: 64,
-            z: ROWS[place / 80],
+            z: ROWS[number / 80],
         };
         let priority = if spread { x % 2 } else { 0 };
         entries.push(Entry {

@@ -1,21 +1,21 @@
-//! Places that threads deal among themselves.
+//! Indices that threads deal among themselves.
 ghost use Rattle.std.specs.Prelude.{◌≡◌, length, replicate, None, IfOk};
 ghost use Rattle.std.specs.List.{All};
-ghost use Rattle.av_dealt.specs.Dealt.{AreInPlace, IsPlaced, IsTaken};
+ghost use Rattle.av_dealt.specs.Dealt.{AreAtIndices, IsDealt, IsTaken};
 
 use crate::maker::Maker;
 use std::alloc::{AllocError, Global};
 use std::sync::atomic::AtomicU64;
 use std::sync::atomic::Ordering::SeqCst;
 
-/// A thing, and its place.
+/// A thing, and its index.
 #[derive(Drop)]
 pub struct Dealt<T> {
-    place: usize,
+    index: usize,
     thing: T,
 }
 
-/// The things that this thread makes, until all places are taken. The threads share the count of those that are.
+/// The things that this thread makes, until all indices are taken. The threads share the count of those that are.
 pub fn taken<M: Maker>(
     alloc: Global,
     maker: &M,
@@ -24,54 +24,50 @@ pub fn taken<M: Maker>(
 where
     M::Thing: Drop,
     M::Bench: Drop,
-    ensures { IsTaken (M.places maker.now) (M.is_of maker.now) result }
+    ensures { IsTaken (M.count maker.now) (M.is_of maker.now) result }
 {
-    let places = maker.places();
+    let count = maker.count();
     let mut bench = maker.bench();
     let mut things = Vec::new(alloc);
-    for _ in 0..places {
-        let place = next.fetch_add(1, SeqCst) as usize;
-        if place >= places {
+    for _ in 0..count {
+        let index = next.fetch_add(1, SeqCst) as usize;
+        if index >= count {
             break;
         }
-        if let Some(thing) = maker.make(alloc, place, &mut bench)? {
-            things.push(Dealt { place, thing })?;
+        if let Some(thing) = maker.make(alloc, index, &mut bench)? {
+            things.push(Dealt { index, thing })?;
         }
     }
     Ok(things)
 }
 
-/// So many empty places.
-fn empty_places<T: Drop>(alloc: Global, count: usize) -> Result<Vec<Option<T>>, AllocError>
-    ensures { IfOk result (λ places. places.items ≡ replicate count None) }
+/// So many slots, all empty.
+fn empty_slots<T: Drop>(alloc: Global, count: usize) -> Result<Vec<Option<T>>, AllocError>
+    ensures { IfOk result (λ slots. slots.items ≡ replicate count None) }
 {
-    let mut places = Vec::with_capacity(alloc, count)?;
+    let mut slots = Vec::with_capacity(alloc, count)?;
     for _ in 0..count {
-        places.push(None)?;
+        slots.push(None)?;
     }
-    Ok(places)
+    Ok(slots)
 }
 
-/// Puts things into their places.
-fn place_all<M: Maker>(
-    maker: &M,
-    mut things: Vec<Dealt<M::Thing>>,
-    places: &mut Vec<Option<M::Thing>>,
-)
+/// Puts things into the slots of their indices.
+fn put_all<M: Maker>(maker: &M, mut things: Vec<Dealt<M::Thing>>, slots: &mut Vec<Option<M::Thing>>)
 where
     M::Thing: Drop,
-    requires each { All (IsPlaced (M.places maker.now) (M.is_of maker.now)) things.items }
-    requires long { length places.old.items ≡ M.places maker.now }
-    requires placed { AreInPlace (M.is_of maker.now) places.old.items }
-    ensures long { length places.new.items ≡ M.places maker.now }
-    ensures placed { AreInPlace (M.is_of maker.now) places.new.items }
+    requires each { All (IsDealt (M.count maker.now) (M.is_of maker.now)) things.items }
+    requires long { length slots.old.items ≡ M.count maker.now }
+    requires own { AreAtIndices (M.is_of maker.now) slots.old.items }
+    ensures long { length slots.new.items ≡ M.count maker.now }
+    ensures own { AreAtIndices (M.is_of maker.now) slots.new.items }
 {
-    while let Some(Dealt { place, thing }) = things.pop() {
-        places[place] = Some(thing);
+    while let Some(Dealt { index, thing }) = things.pop() {
+        slots[index] = Some(thing);
     }
 }
 
-/// The things of several threads, in their places. No thread knows what the others took, so an empty place says nothing.
+/// The things of several threads, each in the slot of its index. No thread knows what the others took, so an empty slot says nothing.
 pub fn gathered<M: Maker>(
     alloc: Global,
     maker: &M,
@@ -79,13 +75,13 @@ pub fn gathered<M: Maker>(
 ) -> Result<Vec<Option<M::Thing>>, AllocError>
 where
     M::Thing: Drop,
-    requires { All (IsTaken (M.places maker.now) (M.is_of maker.now)) taken.items }
-    ensures long { IfOk result (λ places. length places.items ≡ M.places maker.now) }
-    ensures placed { IfOk result (λ places. AreInPlace (M.is_of maker.now) places.items) }
+    requires { All (IsTaken (M.count maker.now) (M.is_of maker.now)) taken.items }
+    ensures long { IfOk result (λ slots. length slots.items ≡ M.count maker.now) }
+    ensures own { IfOk result (λ slots. AreAtIndices (M.is_of maker.now) slots.items) }
 {
-    let mut places = empty_places(alloc, maker.places())?;
+    let mut slots = empty_slots(alloc, maker.count())?;
     while let Some(things) = taken.pop() {
-        place_all(maker, things?, &mut places);
+        put_all(maker, things?, &mut slots);
     }
-    Ok(places)
+    Ok(slots)
 }

@@ -1,4 +1,4 @@
-//! Places of a list that several threads deal among themselves: each makes the thing of the next that none has taken, since things
+//! Indices of a list that several threads deal among themselves: each makes the thing of the next that none has taken, since things
 //! differ in their work and processors in their speed.
 #![tactic(auto)]
 

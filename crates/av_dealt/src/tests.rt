@@ -1,4 +1,4 @@
-//! Squares of places, made by threads that come one after the other.
+//! Squares of indices, made by threads that come one after the other.
 ghost use Rattle.std.specs.Prelude.{◌≡◌, ◌*◌, ◌<◌};
 
 use crate::{Maker, gathered, taken};
@@ -13,7 +13,7 @@ struct Square {
     order: usize,
 }
 
-/// Makes the squares of five places but of the fourth, and wants memory at one, if any.
+/// Makes the squares of five indices but of the fourth, and wants memory at one, if any.
 #[derive(Drop)]
 struct Squares {
     refused: Option<usize>,
@@ -24,11 +24,11 @@ impl Maker for Squares {
 
     type Bench = usize;
 
-    ghost places = { λ _. 5 };
+    ghost count = { λ _. 5 };
 
     ghost is_of = { λ _ n square. square.square ≡ n * n };
 
-    fn places(&self) -> usize {
+    fn count(&self) -> usize {
         5
     }
 
@@ -39,23 +39,23 @@ impl Maker for Squares {
     fn make(
         &self,
         _alloc: Global,
-        place: usize,
+        index: usize,
         bench: &mut usize,
     ) -> Result<Option<Square>, AllocError> {
-        if self.refused == Some(place) {
+        if self.refused == Some(index) {
             return Err(AllocError);
         }
-        if place == 3 {
+        if index == 3 {
             return Ok(None);
         }
         let order = *bench;
         *bench = order.wrapping_add(1);
-        let square = place * place;
+        let square = index * index;
         Ok(Some(Square { square, order }))
     }
 }
 
-/// The squares of two threads, of which the first begins when so many places are taken.
+/// The squares of two threads, of which the first begins when so many indices are taken.
 fn dealt(alloc: Global, begun: u64) -> Result<Vec<Option<Square>>, AllocError> {
     let squares = Squares { refused: None };
     let next = AtomicU64::new(begun);
@@ -70,7 +70,7 @@ fn made(square: usize, order: usize) -> Option<Square> {
 }
 
 #[test]
-fn each_thing_is_in_its_place(rt: HostRuntime) -> Result<(), Fail> {
+fn each_thing_is_at_its_index(rt: HostRuntime) -> Result<(), Fail> {
     let found = dealt(rt.alloc(), 0)?;
     let meant = [made(0, 0), made(1, 1), made(4, 2), None, made(16, 3)];
     assert_eq!(rt; found.as_slice(), meant.as_slice());
@@ -78,7 +78,7 @@ fn each_thing_is_in_its_place(rt: HostRuntime) -> Result<(), Fail> {
 }
 
 #[test]
-fn places_that_are_taken_stay_empty(rt: HostRuntime) -> Result<(), Fail> {
+fn indices_that_are_taken_stay_empty(rt: HostRuntime) -> Result<(), Fail> {
     let found = dealt(rt.alloc(), 2)?;
     let meant = [None, None, made(4, 0), None, made(16, 1)];
     assert_eq!(rt; found.as_slice(), meant.as_slice());

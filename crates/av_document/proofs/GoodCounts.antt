@@ -10,14 +10,14 @@ use Rattle.std.proofs.lemmas.Option.{none-some, same_Some}
 use Rattle.std.proofs.lemmas.Map.Steps.{length-le_from_distinct_below}
 use Rattle.std.proofs.lemmas.List.{length-map}
 use Rattle.av_types.specs.Division.{divided}
-use Rattle.av_types.specs.Places.{is_section_of, place_of}
-use Rattle.av_types.specs.declared.place.Pos.{Pos}
-use Rattle.av_types.specs.declared.place.ChunkPos.{ChunkPos}
-use Rattle.av_types.specs.declared.place.Height.{Height}
+use Rattle.av_types.specs.Positions.{is_section_of, place_of}
+use Rattle.av_types.specs.declared.position.Pos.{Pos}
+use Rattle.av_types.specs.declared.position.ChunkPos.{ChunkPos}
+use Rattle.av_types.specs.declared.position.Height.{Height}
 use Rattle.av_types.specs.declared.tick.Entry.{Entry}
-use Rattle.av_types.proofs.SamePlaces.{same_pos-refl}
+use Rattle.av_types.proofs.SamePositions.{same_pos-refl}
 use Rattle.av_tags.specs.Nbt.{Nbt, compound, list, Items, no_items, item, Members, no_members, member, NamedTag}
-use Rattle.av_tags.specs.Place.{tag_of}
+use Rattle.av_tags.specs.ByName.{tag_of}
 use Rattle.av_types.specs.Options.{◌>>=◌}
 use Rattle.av_tags.specs.Shape.{members_in, items_in, compound_of, compounds_of, each}
 use Rattle.av_nbt.specs.Spelling.{Spells, SpellsItems, SpellsMembers}

@@ -6,7 +6,7 @@ use Rattle.std.proofs.lemmas.Slice.Eq.{bytes_eq-Decides}
 use Rattle.std.proofs.lemmas.Bool.{false≢true, true≢false}
 use Rattle.std.proofs.lemmas.Option.{none-some, same_Some}
 use Rattle.av_tags.specs.Nbt.{Nbt, NamedTag, members_of, LacksMember, HaveDistinctNames}
-use Rattle.av_tags.specs.Place.{tag_of, with_tag, without}
+use Rattle.av_tags.specs.ByName.{tag_of, with_tag, without}
 use Rattle.av_nbt.specs.Reading.{has_name, are_distinct}
 use Rattle.av_document.proofs.Good.{IsGood, IsGoodNamed, AreGood}
 

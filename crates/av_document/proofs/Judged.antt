@@ -4,7 +4,7 @@ use Rattle.std.specs.Prelude.{is_some}
 use Rattle.std.specs.List.{list_any}
 use Rattle.std.specs.Ordering.{int_eq}
 use Rattle.std.proofs.lemmas.Bool.Decides.{Decides-int_eq}
-use Rattle.av_types.specs.declared.place.Height.{Height}
+use Rattle.av_types.specs.declared.position.Height.{Height}
 use Rattle.av_tags.specs.Nbt.{NamedTag}
 use Rattle.av_document.specs.Chunk.{section_number, numbered, is_number, is_bad_numbered, is_bad_section, is_numbered_in, share_a_number, is_bad_list}
 use Rattle.av_document.specs.Working.{is_bad_at, with_number, are_bad_sections}

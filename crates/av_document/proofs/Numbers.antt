@@ -9,8 +9,8 @@ use Rattle.std.proofs.lemmas.Bool.{cases_eq, and_parts}
 use Rattle.std.proofs.lemmas.Bool.Decides.{Decides-int_eq}
 use Rattle.std.proofs.Math.Bool.{or-true}
 use Rattle.std.proofs.lemmas.List.Folds.{list_any-append}
-use Rattle.av_types.specs.declared.place.Height.{Height}
-use Rattle.av_types.specs.Places.{is_section_of}
+use Rattle.av_types.specs.declared.position.Height.{Height}
+use Rattle.av_types.specs.Positions.{is_section_of}
 use Rattle.av_document.specs.Layout.{below_zero, section_numbers}
 use Rattle.av_document.proofs.Rows.{int_eq-refl}
 

@@ -6,10 +6,10 @@ use Rattle.std.specs.Ordering.{int_eq}
 use Rattle.std.proofs.lemmas.Int.{ints}
 use Rattle.std.proofs.lemmas.Bool.{and_parts}
 use Rattle.std.proofs.lemmas.Bool.Decides.{Decides-int_eq}
-use Rattle.av_types.specs.declared.place.Height.{Height}
-use Rattle.av_types.specs.Places.{is_section_of}
+use Rattle.av_types.specs.declared.position.Height.{Height}
+use Rattle.av_types.specs.Positions.{is_section_of}
 use Rattle.av_tags.specs.Nbt.{NamedTag}
-use Rattle.av_tags.specs.Place.{tag_of}
+use Rattle.av_tags.specs.ByName.{tag_of}
 use Rattle.av_tags.specs.Shape.{compound_of}
 use Rattle.av_document.specs.Chunk.{is_other, section_faults}
 use Rattle.av_document.specs.Working.{is_bad_at, with_number, are_bad_sections}

@@ -6,7 +6,7 @@ use Rattle.std.specs.List.{AllByRecursion}
 use Rattle.std.specs.Str.{bytes_eq}
 use Rattle.std.proofs.lemmas.Option.{none-some, same_Some}
 use Rattle.av_tags.specs.Nbt.{Nbt, byte, list, compound, Items, no_items, item, Members, no_members, member, NamedTag, Document}
-use Rattle.av_tags.specs.Place.{tag_of}
+use Rattle.av_tags.specs.ByName.{tag_of}
 use Rattle.av_types.specs.Options.{◌>>=◌}
 use Rattle.av_tags.specs.Shape.{members_in, items_in, byte_of, compound_of, compounds_of, each, or_else}
 use Rattle.av_nbt.specs.Spelling.{Spells, SpellsItems, SpellsMembers}

@@ -9,7 +9,7 @@ use Rattle.std.proofs.lemmas.Slice.Eq.{bytes_eq-Decides}
 use Rattle.av_tags.specs.Nbt.{Nbt, byte, int16, int, int64, bits32, bits64, byte_array, text, list, compound, int_array, long_array, Members, no_members, member, NamedTag, LacksMember, HaveDistinctNames}
 use Rattle.av_types.specs.Options.{◌>>=◌}
 use Rattle.av_tags.specs.Shape.{members_in, text_of, each}
-use Rattle.av_tags.specs.Place.{tag_of}
+use Rattle.av_tags.specs.ByName.{tag_of}
 use Rattle.av_nbt.specs.Spelling.{Spells, SpellsMembers}
 use Rattle.av_state.specs.BlockState.{BlockState, Property, in_order, is_short, is_short_property, keys_rise, is_storable, storable}
 use Rattle.av_section.specs.Palette.{name_key, properties_key, property_in, properties_in, is_of_entry, described_state}

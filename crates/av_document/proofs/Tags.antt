@@ -5,7 +5,7 @@ use Rattle.std.specs.Str.{bytes_eq}
 use Rattle.std.proofs.lemmas.Slice.Eq.{bytes_eq-Decides}
 use Rattle.std.proofs.lemmas.Bool.{false≢true, true≢false}
 use Rattle.av_tags.specs.Nbt.{Nbt, NamedTag}
-use Rattle.av_tags.specs.Place.{tag_of, with_tag, without}
+use Rattle.av_tags.specs.ByName.{tag_of, with_tag, without}
 
 pub bytes_eq-refl : (n : List ℕ) → bytes_eq n n ≡ true
 bytes_eq-refl n = (bytes_eq-Decides n n).1 refl

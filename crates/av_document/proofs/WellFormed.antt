@@ -6,15 +6,15 @@ use Rattle.std.specs.List.{AllByRecursion, range_with_len}
 use Rattle.std.proofs.lemmas.Option.{none-some, same_Some}
 use Rattle.std.proofs.lemmas.List.{length-map}
 use Rattle.std.proofs.lemmas.List.FromFn.{length-map-range_with_len}
-use Rattle.av_types.specs.Places.{is_section_of}
-use Rattle.av_types.specs.declared.place.Pos.{Pos}
-use Rattle.av_types.specs.declared.place.ChunkPos.{ChunkPos}
-use Rattle.av_types.specs.declared.place.Height.{Height}
+use Rattle.av_types.specs.Positions.{is_section_of}
+use Rattle.av_types.specs.declared.position.Pos.{Pos}
+use Rattle.av_types.specs.declared.position.ChunkPos.{ChunkPos}
+use Rattle.av_types.specs.declared.position.Height.{Height}
 use Rattle.av_types.specs.declared.tick.Entry.{Entry}
 use Rattle.av_tags.specs.Nbt.{Nbt, byte, byte_array, list, compound, long_array, NamedTag, Document, members_of, items_of, LacksMember}
 use Rattle.av_tags.specs.declared.tag.TagType.TheVariants as tag_type
 use Rattle.av_tags.specs.TagTypes.{type_number}
-use Rattle.av_tags.specs.Place.{tag_of, with_tag, without, blank, emptied}
+use Rattle.av_tags.specs.ByName.{tag_of, with_tag, without, blank, emptied}
 use Rattle.av_types.specs.Options.{◌>>=◌}
 use Rattle.av_tags.specs.Shape.{compound_of, compounds_of, lacks, or_else}
 use Rattle.av_nbt.specs.Spelling.{SpellsDocument}

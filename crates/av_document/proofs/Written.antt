@@ -7,14 +7,14 @@ use Rattle.std.specs.Str.{bytes_eq}
 use Rattle.std.proofs.lemmas.Bool.{true≢false, or_parts, or_from}
 use Rattle.std.proofs.lemmas.Option.{same_Some}
 use Rattle.av_types.specs.Division.{divided}
-use Rattle.av_types.specs.Places.{is_section_of, place_of}
+use Rattle.av_types.specs.Positions.{is_section_of, place_of}
 use Rattle.av_types.specs.Faults.{least}
-use Rattle.av_types.specs.declared.place.Pos.{Pos}
-use Rattle.av_types.specs.declared.place.ChunkPos.{ChunkPos}
-use Rattle.av_types.specs.declared.place.Height.{Height}
+use Rattle.av_types.specs.declared.position.Pos.{Pos}
+use Rattle.av_types.specs.declared.position.ChunkPos.{ChunkPos}
+use Rattle.av_types.specs.declared.position.Height.{Height}
 use Rattle.av_types.specs.declared.tick.Entry.{Entry}
 use Rattle.av_tags.specs.Nbt.{Nbt, byte, NamedTag, Document}
-use Rattle.av_tags.specs.Place.{tag_of, with_tag, blank, emptied}
+use Rattle.av_tags.specs.ByName.{tag_of, with_tag, blank, emptied}
 use Rattle.av_types.specs.Options.{◌>>=◌}
 use Rattle.av_tags.specs.Shape.{text_of, int_of, compound_of, compounds_of, lacks, or_else}
 use Rattle.av_nbt.specs.Writing.{IsWellFormed}

@@ -5,7 +5,7 @@ use Rattle.std.specs.List.{range_with_len, AllByRecursion}
 use Rattle.std.specs.Str.{bytes_eq}
 use Rattle.std.proofs.lemmas.List.FromFn.{length-map-range_with_len, get_or-map-range_with_len}
 use Rattle.av_tags.specs.Nbt.{Nbt, byte_array, NamedTag}
-use Rattle.av_tags.specs.Place.{tag_of, with_tag, without, blank, emptied}
+use Rattle.av_tags.specs.ByName.{tag_of, with_tag, without, blank, emptied}
 use Rattle.av_types.specs.Options.{◌>>=◌}
 use Rattle.av_tags.specs.Shape.{byte_of, compound_of, or_else}
 use Rattle.av_tags.proofs.Trees.{members_in_of}

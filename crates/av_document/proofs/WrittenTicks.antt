@@ -4,11 +4,11 @@ use Rattle.std.specs.List.{list_any, AllByRecursion}
 use Rattle.std.proofs.lemmas.Bool.{false≢true, true≢false}
 use Rattle.std.proofs.lemmas.List.{append_assoc, append-nil}
 use Rattle.av_ticks.proofs.Lookup.{is_pending-push}
-use Rattle.av_types.specs.declared.place.Pos.{Pos}
-use Rattle.av_types.specs.declared.place.ChunkPos.{ChunkPos}
-use Rattle.av_types.specs.declared.place.Height.{Height}
+use Rattle.av_types.specs.declared.position.Pos.{Pos}
+use Rattle.av_types.specs.declared.position.ChunkPos.{ChunkPos}
+use Rattle.av_types.specs.declared.position.Height.{Height}
 use Rattle.av_types.specs.declared.tick.Entry.{Entry}
-use Rattle.av_types.proofs.SamePlaces.{same_pos-turned}
+use Rattle.av_types.proofs.SamePositions.{same_pos-turned}
 use Rattle.av_tags.specs.Nbt.{NamedTag}
 use Rattle.av_tags.specs.Shape.{lacks}
 use Rattle.av_ticks.specs.Entries.{same_pos, is_pending, are_apart}

@@ -4,14 +4,14 @@ use Rattle.std.specs.List.{flat_map, list_any}
 use Rattle.std.specs.Ordering.{int_eq}
 use Rattle.std.specs.Str.{bytes_eq}
 use Rattle.av_types.specs.Division.{divided}
-use Rattle.av_types.specs.Places.{is_section_of, place_of}
+use Rattle.av_types.specs.Positions.{is_section_of, place_of}
 use Rattle.av_types.specs.Faults.{least}
-use Rattle.av_types.specs.declared.place.Pos.{Pos}
-use Rattle.av_types.specs.declared.place.ChunkPos.{ChunkPos}
-use Rattle.av_types.specs.declared.place.Height.{Height}
+use Rattle.av_types.specs.declared.position.Pos.{Pos}
+use Rattle.av_types.specs.declared.position.ChunkPos.{ChunkPos}
+use Rattle.av_types.specs.declared.position.Height.{Height}
 use Rattle.av_types.specs.declared.tick.Entry.{Entry}
 use Rattle.av_tags.specs.Nbt.{Nbt, byte, NamedTag, Document}
-use Rattle.av_tags.specs.Place.{tag_of, without, emptied}
+use Rattle.av_tags.specs.ByName.{tag_of, without, emptied}
 use Rattle.av_types.specs.Options.{◌>>=◌}
 use Rattle.av_tags.specs.Shape.{members_in, text_of, byte_of, compound_of, compounds_of, lacks, or_else}
 use Rattle.av_state.specs.BlockState.{BlockState, air}
@@ -166,7 +166,7 @@ cell_of root p = block_cell (block_states_of (tags_at (divided p.y 16) root)) (p
 
 -- all but cells and light of a section
 pub record SectionRest : Type 0 where
-  -- its tags, with `block_states` and `BlockLight` as empty places
+  -- its tags, with `block_states` and `BlockLight` as empty tags
   pub tags : List NamedTag
   -- the tags of `block_states` other than `palette` and `data`
   pub states : List NamedTag
@@ -179,7 +179,7 @@ section_rest ms = record {
 
 -- all but cells, entries and light of a chunk
 pub record RestOfChunk : Type 0 where
-  -- the root's name and tags, with `sections` and `fluid_ticks` as empty places
+  -- the root's name and tags, with `sections` and `fluid_ticks` as empty tags
   pub name : List ℕ
   pub tags : List NamedTag
   -- the entries of `fluid_ticks` that are no water
@@ -192,7 +192,7 @@ pub record RestOfChunk : Type 0 where
 abbrev pub outside_at : Height → ℤ → List NamedTag → Option (List NamedTag)
 outside_at h y root = if is_section_of h y then None else numbered y (sections root)
 
--- A loaded chunk, from the document of its place. It says nothing of positions out of the chunk.
+-- A loaded chunk, from the document of its position. It says nothing of positions out of the chunk.
 pub record DenotesChunk (c : ChunkPos) (h : Height) (d : Document) (cells : Pos → BlockState) (water : List Entry) (rest : RestOfChunk) : Type 0 where
   pub no_fault : least (faults h c (root_tags d)) ≡ None
   pub full : is_full (root_tags d) ≡ true

@@ -1,14 +1,14 @@
 -- The document that a loaded chunk is written as (minecraft.wiki, "Chunk format").
 use Rattle.std.specs.Prelude.{ℕ, zero, suc, ◌%◌, ◌/◌, ℤ, pos, negsuc, ◌+ℤ◌, ◌*ℤ◌, ◌-ℤ◌, List, [], ◌∷◌, ◌++◌, Option, Some, None, Bool, if◌then◌else◌, codes, map}
 use Rattle.std.specs.List.{flat_map, range_with_len}
-use Rattle.av_types.specs.Places.{is_section_of}
-use Rattle.av_types.specs.declared.place.Pos.{Pos}
-use Rattle.av_types.specs.declared.place.ChunkPos.{ChunkPos}
-use Rattle.av_types.specs.declared.place.Height.{Height}
+use Rattle.av_types.specs.Positions.{is_section_of}
+use Rattle.av_types.specs.declared.position.Pos.{Pos}
+use Rattle.av_types.specs.declared.position.ChunkPos.{ChunkPos}
+use Rattle.av_types.specs.declared.position.Height.{Height}
 use Rattle.av_types.specs.declared.tick.Entry.{Entry}
 use Rattle.av_tags.specs.declared.tag.TagType.TheVariants as tag_type
 use Rattle.av_tags.specs.Nbt.{Nbt, int, text, byte_array, list, compound, NamedTag, Document, members_of, items_of}
-use Rattle.av_tags.specs.Place.{with_tag}
+use Rattle.av_tags.specs.ByName.{with_tag}
 use Rattle.av_state.specs.BlockState.{BlockState}
 use Rattle.av_section.specs.BlockStates.{palette_tag, data_tag}
 use Rattle.av_document.specs.Chunk.{SectionRest, RestOfChunk}

@@ -3,13 +3,13 @@ use Rattle.std.specs.Prelude.{ℕ, ℤ, List, [], ◌∷◌, ◌++◌, Option, S
 use Rattle.std.specs.Ordering.{int_eq}
 use Rattle.std.specs.Str.{bytes_eq}
 use Rattle.av_types.specs.Division.{divided}
-use Rattle.av_types.specs.Places.{is_block_of}
-use Rattle.av_types.specs.declared.place.Pos.{Pos}
-use Rattle.av_types.specs.declared.place.ChunkPos.{ChunkPos}
-use Rattle.av_types.specs.declared.place.Height.{Height}
+use Rattle.av_types.specs.Positions.{is_block_of}
+use Rattle.av_types.specs.declared.position.Pos.{Pos}
+use Rattle.av_types.specs.declared.position.ChunkPos.{ChunkPos}
+use Rattle.av_types.specs.declared.position.Height.{Height}
 use Rattle.av_types.specs.declared.tick.Entry.{Entry}
 use Rattle.av_tags.specs.Nbt.{NamedTag}
-use Rattle.av_tags.specs.Place.{tag_of}
+use Rattle.av_tags.specs.ByName.{tag_of}
 use Rattle.av_types.specs.Options.{◌>>=◌}
 use Rattle.av_tags.specs.Shape.{text_of, int_of, lacks, or_else}
 use Rattle.av_ticks.specs.Entries.{is_pending}
@@ -29,7 +29,7 @@ fluid_of ms = tag_of (codes "i") ms >>= text_of
 abbrev pub is_water_name : List ℕ → Bool
 is_water_name s = bytes_eq s (codes "minecraft:water") || bytes_eq s (codes "minecraft:flowing_water")
 
--- besides the fluid just five numbers: the place, the ticks until it is due, and the priority
+-- besides the fluid just five numbers: the position, the ticks until it is due, and the priority
 abbrev pub numbers_of : List NamedTag → Option Entry
 numbers_of ms = do
   x ← int_at (codes "x") ms

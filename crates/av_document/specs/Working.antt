@@ -2,10 +2,10 @@
 use Rattle.std.specs.Prelude.{ℤ, List, [], ◌∷◌, Option, Some, None, Bool, true, false, codes, ◌&&◌, ◌||◌}
 use Rattle.std.specs.List.{list_any}
 use Rattle.std.specs.Ordering.{int_eq}
-use Rattle.av_types.specs.Places.{is_section_of}
-use Rattle.av_types.specs.declared.place.Height.{Height}
+use Rattle.av_types.specs.Positions.{is_section_of}
+use Rattle.av_types.specs.declared.position.Height.{Height}
 use Rattle.av_tags.specs.Nbt.{NamedTag}
-use Rattle.av_tags.specs.Place.{tag_of}
+use Rattle.av_tags.specs.ByName.{tag_of}
 use Rattle.av_tags.specs.Shape.{compound_of}
 use Rattle.av_document.specs.Chunk.{section_number, is_other}
 

@@ -40,11 +40,11 @@ and_on a b i r e = ap (λ n. bit_at n i == 1) e ∙ ap (λ m. m == 1) (bit_at_an
 zero≢one : (a b : ℕ) → a ≡ 0 → b ≡ 1 → a ≡ b → ⊥
 zero≢one a b x y e = omega (arith, x, y, e)
 
--- a board with a place is not 0
-pub place_positive : (b : Board) → HasMark b → 0 < b.bits
-place_positive b h = by b.bits refl where
+-- a board with a square is not 0
+pub square_positive : (b : Board) → HasMark b → 0 < b.bits
+square_positive b h = by b.bits refl where
   by : (n : ℕ) → b.bits ≡ n → 0 < b.bits
-  by zero e = absurd (zero≢one (bit_at 0 h.place) (bit_at b.bits h.place) (bit_at-zero h.place) (on_one b h.place h.marked) (ap (λ n. bit_at n h.place) (sym e)))
+  by zero e = absurd (zero≢one (bit_at 0 h.square) (bit_at b.bits h.square) (bit_at-zero h.square) (on_one b h.square h.marked) (ap (λ n. bit_at n h.square) (sym e)))
   by (suc n) e = omega (arith, e)
 
 -- a number no greater, with a bit less, is less

@@ -2,7 +2,7 @@
 use Rattle.std.proofs.Common.{◌≡◌, ℕ, zero, suc, ◌+◌, ◌-◌, ◌<◌, ◌≤◌, ◌&&◌, ◌||◌, min, Option, Some, None, refl, sym, ap, subst, ◌∙◌, arith, Bool, true, false, cond, nat_lt, nat_eq, not}
 use Rattle.std.proofs.lemmas.Bool.{true≢false, cond-false}
 use Rattle.std.proofs.lemmas.Bool.Decides.{nat_tests}
-use Rattle.av_types.specs.declared.place.Pos.{Pos}
+use Rattle.av_types.specs.declared.position.Pos.{Pos}
 use Rattle.av_types.specs.declared.water.Direction.{Direction}
 use Rattle.av_types.specs.declared.water.Direction.TheVariants.{North, South, West, East}
 use Rattle.av_types.specs.declared.water.Wet.{Wet}
@@ -16,7 +16,7 @@ use Rattle.av_cells.specs.Turn.{drop_of, rank_of, rank_at, least_rank, is_chosen
 use Rattle.av_drop.specs.declared.board.Board.{Board}
 use Rattle.av_drop.specs.declared.search.Sides.{Sides}
 use Rattle.av_drop.specs.Sides.{has_side, AreWays, AreChosen}
-use Rattle.av_drop.specs.Board.{is_on, side_place}
+use Rattle.av_drop.specs.Board.{is_on, side_square}
 use Rattle.av_drop.specs.Fronts.{AreDropping, HaveNone, IsFront, IsNext}
 use Rattle.av_drop.proofs.Ahead.{first_is_front, next_is_front, drops_is}
 
@@ -201,7 +201,7 @@ by_sides P n s w e West = w
 by_sides P n s w e East = e
 
 -- the front of a side that can be entered, before the first step
-pub first_side : (k : ℕ → Kind) (w : World) (p : Pos) (d : Direction) (b : Bool) (board : Board) → ((i : ℕ) → is_on board i ≡ (nat_eq i (side_place d) && b)) → b ≡ can_enter k w (step p d)
+pub first_side : (k : ℕ → Kind) (w : World) (p : Pos) (d : Direction) (b : Bool) (board : Board) → ((i : ℕ) → is_on board i ≡ (nat_eq i (side_square d) && b)) → b ≡ can_enter k w (step p d)
     → b ≡ true → IsFront k w p (step p d) 0 board
 first_side k w p d b board marks way is = first_is_front k w p d b board marks (is ∙ sym (entered_passes k w (step p d) (sym way ∙ is)))
 

@@ -1,4 +1,4 @@
--- The places beside those of a board, by shifts.
+-- The squares beside those of a board, by shifts.
 use Rattle.std.proofs.Common.{◌≡◌, ℕ, zero, suc, ◌+◌, ◌-◌, ◌*◌, ◌/◌, ◌%◌, ◌^◌, ◌<◌, ◌≤◌, Bool, true, false, nat_lt, max, refl, sym, ap, ◌∙◌, arith, ◌⊎◌, inl, inr}
 use Rattle.std.specs.Int.{bit_at}
 use Rattle.std.specs.Int.RustNames.{bit_or}
@@ -96,15 +96,15 @@ module _ (b r : Board) (fits : b.bits < 2 ^ 128) (is : r.bits ≡ bit_or (bit_or
   down_inside : (k i : ℕ) → bit_at (n / 2 ^ k) i ≡ 1 → i < 128
   down_inside k i e = let l = below_width n 128 (i + k) fits (sym (shifted_down n k i) ∙ e) in omega (arith, l)
 
-  -- a neighbour, and that the place is one of the board
+  -- a neighbour, and that the square is one of the board
   abbrev Found : ℕ → Type 0
   Found i = HasNeighbour b i × (i < 128)
 
   from_down : (k i : ℕ) (d : Direction) → toward (i + k) d ≡ i → bit_at (n / 2 ^ k) i ≡ 1 → Found i
-  from_down k i d t e = (record { place = i + k; side = d; marked = one_on b (i + k) (sym (shifted_down n k i) ∙ e); there = t }, down_inside k i e)
+  from_down k i d t e = (record { square = i + k; side = d; marked = one_on b (i + k) (sym (shifted_down n k i) ∙ e); there = t }, down_inside k i e)
 
   from_up : (k i : ℕ) (d : Direction) → ((k ≤ i) → toward (i - k) d ≡ i) → bit_at (n * 2 ^ k % 2 ^ 128) i ≡ 1 → Found i
-  from_up k i d t e = let h = up_from n k i e in (record { place = i - k; side = d; marked = one_on b (i - k) h.2; there = t h.0 }, h.1)
+  from_up k i d t e = let h = up_from n k i e in (record { square = i - k; side = d; marked = one_on b (i - k) h.2; there = t h.0 }, h.1)
 
   found : (i : ℕ) → is_on r i ≡ true → Found i
   found i on = by (one_of (bit_or (n / 2 ^ 11) (n * 2 ^ 11 % 2 ^ 128)) (bit_or (n / 2 ^ 1) (n * 2 ^ 1 % 2 ^ 128)) i (ap (λ m. bit_at m i) (sym is) ∙ on_one r i on)) where

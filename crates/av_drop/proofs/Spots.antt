@@ -1,11 +1,11 @@
 -- Neighbours on the board.
 use Rattle.std.proofs.Common.{◌≡◌, ℕ, ℤ, pos, ◌+ℤ◌, ◌-ℤ◌, ◌+◌, ◌-◌, ◌<◌, ◌≤◌, ◌%◌, ◌/◌, refl, ap, arith}
 use Rattle.std.proofs.lemmas.Int.{ints}
-use Rattle.av_types.specs.declared.place.Pos.{Pos}
+use Rattle.av_types.specs.declared.position.Pos.{Pos}
 use Rattle.av_types.specs.declared.water.Direction.{Direction}
 use Rattle.av_types.specs.declared.water.Direction.TheVariants.{North, South, West, East}
 use Rattle.av_cells.specs.Positions.{step}
-use Rattle.av_drop.specs.Board.{spot, side_place, IsWithin, toward}
+use Rattle.av_drop.specs.Board.{spot, side_square, IsWithin, toward}
 
 pos_is : (a b c d e f : ℤ) → a ≡ d → b ≡ e → c ≡ f → (let l : Pos = record { x = a; y = b; z = c } in let r : Pos = record { x = d; y = e; z = f } in l ≡ r)
 pos_is a b c d e f x y z = λ i. record { x = x i; y = y i; z = z i }
@@ -32,19 +32,19 @@ pub east_spot : (p : Pos) (i : ℕ) → i % 11 ≤ 9 → spot p (i + 1) ≡ step
 east_spot p i h = pos_is _ _ _ _ _ _ (one_more p.x ((i + 1) % 11) (i % 11) (omega arith)) refl (same_line p.z ((i + 1) / 11) (i / 11) (omega arith))
 
 -- the four sides of the middle
-pub side_spot : (p : Pos) (d : Direction) → spot p (side_place d) ≡ step p d
+pub side_spot : (p : Pos) (d : Direction) → spot p (side_square d) ≡ step p d
 side_spot p North = pos_is _ _ _ _ _ _ (omega (arith, ints)) refl (omega (arith, ints))
 side_spot p South = pos_is _ _ _ _ _ _ (omega (arith, ints)) refl (omega (arith, ints))
 side_spot p West = pos_is _ _ _ _ _ _ (omega (arith, ints)) refl (omega (arith, ints))
 side_spot p East = pos_is _ _ _ _ _ _ (omega (arith, ints)) refl (omega (arith, ints))
 
-pub side_within : (d : Direction) → IsWithin 4 (side_place d)
+pub side_within : (d : Direction) → IsWithin 4 (side_square d)
 side_within North = record { south_east = omega arith; north_west = omega arith; north_east = omega arith; south_west = omega arith }
 side_within South = record { south_east = omega arith; north_west = omega arith; north_east = omega arith; south_west = omega arith }
 side_within West = record { south_east = omega arith; north_west = omega arith; north_east = omega arith; south_west = omega arith }
 side_within East = record { south_east = omega arith; north_west = omega arith; north_east = omega arith; south_west = omega arith }
 
--- a place at most 4 - r steps from the middle, and the one beside it
+-- a square at most 4 - r steps from the middle, and the one beside it
 pub record IsBeside (r i : ℕ) (p : Pos) (d : Direction) : Type 0 where
   pub within : IsWithin r (toward i d)
   pub low : 11 ≤ i

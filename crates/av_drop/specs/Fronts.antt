@@ -1,6 +1,6 @@
 -- Working definitions: the blocks to which walks of so many steps come. No public clause cites them.
 use Rattle.std.specs.Prelude.{◌≡◌, ℕ, ◌+◌, ◌<◌, ◌&&◌, Bool, true, false}
-use Rattle.av_types.specs.declared.place.Pos.{Pos}
+use Rattle.av_types.specs.declared.position.Pos.{Pos}
 use Rattle.av_types.specs.declared.water.Direction.{Direction}
 use Rattle.av_types.specs.declared.water.Direction.TheVariants.{North, South, West, East}
 use Rattle.av_cells.specs.declared.kind.Kind.{Kind}
@@ -28,9 +28,9 @@ pub record AreSeen (k : ℕ → Kind) (w : World) (p : Pos) (around : Around) : 
 
 -- a marked block with a walk of m steps to a drop
 pub record Leads (k : ℕ → Kind) (w : World) (p : Pos) (m : ℕ) (board : Board) : Type 0 where
-  pub place : ℕ
-  pub marked : is_on board place ≡ true
-  pub drops : can_drop k w m (spot p place) ≡ true
+  pub square : ℕ
+  pub marked : is_on board square ≡ true
+  pub drops : can_drop k w m (spot p square) ≡ true
 
 -- the marked blocks are those to which n steps lead from s: the walks to a drop of n steps and more go on from these
 pub record IsFront (k : ℕ → Kind) (w : World) (p s : Pos) (n : ℕ) (board : Board) : Type 0 where

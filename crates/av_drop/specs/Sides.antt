@@ -1,6 +1,6 @@
 -- Some of the four sides of a block.
 use Rattle.std.specs.Prelude.{◌≡◌, ℕ, Bool}
-use Rattle.av_types.specs.declared.place.Pos.{Pos}
+use Rattle.av_types.specs.declared.position.Pos.{Pos}
 use Rattle.av_types.specs.declared.water.Direction.{Direction}
 use Rattle.av_types.specs.declared.water.Direction.TheVariants.{North, South, West, East}
 use Rattle.av_cells.specs.declared.kind.Kind.{Kind}

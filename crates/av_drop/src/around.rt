@@ -1,13 +1,13 @@
 //! What is known of the blocks of a board.
 ghost use Rattle.std.specs.Prelude.{◌≡◌, ◌≤◌, ◌<◌, ◌+◌, ◌-◌, pos, negsuc, ◌+ℤ◌, ◌-ℤ◌, ◌≤ℤ◌, ◌&&◌, ℕ, nat_eq, true, false};
 ghost use Rattle.av_rules.specs.Kinds.{kind_count};
-ghost use Rattle.av_types.specs.declared.place.Pos.{Pos};
+ghost use Rattle.av_types.specs.declared.position.Pos.{Pos};
 ghost use Rattle.av_cells.specs.declared.kind.Kind.{Kind};
 ghost use Rattle.av_cells.specs.Kinds.{kinds_of};
 ghost use Rattle.av_cells.specs.Positions.{IsNearOrigin, IsInner};
 ghost use Rattle.av_cells.specs.Rule.{can_pass, HasKinds};
 ghost use Rattle.av_cells.specs.World.{World};
-ghost use Rattle.av_drop.specs.Board.{spot, is_on, SharePlace};
+ghost use Rattle.av_drop.specs.Board.{spot, is_on, ShareSquare};
 ghost use Rattle.av_drop.specs.Fronts.{IsSeen, AreSeen};
 
 use crate::board::Board;
@@ -25,17 +25,17 @@ fn coordinate(middle: i32, steps: u32) -> i32
     middle + (steps as i32 - 5)
 }
 
-/// The block at a place of the board.
-fn spot(middle: Pos, place: u32) -> Pos
+/// The block at a square of the board.
+fn spot(middle: Pos, square: u32) -> Pos
     requires near { IsNearOrigin middle }
-    requires place { place < 128 }
-    ensures is { result ≡ spot middle place }
+    requires square { square < 128 }
+    ensures is { result ≡ spot middle square }
     ensures inner { IsInner result }
 {
     Pos {
-        x: coordinate(middle.x, place % 11),
+        x: coordinate(middle.x, square % 11),
         y: middle.y,
-        z: coordinate(middle.z, place / 11),
+        z: coordinate(middle.z, square / 11),
     }
 }
 
@@ -75,7 +75,7 @@ pub(crate) fn look<C: Cells>(cells: &C, kinds: &Kinds, pos: Pos) -> Seen
 /// What is known of the blocks of the board.
 #[derive(Clone, Copy)]
 pub(crate) struct Around {
-    /// The places of the blocks that were read.
+    /// The squares of the blocks that were read.
     known: Board,
     /// Those of them that a walk may pass.
     passes: Board,
@@ -95,54 +95,54 @@ impl Around {
         }
     }
 
-    /// Reads the block at a place at which nothing is known.
-    fn read_at<C: Cells>(&mut self, cells: &C, kinds: &Kinds, middle: Pos, place: u32)
+    /// Reads the block at a square at which nothing is known.
+    fn read_at<C: Cells>(&mut self, cells: &C, kinds: &Kinds, middle: Pos, square: u32)
         requires near { IsNearOrigin middle }
-        requires place { place < 128 }
+        requires square { square < 128 }
         requires kinds { HasKinds (kind_count kinds.now) (C.world cells.now) }
         requires seen { AreSeen (kinds_of kinds.now) (C.world cells.now) middle self.old }
-        requires new { is_on self.old.known place ≡ false }
+        requires new { is_on self.old.known square ≡ false }
         ensures seen { AreSeen (kinds_of kinds.now) (C.world cells.now) middle self.new }
-        ensures here { is_on self.new.known place ≡ true }
-        ensures others { (i : ℕ) → nat_eq i place ≡ false
+        ensures here { is_on self.new.known square ≡ true }
+        ensures others { (i : ℕ) → nat_eq i square ≡ false
             → is_on self.new.known i ≡ is_on self.old.known i }
     {
-        let seen = look(cells, kinds, spot(middle, place));
-        self.known = self.known.with(place);
-        self.passes = self.passes.with_if(place, seen.passes);
-        self.drops = self.drops.with_if(place, seen.drops);
+        let seen = look(cells, kinds, spot(middle, square));
+        self.known = self.known.with(square);
+        self.passes = self.passes.with_if(square, seen.passes);
+        self.drops = self.drops.with_if(square, seen.drops);
     }
 
-    /// Reads the blocks at some places, where nothing is known.
-    pub(crate) fn read<C: Cells>(&mut self, cells: &C, kinds: &Kinds, middle: Pos, places: Board)
+    /// Reads the blocks at some squares, where nothing is known.
+    pub(crate) fn read<C: Cells>(&mut self, cells: &C, kinds: &Kinds, middle: Pos, squares: Board)
         requires near { IsNearOrigin middle }
         requires kinds { HasKinds (kind_count kinds.now) (C.world cells.now) }
         requires seen { AreSeen (kinds_of kinds.now) (C.world cells.now) middle self.old }
         ensures seen { AreSeen (kinds_of kinds.now) (C.world cells.now) middle self.new }
-        ensures known { (i : ℕ) → i < 128 → is_on places i ≡ true → is_on self.new.known i ≡ true }
+        ensures known { (i : ℕ) → i < 128 → is_on squares i ≡ true → is_on self.new.known i ≡ true }
     {
-        let mut left = places.apart_from(self.known);
+        let mut left = squares.apart_from(self.known);
         while !left.is_empty() {
-            let place = left.first();
-            self.read_at(cells, kinds, middle, place);
-            left = left.without(place);
+            let square = left.first();
+            self.read_at(cells, kinds, middle, square);
+            left = left.without(square);
         }
     }
 
-    /// Those of some places, all of which were read, that a walk may pass.
-    pub(crate) fn passed(self, places: Board) -> Board
-        ensures { (i : ℕ) → is_on result i ≡ (is_on places i && is_on self.passes i) }
+    /// Those of some squares, all of which were read, that a walk may pass.
+    pub(crate) fn passed(self, squares: Board) -> Board
+        ensures { (i : ℕ) → is_on result i ≡ (is_on squares i && is_on self.passes i) }
     {
-        places.among(self.passes)
+        squares.among(self.passes)
     }
 
-    /// Whether one of some places, all of which were read, has a walk of no steps to a drop.
-    pub(crate) fn drops_at(self, places: Board) -> bool
-        ensures some { result ≡ true → SharePlace places self.drops }
-        ensures none { result ≡ false → (i : ℕ) → is_on places i ≡ true
+    /// Whether one of some squares, all of which were read, has a walk of no steps to a drop.
+    pub(crate) fn drops_at(self, squares: Board) -> bool
+        ensures some { result ≡ true → ShareSquare squares self.drops }
+        ensures none { result ≡ false → (i : ℕ) → is_on squares i ≡ true
             → is_on self.drops i ≡ false }
     {
-        let dropping = places.among(self.drops);
+        let dropping = squares.among(self.drops);
         !dropping.is_empty()
     }
 }

@@ -4,7 +4,7 @@ ghost use Rattle.av_rules.specs.Kinds.{kind_count};
 ghost use Rattle.av_cells.specs.Kinds.{kinds_of};
 ghost use Rattle.av_cells.specs.Positions.{IsNearOrigin};
 ghost use Rattle.av_cells.specs.Rule.{HasKinds};
-ghost use Rattle.av_drop.specs.Board.{is_on, side_place};
+ghost use Rattle.av_drop.specs.Board.{is_on, side_square};
 ghost use Rattle.av_drop.specs.Fronts.{AreSeen, IsNext};
 
 use crate::around::Around;
@@ -13,9 +13,9 @@ use av_cells::Cells;
 use av_rules::Kinds;
 use av_types::{Direction, Pos};
 
-/// The place of a side of the middle.
-fn side_place(direction: Direction) -> u32
-    ensures is { result ≡ side_place direction }
+/// The square of a side of the middle.
+fn side_square(direction: Direction) -> u32
+    ensures is { result ≡ side_square direction }
     ensures bound { result < 128 }
 {
     match direction {
@@ -28,9 +28,9 @@ fn side_place(direction: Direction) -> u32
 
 /// The front of no steps from a side, where a walk may pass that.
 pub(crate) fn first_front(direction: Direction, passes: bool) -> Board
-    ensures { (i : ℕ) → is_on result i ≡ (nat_eq i (side_place direction) && passes) }
+    ensures { (i : ℕ) → is_on result i ≡ (nat_eq i (side_square direction) && passes) }
 {
-    Board::empty().with_if(side_place(direction), passes)
+    Board::empty().with_if(side_square(direction), passes)
 }
 
 /// A front, and whether a block of it drops.

@@ -1,4 +1,4 @@
-//! How far it is from a block to a drop: the nearest place where water can go down, over open or flowing blocks.
+//! How far it is from a block to a drop: the nearest block where water can go down, over open or flowing blocks.
 #![tactic(auto)]
 
 mod around;

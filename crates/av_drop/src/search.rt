@@ -1,7 +1,7 @@
 //! The search for the nearest drop.
 ghost use Rattle.std.specs.Prelude.{◌≡◌, ◌<◌, ◌+◌, ◌&&◌, ◌||◌, ℕ, IsTrue, true, false};
 ghost use Rattle.av_rules.specs.Kinds.{kind_count};
-ghost use Rattle.av_types.specs.declared.place.Pos.{Pos};
+ghost use Rattle.av_types.specs.declared.position.Pos.{Pos};
 ghost use Rattle.av_types.specs.declared.water.Direction.{Direction};
 ghost use Rattle.av_cells.specs.declared.kind.Kind.{Kind};
 ghost use Rattle.av_cells.specs.Kinds.{kinds_of};

@@ -2,7 +2,7 @@
 use Rattle.std.specs.Prelude.{◌≡◌, slice_get, option_map, ℕ, suc, ◌==◌, nat_lt, nat_le, length, List, [], ◌∷◌, ◌++◌, Option, Some, None, Bool, ◌&&◌, ◌||◌, if◌then◌else◌, map, get_or}
 use Rattle.std.specs.List.{flat_map}
 use Rattle.std.specs.Str.Lines.{strip_carriage_return}
-use Rattle.av_types.specs.declared.place.Pos.{Pos}
+use Rattle.av_types.specs.declared.position.Pos.{Pos}
 use Rattle.av_types.specs.declared.fault.Fault.{Fault}
 use Rattle.av_types.specs.declared.fault.Fault.TheVariants.{BadEdit, EditTick, EditOutside, TooManyStates}
 use Rattle.av_state.specs.BlockState.{BlockState}

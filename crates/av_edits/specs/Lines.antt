@@ -1,7 +1,7 @@
 -- The words of an edit line.
 use Rattle.std.specs.Prelude.{ℕ, zero, suc, ◌+◌, ◌*◌, ◌-◌, ◌==◌, nat_lt, nat_le, ℤ, pos, negsuc, length, List, [], ◌∷◌, Option, Some, None, Bool, false, ◌&&◌, ◌||◌, if◌then◌else◌, take, get_or}
 use Rattle.std.specs.List.{list_all, slice_split}
-use Rattle.av_types.specs.declared.place.Pos.{Pos}
+use Rattle.av_types.specs.declared.position.Pos.{Pos}
 use Rattle.av_types.specs.Options.{◌>>=◌}
 use Rattle.av_tags.specs.Shape.{each}
 use Rattle.av_state.specs.BlockState.{BlockState, Property, storable, meant, in_order}

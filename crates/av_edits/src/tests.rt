@@ -4,7 +4,7 @@ use std::alloc::{AllocError, Global};
 use std::test::Fail;
 
 /// The tick and the position that a line states, if it is of the form.
-fn place(alloc: Global, line: &str) -> Result<Option<(u64, i32, i32, i32)>, AllocError> {
+fn position(alloc: Global, line: &str) -> Result<Option<(u64, i32, i32, i32)>, AllocError> {
     Ok(match line_edit(alloc, line.as_bytes())? {
         None => None,
         Some(edit) => Some((edit.tick, edit.pos.x, edit.pos.y, edit.pos.z)),
@@ -23,7 +23,7 @@ fn lines_of_the_form(rt: HostRuntime) -> Result<(), Fail> {
         ("0 0 0 0 minecraft:water[level=15]", Some((0, 0, 0, 0))),
     ];
     for (line, meant) in cases {
-        assert_eq!(rt; place(rt.alloc(), line)?, meant);
+        assert_eq!(rt; position(rt.alloc(), line)?, meant);
     }
     Ok(())
 }
@@ -54,7 +54,7 @@ fn lines_of_another_form(rt: HostRuntime) -> Result<(), Fail> {
         "1 8 64 8 a:b\r",
     ];
     for line in lines {
-        assert_eq!(rt; place(rt.alloc(), line)?, None);
+        assert_eq!(rt; position(rt.alloc(), line)?, None);
     }
     Ok(())
 }

@@ -5,7 +5,7 @@ pub mod History
 pub mod Stepwise
 pub mod Marked
 pub mod Beside
-pub mod Placed
+pub mod Renamed
 pub mod Exchanged
 pub mod Repaired
 pub mod Swept

@@ -6,12 +6,12 @@ use Rattle.std.proofs.lemmas.Bool.{cases_Bool, cond-true, cond-false}
 use mathlib.Core.Logic.{inl, inr}
 use Rattle.av_exchange.specs.Names.{IsBeside, is_own, journal_name}
 use Rattle.av_exchange.specs.Steps.{Holdings, Step, Removed, Synced, after_all, with_name, AreSomeOf, none, IsCutOff, ended, during, later, all_of}
-use Rattle.av_exchange.specs.Exchange.{IsStepBeside, IsJournaled, StandsFor, counted, is_listed, placed, sweeping, RepairKeeps, RepairHolds}
+use Rattle.av_exchange.specs.Exchange.{IsStepBeside, IsJournaled, StandsFor, counted, is_listed, renamed, sweeping, RepairKeeps, RepairHolds}
 use Rattle.av_exchange.proofs.Own.{apart}
 use Rattle.av_exchange.proofs.Listing.{one_journal}
 use Rattle.av_exchange.proofs.Crash.{after_phase, all_some, one_or_none, some_all}
 use Rattle.av_exchange.proofs.Beside.{beside_keeps, plain_stands, quiet, other_name, other_journal, stands_plain}
-use Rattle.av_exchange.proofs.Placed.{all_go, placing_keeps_counts, placing_keeps_journal, some_placing}
+use Rattle.av_exchange.proofs.Renamed.{all_go, renaming_keeps_counts, renaming_keeps_journal, some_renaming}
 
 -- what a folder stands for is what counts by its journal
 pub by_journal : (h k : Holdings) (j : Option (List (List ℕ))) → IsJournaled h j → StandsFor h k → (m : List ℕ) → is_own m ≡ false → k m ≡ counted j h m
@@ -43,25 +43,25 @@ swept_keeps h k gone left free are s cut = beside_keeps h k left free (swept_bes
 -- ---- a journal is done with
 
 module _ (h k : Holdings) (names : List (List ℕ)) (is : IsJournaled h (Some names)) (counts : (m : List ℕ) → is_own m ≡ false → k m ≡ counted (Some names) h m) where
-  -- while files take their places
-  pub placing_stands : (left : List Step) → AreSomeOf left (map placed names) → StandsFor (after_all h left) k
-  placing_stands left some =
-      let are = some_placing names left is.regions some in
+  -- while files take their names
+  pub renaming_stands : (left : List Step) → AreSomeOf left (map renamed names) → StandsFor (after_all h left) k
+  renaming_stands left some =
+      let are = some_renaming names left is.regions some in
       record {
         journal = Some names;
-        journaled = record { marks = is.marks; text = placing_keeps_journal names h left are ∙ is.text; regions = is.regions };
-        counts = λ m own. counts m own ∙ sym (placing_keeps_counts names h left m are own);
+        journaled = record { marks = is.marks; text = renaming_keeps_journal names h left are ∙ is.text; regions = is.regions };
+        counts = λ m own. counts m own ∙ sym (renaming_keeps_counts names h left m are own);
       }
 
   -- when all have theirs, what counts is what is held
-  all_placed : (m : List ℕ) → is_own m ≡ false → k m ≡ after_all h (map placed names) m
-  all_placed m own =
-      let now = after_all h (map placed names) in
-      let are = some_placing names (map placed names) is.regions (all_some (map placed names)) in
-      counts m own ∙ (sym (placing_keeps_counts names h (map placed names) m are own) ∙ held m)
+  all_renamed : (m : List ℕ) → is_own m ≡ false → k m ≡ after_all h (map renamed names) m
+  all_renamed m own =
+      let now = after_all h (map renamed names) in
+      let are = some_renaming names (map renamed names) is.regions (all_some (map renamed names)) in
+      counts m own ∙ (sym (renaming_keeps_counts names h (map renamed names) m are own) ∙ held m)
     where
       now : Holdings
-      now = after_all h (map placed names)
+      now = after_all h (map renamed names)
 
       held : (m : List ℕ) → counted (Some names) now m ≡ now m
       held m = elim (cases_Bool (is_listed names m)) [
@@ -72,7 +72,7 @@ module _ (h k : Holdings) (names : List (List ℕ)) (is : IsJournaled h (Some na
 
   -- the folder once the journal is gone
   pub forgotten : Holdings
-  forgotten = with_name (after_all h (map placed names)) journal_name None
+  forgotten = with_name (after_all h (map renamed names)) journal_name None
 
   pub forgotten_journal : forgotten journal_name ≡ None
   unfolding forgotten
@@ -81,24 +81,24 @@ module _ (h k : Holdings) (names : List (List ℕ)) (is : IsJournaled h (Some na
   pub forgotten_holds : (m : List ℕ) → is_own m ≡ false → k m ≡ forgotten m
   unfolding forgotten
   forgotten_holds m own =
-      all_placed m own ∙ sym (cond-false (bytes_eq m journal_name) None (after_all h (map placed names) m) (apart m journal_name own refl))
+      all_renamed m own ∙ sym (cond-false (bytes_eq m journal_name) None (after_all h (map renamed names) m) (apart m journal_name own refl))
 
   pub forgotten_stands : StandsFor forgotten k
   forgotten_stands = stands_plain forgotten k forgotten_journal forgotten_holds
 
-  pub after_finishing : (rest : List Step) → after_all h (map placed names ++ (Synced ∷ (Removed journal_name ∷ (Synced ∷ rest)))) ≡ after_all forgotten rest
+  pub after_finishing : (rest : List Step) → after_all h (map renamed names ++ (Synced ∷ (Removed journal_name ∷ (Synced ∷ rest)))) ≡ after_all forgotten rest
   unfolding forgotten
-  after_finishing rest = after_phase h (map placed names) (Removed journal_name ∷ (Synced ∷ rest))
+  after_finishing rest = after_phase h (map renamed names) (Removed journal_name ∷ (Synced ∷ rest))
 
   -- whatever follows, a crash until the journal is gone keeps what the folder stands for
   pub finishing_keeps : (rest : List (List Step)) (left : List Step) → ((more : List Step) → IsCutOff rest more → StandsFor (after_all forgotten more) k)
-      → IsCutOff (map placed names ∷ (Removed journal_name ∷ []) ∷ rest) left → StandsFor (after_all h left) k
+      → IsCutOff (map renamed names ∷ (Removed journal_name ∷ []) ∷ rest) left → StandsFor (after_all h left) k
   unfolding forgotten
-  finishing_keeps rest _ then (during _ _ left some) = placing_stands left some
+  finishing_keeps rest _ then (during _ _ left some) = renaming_stands left some
   finishing_keeps rest _ then (later _ _ _ (during _ _ left some)) =
-      subst (λ (f : Holdings). StandsFor f k) (sym (after_phase h (map placed names) left))
-      (one_or_none (Removed journal_name) left (λ (l : List Step). StandsFor (after_all (after_all h (map placed names)) l) k) some
-      (placing_stands (map placed names) (all_some (map placed names))) forgotten_stands)
+      subst (λ (f : Holdings). StandsFor f k) (sym (after_phase h (map renamed names) left))
+      (one_or_none (Removed journal_name) left (λ (l : List Step). StandsFor (after_all (after_all h (map renamed names)) l) k) some
+      (renaming_stands (map renamed names) (all_some (map renamed names))) forgotten_stands)
   finishing_keeps rest _ then (later _ _ _ (later _ _ left cut)) =
       subst (λ (f : Holdings). StandsFor f k) (sym (after_finishing left)) (then left cut)
 

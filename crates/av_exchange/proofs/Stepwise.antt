@@ -1,11 +1,11 @@
--- Loops over files that take their places, and over names.
+-- Loops over files that take their names, and over names.
 use Rattle.std.proofs.Common.{◌≡◌, ◌∙◌, ◌<◌, ◌+◌, ap, ap₂, sym, subst, refl, ℕ, zero, suc, List, [], ◌∷◌, ◌++◌, append_assoc, length, map, take, get_or, add-one, Option, Some, None, String, Global, option_map, string_bytes}
 use Rattle.std.proofs.Math.Seq.{take-suc}
 use Rattle.std.proofs.lemmas.List.{map-append}
 use Rattle.std.specs.List.{AllByRecursion}
 use Rattle.av_sink.specs.declared.sink.Repair.{Repair}
 use Rattle.av_exchange.specs.Steps.{AreSomeOf, none, kept, History, IfTold, IsCutOff, ended, during, later, Moved, Removed, Synced, Written, Step, all_of, with_steps}
-use Rattle.av_exchange.specs.Exchange.{IsJournaled, closing, placed, placing, repairing, sweeping}
+use Rattle.av_exchange.specs.Exchange.{IsJournaled, closing, renamed, committing, repairing, sweeping}
 use Rattle.av_exchange.specs.Names.{IsRegionName, journal_name, journal_of, lines_of, new_journal_name}
 use Rattle.av_exchange.specs.Outcomes.{HasStopped, IsFinished, IsRepaired, IsSettledInPart, IsSwept, IsSweepStopped, IsUnrepaired, in_part, name_of, stopped, unsynced}
 use Rattle.av_exchange.specs.declared.moves.Move.{Move}
@@ -19,19 +19,19 @@ one_more f xs i x lt is =
     ∙ (ap (map f) (take-suc xs i x lt)
     ∙ (map-append f (take i xs) (get_or xs i x ∷ []) ∙ ap (λ (y : _). map f (take i xs) ++ f y ∷ []) (sym is)))
 
-pub one_more_placed : (moves : List Move) (i : ℕ) (m : Move) → i < length moves → m ≡ get_or moves i m
-    → map placed (map name_of (take (i + 1) moves)) ≡ map placed (map name_of (take i moves)) ++ placed (name_of m) ∷ []
-one_more_placed moves i m lt is =
-    ap (map placed) (one_more name_of moves i m lt is) ∙ map-append placed (map name_of (take i moves)) (name_of m ∷ [])
+pub one_more_renamed : (moves : List Move) (i : ℕ) (m : Move) → i < length moves → m ≡ get_or moves i m
+    → map renamed (map name_of (take (i + 1) moves)) ≡ map renamed (map name_of (take i moves)) ++ renamed (name_of m) ∷ []
+one_more_renamed moves i m lt is =
+    ap (map renamed) (one_more name_of moves i m lt is) ∙ map-append renamed (map name_of (take i moves)) (name_of m ∷ [])
 
-pub first_placed : (n : ℕ) (moves : List Move) → AreSomeOf (map placed (map name_of (take n moves))) (map placed (map name_of moves))
-first_placed zero moves = none_some _
-first_placed (suc n) [] = none
-first_placed (suc n) (m ∷ moves) = kept (placed (name_of m)) _ _ (first_placed n moves)
+pub first_renamed : (n : ℕ) (moves : List Move) → AreSomeOf (map renamed (map name_of (take n moves))) (map renamed (map name_of moves))
+first_renamed zero moves = none_some _
+first_renamed (suc n) [] = none
+first_renamed (suc n) (m ∷ moves) = kept (renamed (name_of m)) _ _ (first_renamed n moves)
 
 -- a new file's own step, by the names that were passed
-pub placed_by : (m : Move) (part name : List ℕ) → part ≡ string_bytes m.part → name ≡ string_bytes m.name → Moved part name ≡ placed (name_of m)
-placed_by m part name parts names = ap₂ Moved (parts ∙ m.beside) names
+pub renamed_by : (m : Move) (part name : List ℕ) → part ≡ string_bytes m.part → name ≡ string_bytes m.name → Moved part name ≡ renamed (name_of m)
+renamed_by m part name parts names = ap₂ Moved (parts ∙ m.beside) names
 
 -- ---- what was stopped
 
@@ -39,31 +39,31 @@ pub stopped_moving : (names : List (List ℕ)) (old new : Option History) → Is
 stopped_moving names old new (unsynced same) = record { left = []; cut_off = during [] _ [] none; steps = same ∙ no_steps old }
 stopped_moving names old new (in_part left some is) = record { left = Synced ∷ left; cut_off = later [] _ left (during _ _ left some); steps = is }
 
-pub stopped_closing : (names : List (List ℕ)) (old mid new : Option History) → mid ≡ with_steps old (Synced ∷ all_of (map placed names ∷ [])) → HasStopped closing mid new
+pub stopped_closing : (names : List (List ℕ)) (old mid new : Option History) → mid ≡ with_steps old (Synced ∷ all_of (map renamed names ∷ [])) → HasStopped closing mid new
     → HasStopped (repairing (Some names) []) old new
 stopped_closing names old mid new first part = record {
-  left = Synced ∷ (map placed names ++ (Synced ∷ part.left));
+  left = Synced ∷ (map renamed names ++ (Synced ∷ part.left));
   cut_off = later [] _ _ (later _ _ _ part.cut_off);
-  steps = then_steps old mid new (Synced ∷ (map placed names ++ (Synced ∷ []))) part.left first part.steps
-      ∙ ap (λ (l : List Step). with_steps old (Synced ∷ l)) (append_assoc (map placed names) (Synced ∷ []) part.left);
+  steps = then_steps old mid new (Synced ∷ (map renamed names ++ (Synced ∷ []))) part.left first part.steps
+      ∙ ap (λ (l : List Step). with_steps old (Synced ∷ l)) (append_assoc (map renamed names) (Synced ∷ []) part.left);
 }
 
-pub all_finished : (names : List (List ℕ)) (old mid new : Option History) → mid ≡ with_steps old (Synced ∷ all_of (map placed names ∷ []))
+pub all_finished : (names : List (List ℕ)) (old mid new : Option History) → mid ≡ with_steps old (Synced ∷ all_of (map renamed names ∷ []))
     → new ≡ with_steps mid (all_of closing) → new ≡ with_steps old (all_of (repairing (Some names) []))
 all_finished names old mid new first next =
-    then_steps old mid new (Synced ∷ (map placed names ++ (Synced ∷ []))) (all_of closing) first next
-    ∙ ap (λ (l : List Step). with_steps old (Synced ∷ l)) (append_assoc (map placed names) (Synced ∷ []) (all_of closing))
+    then_steps old mid new (Synced ∷ (map renamed names ++ (Synced ∷ []))) (all_of closing) first next
+    ∙ ap (λ (l : List Step). with_steps old (Synced ∷ l)) (append_assoc (map renamed names) (Synced ∷ []) (all_of closing))
 
-pub placed_all : (old mid new : Option History) (text : List ℕ) (names marks moved : List (List ℕ)) → text ≡ journal_of names marks → moved ≡ names
+pub committed_all : (old mid new : Option History) (text : List ℕ) (names marks moved : List (List ℕ)) → text ≡ journal_of names marks → moved ≡ names
     → mid ≡ with_steps old (Written new_journal_name text ∷ Synced ∷ Moved new_journal_name journal_name ∷ [])
-    → new ≡ with_steps mid (Synced ∷ all_of (map placed moved ∷ [])) → new ≡ with_steps old (all_of (placing names marks))
-placed_all old mid new text names marks moved texts same first next =
-    then_steps old mid new (Written new_journal_name text ∷ Synced ∷ Moved new_journal_name journal_name ∷ []) (Synced ∷ all_of (map placed moved ∷ [])) first next
-    ∙ ap₂ (λ (t : List ℕ) (ns : List (List ℕ)). with_steps old (Written new_journal_name t ∷ Synced ∷ Moved new_journal_name journal_name ∷ Synced ∷ all_of (map placed ns ∷ []))) texts same
+    → new ≡ with_steps mid (Synced ∷ all_of (map renamed moved ∷ [])) → new ≡ with_steps old (all_of (committing names marks))
+committed_all old mid new text names marks moved texts same first next =
+    then_steps old mid new (Written new_journal_name text ∷ Synced ∷ Moved new_journal_name journal_name ∷ []) (Synced ∷ all_of (map renamed moved ∷ [])) first next
+    ∙ ap₂ (λ (t : List ℕ) (ns : List (List ℕ)). with_steps old (Written new_journal_name t ∷ Synced ∷ Moved new_journal_name journal_name ∷ Synced ∷ all_of (map renamed ns ∷ []))) texts same
 
 stopped_settling : (old mid new : Option History) (names marks : List (List ℕ))
     → mid ≡ with_steps old (Written new_journal_name (journal_of names marks) ∷ Synced ∷ Moved new_journal_name journal_name ∷ [])
-    → IsSettledInPart names mid new → HasStopped (placing names marks) old new
+    → IsSettledInPart names mid new → HasStopped (committing names marks) old new
 stopped_settling old mid new names marks first (unsynced same) = record {
   left = Written new_journal_name (journal_of names marks) ∷ Synced ∷ Moved new_journal_name journal_name ∷ [];
   cut_off = later _ _ _ (during _ _ _ (all_some _));
@@ -75,10 +75,10 @@ stopped_settling old mid new names marks first (in_part left some is) = record {
   steps = then_steps old mid new (Written new_journal_name (journal_of names marks) ∷ Synced ∷ Moved new_journal_name journal_name ∷ []) (Synced ∷ left) first is;
 }
 
-pub stopped_placing : (old mid new : Option History) (text : List ℕ) (names marks moved : List (List ℕ)) → text ≡ journal_of names marks → moved ≡ names
+pub stopped_committing : (old mid new : Option History) (text : List ℕ) (names marks moved : List (List ℕ)) → text ≡ journal_of names marks → moved ≡ names
     → mid ≡ with_steps old (Written new_journal_name text ∷ Synced ∷ Moved new_journal_name journal_name ∷ [])
-    → IsSettledInPart moved mid new → HasStopped (placing names marks) old new
-stopped_placing old mid new text names marks moved texts same first part =
+    → IsSettledInPart moved mid new → HasStopped (committing names marks) old new
+stopped_committing old mid new text names marks moved texts same first part =
     stopped_settling old mid new names marks
     (first ∙ ap (λ (t : List ℕ). with_steps old (Written new_journal_name t ∷ Synced ∷ Moved new_journal_name journal_name ∷ [])) texts)
     (subst (λ (ns : List (List ℕ)). IsSettledInPart ns mid new) same part)
@@ -101,8 +101,8 @@ behind : (journal : Option (List (List ℕ))) (gone : List (List ℕ)) (left : L
     → IsCutOff (repairing journal gone) (all_of (repairing journal []) ++ left)
 behind None gone left cut = cut
 behind (Some names) gone left cut =
-    later [] _ _ (subst (IsCutOff (map placed names ∷ (Removed journal_name ∷ []) ∷ sweeping gone))
-    (sym (append_assoc (map placed names) (Synced ∷ Removed journal_name ∷ Synced ∷ []) left)) (later _ _ _ (later _ _ left cut)))
+    later [] _ _ (subst (IsCutOff (map renamed names ∷ (Removed journal_name ∷ []) ∷ sweeping gone))
+    (sym (append_assoc (map renamed names) (Synced ∷ Removed journal_name ∷ Synced ∷ []) left)) (later _ _ _ (later _ _ left cut)))
 
 pub stopped_sweeping : (old mid new : Option History) (finished : Option ℕ) → IsFinished old mid finished → IsSweepStopped mid new → IsUnrepaired old new
 stopped_sweeping old mid new finished done part =
@@ -115,7 +115,7 @@ stopped_sweeping old mid new finished done part =
 all_behind : (journal : Option (List (List ℕ))) (gone : List (List ℕ)) → all_of (repairing journal []) ++ all_of (sweeping gone) ≡ all_of (repairing journal gone)
 all_behind None gone = refl
 all_behind (Some names) gone =
-    ap (λ (l : List Step). Synced ∷ l) (append_assoc (map placed names) (Synced ∷ Removed journal_name ∷ Synced ∷ []) (all_of (sweeping gone)))
+    ap (λ (l : List Step). Synced ∷ l) (append_assoc (map renamed names) (Synced ∷ Removed journal_name ∷ Synced ∷ []) (all_of (sweeping gone)))
 
 pub repaired_all : (old mid new : Option History) (finished : Option ℕ) (removed : ℕ) (r : Repair) → r.finished ≡ finished → r.removed ≡ removed
     → IsFinished old mid finished → IsSwept mid new removed → IsRepaired old new r

@@ -9,12 +9,12 @@ use mathlib.Core.Logic.{◌⊎◌, inl, inr}
 use Rattle.av_sink.specs.Account.{NamedFile}
 use Rattle.av_exchange.specs.Names.{IsBeside, IsRegionName, journal_name, journal_of, new_journal_name, part_of}
 use Rattle.av_exchange.specs.Steps.{AreSomeOf, none, Holdings, IsCutOff, Moved, Removed, Step, Synced, after, after_all, during, ended, later, moved, with_name}
-use Rattle.av_exchange.specs.Exchange.{IsStepBeside, bytes_under, is_listed, placed, sweeping}
+use Rattle.av_exchange.specs.Exchange.{IsStepBeside, bytes_under, is_listed, renamed, sweeping}
 use Rattle.av_exchange.specs.Marks.{AreMarkedAnew, IsAsMarked, IsUnwritten, LeavesUnwritten, Marking, RepairLeavesUnwritten, as_marked, line_at, mark_line, unjournaled}
 use Rattle.av_exchange.proofs.Own.{region_not_own}
 use Rattle.av_exchange.proofs.Crash.{after_phase, all_some, one_or_none, some_all}
 use Rattle.av_exchange.proofs.Beside.{other_journal, quiet}
-use Rattle.av_exchange.proofs.Placed.{IsPlacing, file_stays, part_goes, part_stays, placing, placing_keeps_journal, some_placing}
+use Rattle.av_exchange.proofs.Renamed.{IsRenaming, file_stays, part_goes, part_stays, committing, renaming_keeps_journal, some_renaming}
 use Rattle.av_exchange.proofs.Repaired.{swept_beside}
 use Rattle.av_exchange.proofs.Exchanged.{AreRegions, after_begun, all_region, as_named, begun, begun_is, listed_some, named_file, named_part, or_some, writing, writing_beside}
 
@@ -23,7 +23,7 @@ pub record IsSound (k : Marking) (g : Holdings) (name : List ℕ) (mark : Option
   pub marked : IsAsMarked k g name mark
   pub anew : (bytes : List ℕ) → g (part_of name) ≡ Some bytes → ¬ (mark ≡ Some (k bytes))
 
--- ---- files take their places
+-- ---- files take their names
 
 -- where nothing is another under the two names
 same_sound : (k : Marking) (g f : Holdings) (m : List ℕ) (mark : Option (List ℕ)) → f (part_of m) ≡ g (part_of m) → f m ≡ g m → IsSound k g m mark → IsSound k f m mark
@@ -50,24 +50,24 @@ own_sound k g n mark r s (Some b) is =
       anew = λ bytes held. absurd (none-some bytes (sym gone ∙ held));
     }
 
-one_sound : (k : Marking) (g : Holdings) (m n : List ℕ) (mark : Option (List ℕ)) → IsRegionName m → IsRegionName n → IsSound k g m mark → IsSound k (after g (placed n)) m mark
+one_sound : (k : Marking) (g : Holdings) (m n : List ℕ) (mark : Option (List ℕ)) → IsRegionName m → IsRegionName n → IsSound k g m mark → IsSound k (after g (renamed n)) m mark
 one_sound k g m n mark rm rn s = elim (cases_Bool (bytes_eq m n)) [
   | inl same ↦
       let is = (bytes_eq-Decides m n).0 same in
-      subst (λ (x : List ℕ). IsSound k (after g (placed n)) x mark) (sym is)
+      subst (λ (x : List ℕ). IsSound k (after g (renamed n)) x mark) (sym is)
       (own_sound k g n mark rn (subst (λ (x : List ℕ). IsSound k g x mark) is s) (g (part_of n)) refl)
   | inr other ↦
-      same_sound k g (after g (placed n)) m mark (part_stays g n rn (g (part_of n)) m other)
+      same_sound k g (after g (renamed n)) m mark (part_stays g n rn (g (part_of n)) m other)
       (file_stays g n rn (g (part_of n)) m (region_not_own m rm) other) s
 ]
 
 all_sound : (k : Marking) (names : List (List ℕ)) (g : Holdings) (steps : List Step) (m : List ℕ) (mark : Option (List ℕ)) → IsRegionName m
-    → AllByRecursion (IsPlacing names) steps → IsSound k g m mark → IsSound k (after_all g steps) m mark
+    → AllByRecursion (IsRenaming names) steps → IsSound k g m mark → IsSound k (after_all g steps) m mark
 all_sound k names g [] m mark r are s = s
 all_sound k names g (step ∷ steps) m mark r are s = all_sound k names (after g step) steps m mark r are.1 (one are.0)
   where
-    one : IsPlacing names step → IsSound k (after g step) m mark
-    one (placing n rn listed is) = subst (λ (t : Step). IsSound k (after g t) m mark) (sym is) (one_sound k g m n mark r rn s)
+    one : IsRenaming names step → IsSound k (after g step) m mark
+    one (committing n rn listed is) = subst (λ (t : Step). IsSound k (after g t) m mark) (sym is) (one_sound k g m n mark r rn s)
 
 region_at : (names : List (List ℕ)) (i : ℕ) (name : List ℕ) → AllByRecursion IsRegionName names → slice_get names i ≡ Some name → IsRegionName name
 region_at [] i name are at = absurd (none-some name at)
@@ -78,25 +78,25 @@ region_at (n ∷ names) (suc i) name are at = region_at names i name are.1 at
 
 module _ (k : Marking) (g : Holdings) (names marks : List (List ℕ)) (text : g journal_name ≡ Some (journal_of names marks)) (regions : AllByRecursion IsRegionName names)
     (sound : (i : ℕ) (name : List ℕ) → i < length names → slice_get names i ≡ Some name → IsSound k g name (slice_get marks i)) where
-  placing_unwritten : (left : List Step) → AreSomeOf left (map placed names) → IsUnwritten k (after_all g left)
-  placing_unwritten left some =
-      let are = some_placing names left regions some in
-      as_marked names marks (placing_keeps_journal names g left are ∙ text) regions
+  renaming_unwritten : (left : List Step) → AreSomeOf left (map renamed names) → IsUnwritten k (after_all g left)
+  renaming_unwritten left some =
+      let are = some_renaming names left regions some in
+      as_marked names marks (renaming_keeps_journal names g left are ∙ text) regions
       (λ i lt name at. (all_sound k names g left name (slice_get marks i) (region_at names i name regions at) are (sound i name lt at)).marked)
 
   forgotten : Holdings
-  forgotten = with_name (after_all g (map placed names)) journal_name None
+  forgotten = with_name (after_all g (map renamed names)) journal_name None
 
   finishing_unwritten : (rest : List (List Step)) (left : List Step) → ((more : List Step) → IsCutOff rest more → IsUnwritten k (after_all forgotten more))
-      → IsCutOff (map placed names ∷ (Removed journal_name ∷ []) ∷ rest) left → IsUnwritten k (after_all g left)
+      → IsCutOff (map renamed names ∷ (Removed journal_name ∷ []) ∷ rest) left → IsUnwritten k (after_all g left)
   unfolding forgotten
-  finishing_unwritten rest _ then (during _ _ left some) = placing_unwritten left some
+  finishing_unwritten rest _ then (during _ _ left some) = renaming_unwritten left some
   finishing_unwritten rest _ then (later _ _ _ (during _ _ left some)) =
-      subst (IsUnwritten k) (sym (after_phase g (map placed names) left))
-      (one_or_none (Removed journal_name) left (λ (l : List Step). IsUnwritten k (after_all (after_all g (map placed names)) l)) some
-      (placing_unwritten (map placed names) (all_some (map placed names))) (unjournaled refl))
+      subst (IsUnwritten k) (sym (after_phase g (map renamed names) left))
+      (one_or_none (Removed journal_name) left (λ (l : List Step). IsUnwritten k (after_all (after_all g (map renamed names)) l)) some
+      (renaming_unwritten (map renamed names) (all_some (map renamed names))) (unjournaled refl))
   finishing_unwritten rest _ then (later _ _ _ (later _ _ left cut)) =
-      subst (IsUnwritten k) (sym (after_phase g (map placed names) (Removed journal_name ∷ (Synced ∷ left)))) (then left cut)
+      subst (IsUnwritten k) (sym (after_phase g (map renamed names) (Removed journal_name ∷ (Synced ∷ left)))) (then left cut)
 
   nothing_more : (more : List Step) → IsCutOff [] more → IsUnwritten k (after_all forgotten more)
   unfolding forgotten

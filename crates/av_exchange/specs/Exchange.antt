@@ -1,4 +1,4 @@
--- New files of a folder that take their places all or none, and what the folder stands for meanwhile.
+-- New files of a folder that take their names all or none, and what the folder stands for meanwhile.
 use Rattle.std.specs.Prelude.{◌≡◌, ◌⊎◌, ℕ, List, [], ◌∷◌, ◌++◌, Bool, true, false, cond, Option, Some, None, is_some, map}
 use Rattle.std.specs.Str.{bytes_eq}
 use Rattle.std.specs.List.{list_any, AllByRecursion}
@@ -17,23 +17,23 @@ staged file = Written (part_of file.name) file.bytes
 abbrev pub AreStaged : List (List ℕ) → Holdings → Type 0
 AreStaged names h = AllByRecursion (λ name. is_some (h (part_of name)) ≡ true) names
 
--- it takes its place
-abbrev pub placed : List ℕ → Step
-placed name = Moved (part_of name) name
+-- it takes its name
+abbrev pub renamed : List ℕ → Step
+renamed name = Moved (part_of name) name
 
--- a journal is done with: its files take their places, and then it goes
+-- a journal is done with: its files take their names, and then it goes
 abbrev pub finishing : List (List ℕ) → List (List Step)
-finishing names = map placed names ∷ (Removed journal_name ∷ []) ∷ []
+finishing names = map renamed names ∷ (Removed journal_name ∷ []) ∷ []
 
--- new files that were written take their places: once the journal has its name, they are to do so. Until the journal goes, which is the last
+-- new files that were written take their names: once the journal has its name, they are to do so. Until the journal goes, which is the last
 -- of the exchange, a call that is cut off is known by it
-abbrev pub placing : (names marks : List (List ℕ)) → List (List Step)
-placing names marks = (Written new_journal_name (journal_of names marks) ∷ []) ∷ (Moved new_journal_name journal_name ∷ []) ∷ map placed names ∷ []
+abbrev pub committing : (names marks : List (List ℕ)) → List (List Step)
+committing names marks = (Written new_journal_name (journal_of names marks) ∷ []) ∷ (Moved new_journal_name journal_name ∷ []) ∷ map renamed names ∷ []
 
 abbrev pub closing : List (List Step)
 closing = (Removed journal_name ∷ []) ∷ []
 
--- the whole exchange: new files are written, take their places, and it is closed
+-- the whole exchange: new files are written, take their names, and it is closed
 abbrev pub exchanging : List NamedFile → (marks : List (List ℕ)) → List (List Step)
 exchanging files marks = (map staged files ++ (Written new_journal_name (journal_of (map (λ f. f.name) files) marks) ∷ []))
     ∷ (Moved new_journal_name journal_name ∷ []) ∷ finishing (map (λ f. f.name) files)
@@ -48,7 +48,7 @@ sweeping (name ∷ names) = (Removed name ∷ map Removed names) ∷ []
 -- a crash until then is one of that exchange.
 abbrev pub repairing : Option (List (List ℕ)) → List (List ℕ) → List (List Step)
 repairing None gone = sweeping gone
-repairing (Some names) gone = [] ∷ map placed names ∷ (Removed journal_name ∷ []) ∷ sweeping gone
+repairing (Some names) gone = [] ∷ map renamed names ∷ (Removed journal_name ∷ []) ∷ sweeping gone
 
 -- ---- what a folder stands for
 
@@ -66,7 +66,7 @@ IsJournaled h (Some names) = Lists h names
 abbrev pub is_listed : List (List ℕ) → List ℕ → Bool
 is_listed names name = list_any (λ other. bytes_eq name other) names
 
--- what counts under each name: the new file, where the journal lists the name and the new file has not taken its place
+-- what counts under each name: the new file, where the journal lists the name and the new file has not taken its name
 abbrev pub counted : Option (List (List ℕ)) → Holdings → Holdings
 counted None h = h
 counted (Some names) h = λ m. cond (is_listed names m) (option_or (h (part_of m)) (h m)) (h m)
@@ -82,7 +82,7 @@ abbrev pub bytes_under : List NamedFile → Holdings
 bytes_under [] name = None
 bytes_under (f ∷ files) name = option_or (bytes_under files name) (cond (bytes_eq name f.name) (Some f.bytes) None)
 
--- the same folder with these files in the place of those of their names
+-- the same folder with these files instead of those of their names
 abbrev pub with_all : Holdings → List NamedFile → Holdings
 with_all k files = λ name. option_or (bytes_under files name) (k name)
 

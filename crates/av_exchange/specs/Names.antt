@@ -1,7 +1,7 @@
 -- The names that an exchange gives to files of its own. All begin alike, and no region's file has one.
 use Rattle.std.specs.Prelude.{◌≡◌, ℕ, List, [], ◌∷◌, ◌++◌, Bool, codes, nat_eq}
 use Rattle.std.specs.List.{starts_with}
-use Rattle.av_types.specs.declared.place.RegionPos.{RegionPos}
+use Rattle.av_types.specs.declared.position.RegionPos.{RegionPos}
 use Rattle.av_region_files.specs.Names.{region_name_of}
 use Rattle.av_reports.specs.Names.{FitsRegion}
 
@@ -48,7 +48,7 @@ abbrev pub lines_of : List (List ℕ) → List ℕ
 lines_of [] = []
 lines_of (text ∷ texts) = text ++ (10 ∷ lines_of texts)
 
--- The journal that lets files of these names take their places: the head's line, one for each name, an empty one, and one for each mark of
+-- The journal that lets files of these names take their names: the head's line, one for each name, an empty one, and one for each mark of
 -- what had the names when it was written.
 abbrev pub journal_of : (names marks : List (List ℕ)) → List ℕ
 journal_of names marks = head_line ++ (lines_of names ++ (10 ∷ lines_of marks))

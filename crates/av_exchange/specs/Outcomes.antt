@@ -1,7 +1,7 @@
 -- What calls leave of a folder.
 use Rattle.std.specs.Prelude.{◌≡◌, ◌⊎◌, ℕ, List, [], ◌∷◌, Bool, true, false, Option, None, length, map, option_map, string_bytes}
 use Rattle.std.specs.List.{AllByRecursion}
-use Rattle.av_exchange.specs.Exchange.{AreStaged, IsJournaled, IsStepBeside, is_listed, placed, placing, repairing, sweeping}
+use Rattle.av_exchange.specs.Exchange.{AreStaged, IsJournaled, IsStepBeside, is_listed, renamed, committing, repairing, sweeping}
 use Rattle.av_exchange.specs.Marks.{AreMarksOf, Marking}
 use Rattle.av_exchange.specs.Names.{IsBeside, part_of}
 use Rattle.av_exchange.specs.Steps.{AreSomeOf, History, Holdings, IfTold, IsCutOff, Spoiled, Step, Synced, all_of, with_steps}
@@ -13,9 +13,9 @@ pub data IsUnstaged (name : List ℕ) (old new : Option History) : Type 0 where
   untried : new ≡ old → IsUnstaged name old new
   spoiled : (left : Option (List ℕ)) → new ≡ with_steps old (Spoiled (part_of name) left ∷ []) → IsUnstaged name old new
 
--- a new file did not take its place, or that is not on the device
-abbrev pub IsPlacedInPart : List ℕ → Option History → Option History → Type 0
-IsPlacedInPart name old new = (new ≡ old) ⊎ (new ≡ with_steps old (placed name ∷ []))
+-- a new file did not take its name, or that is not on the device
+abbrev pub IsRenamedInPart : List ℕ → Option History → Option History → Type 0
+IsRenamedInPart name old new = (new ≡ old) ⊎ (new ≡ with_steps old (renamed name ∷ []))
 
 -- steps were stopped, and left what a crash may leave of them
 pub record HasStopped (phases : List (List Step)) (old new : Option History) : Type 0 where
@@ -29,24 +29,24 @@ pub record IsBesideAlone (old new : Option History) : Type 0 where
   pub beside : AllByRecursion IsStepBeside left
   pub steps : new ≡ with_steps old left
 
--- files that waited took their places, by a journal that marks what had their names
-pub record HavePlaces (mark_of : Marking) (names : List (List ℕ)) (old new : Option History) : Type 0 where
+-- files that waited took their names, by a journal that marks what had their names
+pub record AreCommitted (mark_of : Marking) (names : List (List ℕ)) (old new : Option History) : Type 0 where
   pub staged : IfTold old (AreStaged names)
   pub marks : List (List ℕ)
   pub marked : AreMarksOf mark_of old names marks
-  pub steps : new ≡ with_steps old (all_of (placing names marks))
+  pub steps : new ≡ with_steps old (all_of (committing names marks))
 
 -- the same, but it was cut off
-pub record HavePlacesInPart (mark_of : Marking) (names : List (List ℕ)) (old new : Option History) : Type 0 where
+pub record AreCommittedInPart (mark_of : Marking) (names : List (List ℕ)) (old new : Option History) : Type 0 where
   pub staged : IfTold old (AreStaged names)
   pub marks : List (List ℕ)
   pub marked : AreMarksOf mark_of old names marks
-  pub stopped : HasStopped (placing names marks) old new
+  pub stopped : HasStopped (committing names marks) old new
 
--- files did not take their places: the journal never had its name; or it had, and what was done then was cut off
-abbrev pub IsNotPlaced : Marking → List (List ℕ) → Option History → Option History → Bool → Type 0
-IsNotPlaced mark_of names old new false = IsBesideAlone old new
-IsNotPlaced mark_of names old new true = HavePlacesInPart mark_of names old new
+-- files did not take their names: the journal never had its name; or it had, and what was done then was cut off
+abbrev pub IsNotCommitted : Marking → List (List ℕ) → Option History → Option History → Bool → Type 0
+IsNotCommitted mark_of names old new false = IsBesideAlone old new
+IsNotCommitted mark_of names old new true = AreCommittedInPart mark_of names old new
 
 -- a repair, by what the journal lists and which files belonged to none
 pub record IsRepaired (old new : Option History) (r : Repair) : Type 0 where
@@ -70,16 +70,16 @@ pub data IsUnrepaired (old new : Option History) : Type 0 where
 
 -- ---- working definitions
 
--- some of the new files took their places
+-- some of the new files took their names
 pub record IsMovedInPart (names : List (List ℕ)) (old new : Option History) : Type 0 where
   pub left : List Step
-  pub some : AreSomeOf left (map placed names)
+  pub some : AreSomeOf left (map renamed names)
   pub steps : new ≡ with_steps old left
 
 -- the same behind the journal's name, which may not be on the device
 pub data IsSettledInPart (names : List (List ℕ)) (old new : Option History) : Type 0 where
   unsynced : new ≡ old → IsSettledInPart names old new
-  in_part : (left : List Step) → AreSomeOf left (map placed names) → new ≡ with_steps old (Synced ∷ left) → IsSettledInPart names old new
+  in_part : (left : List Step) → AreSomeOf left (map renamed names) → new ≡ with_steps old (Synced ∷ left) → IsSettledInPart names old new
 
 -- each of the names that is beside is among these
 abbrev pub AreAllBeside : List (List ℕ) → List (List ℕ) → Type 0

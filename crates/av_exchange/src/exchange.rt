@@ -1,9 +1,9 @@
-//! New files take their places.
+//! New files take their names.
 ghost use Rattle.std.specs.Prelude.{◌≡◌, ◌∷◌, [], IfErr, IfOk, OnErr, OnOk, Some, map, string_bytes};
 ghost use Rattle.av_sink.specs.Account.{file_named};
-ghost use Rattle.av_exchange.specs.Exchange.{closing, placed, repairing, staged};
+ghost use Rattle.av_exchange.specs.Exchange.{closing, renamed, repairing, staged};
 ghost use Rattle.av_exchange.specs.Names.{journal_name, new_journal_name, part_of};
-ghost use Rattle.av_exchange.specs.Outcomes.{HasStopped, HavePlaces, IsBesideAlone, IsMovedInPart, IsNotPlaced, IsPlacedInPart, IsSettledInPart, IsUnstaged, name_of};
+ghost use Rattle.av_exchange.specs.Outcomes.{HasStopped, AreCommitted, IsBesideAlone, IsMovedInPart, IsNotCommitted, IsRenamedInPart, IsSettledInPart, IsUnstaged, name_of};
 ghost use Rattle.av_exchange.specs.Steps.{Moved, Removed, Synced, Written, all_of, with_steps};
 
 use crate::folder::Folder;
@@ -15,10 +15,10 @@ use av_sink::Teller;
 use std::alloc::{AllocError, Global};
 use std::io;
 
-/// Why new files did not take their places.
+/// Why new files did not take their names.
 #[derive(Debug, Drop)]
-pub struct NotPlaced {
-    /// Whether the journal has its name, so that a repair lets them take their places.
+pub struct NotCommitted {
+    /// Whether the journal has its name, so that a repair lets them take their names.
     pub begun: bool,
     pub error: io::Error,
 }
@@ -52,14 +52,14 @@ pub fn unstage<F: Folder>(alloc: Global, folder: &mut F, name: &str) -> io::Resu
     Ok(())
 }
 
-/// Lets one new file that was staged take its place, at once.
+/// Lets one new file that was staged take its name, at once.
 ///
 /// # Errors
 /// What the system says, and want of memory: the new file may stay beside the old one.
-pub fn place_alone<F: Folder>(alloc: Global, folder: &mut F, name: &str) -> io::Result<()>
+pub fn commit_alone<F: Folder>(alloc: Global, folder: &mut F, name: &str) -> io::Result<()>
     ensures ok { OnOk result (F.history folder.new
-        ≡ with_steps (F.history folder.old) (placed name.now ∷ Synced ∷ [])) }
-    ensures err { OnErr result (IsPlacedInPart name.now (F.history folder.old)
+        ≡ with_steps (F.history folder.old) (renamed name.now ∷ Synced ∷ [])) }
+    ensures err { OnErr result (IsRenamedInPart name.now (F.history folder.old)
         (F.history folder.new)) }
 {
     let part = part_name(alloc, name)?;
@@ -79,10 +79,10 @@ pub(crate) fn moves_of(alloc: Global, names: &[String]) -> Result<Vec<Move>, All
     Ok(moves)
 }
 
-/// Lets each new file take its place, where it is there.
+/// Lets each new file take its name, where it is there.
 fn move_all<F: Folder>(folder: &mut F, moves: &[Move]) -> io::Result<()>
     ensures ok { OnOk result (F.history folder.new
-        ≡ with_steps (F.history folder.old) (map placed (map name_of moves.now))) }
+        ≡ with_steps (F.history folder.old) (map renamed (map name_of moves.now))) }
     ensures err { OnErr result (IsMovedInPart (map name_of moves.now) (F.history folder.old)
         (F.history folder.new)) }
 {
@@ -106,10 +106,10 @@ pub fn close<F: Folder>(folder: &mut F) -> io::Result<()>
     Ok(())
 }
 
-/// Lets new files take their places, and waits until they have them.
+/// Lets new files take their names, and waits until they have them.
 fn settle<F: Folder>(folder: &mut F, moves: &[Move]) -> io::Result<()>
     ensures ok { OnOk result (F.history folder.new
-        ≡ with_steps (F.history folder.old) (all_of (map placed (map name_of moves.now) ∷ []))) }
+        ≡ with_steps (F.history folder.old) (all_of (map renamed (map name_of moves.now) ∷ []))) }
     ensures err { OnErr result (IsMovedInPart (map name_of moves.now) (F.history folder.old)
         (F.history folder.new)) }
 {
@@ -130,11 +130,11 @@ fn record<F: Folder>(folder: &mut F, text: &str) -> io::Result<()>
     Ok(())
 }
 
-/// Lets new files take their places once the journal's name is on the device.
+/// Lets new files take their names once the journal's name is on the device.
 fn settle_behind<F: Folder>(folder: &mut F, moves: &[Move]) -> io::Result<()>
     ensures ok { OnOk result (F.history folder.new
         ≡ with_steps (F.history folder.old) (Synced ∷ all_of
-        (map placed (map name_of moves.now) ∷ []))) }
+        (map renamed (map name_of moves.now) ∷ []))) }
     ensures err { OnErr result (IsSettledInPart (map name_of moves.now) (F.history folder.old)
         (F.history folder.new)) }
 {
@@ -161,17 +161,21 @@ pub(crate) fn finish<F: Folder, T: Teller>(
     Ok(())
 }
 
-/// Lets new files that were staged take their places, all or none: a journal is written, and once it has its name they are to do so, and
+/// Lets new files that were staged take their names, all or none: a journal is written, and once it has its name they are to do so, and
 /// do. It stays until `close`, and has the marks of what they replace, by which a repair sees what was written since.
 ///
 /// # Errors
 /// What the system says, and before the first step want of memory, and `InvalidData` where a new file is gone, as where another program took it
 /// away. Where the journal does not have its name the old files stay, and a repair takes the new ones away; else a repair lets the others take
-/// their places too.
-pub fn place<F: Folder>(alloc: Global, folder: &mut F, names: &[String]) -> Result<(), NotPlaced>
-    ensures ok { OnOk result (HavePlaces (F.mark_of folder.old) (map string_bytes names.now)
+/// their names too.
+pub fn commit<F: Folder>(
+    alloc: Global,
+    folder: &mut F,
+    names: &[String],
+) -> Result<(), NotCommitted>
+    ensures ok { OnOk result (AreCommitted (F.mark_of folder.old) (map string_bytes names.now)
         (F.history folder.old) (F.history folder.new)) }
-    ensures err { IfErr result (λ e. IsNotPlaced (F.mark_of folder.old) (map string_bytes names.now)
+    ensures err { IfErr result (λ e. IsNotCommitted (F.mark_of folder.old) (map string_bytes names.now)
         (F.history folder.old) (F.history folder.new) e.begun) }
 {
     let moves = moves_of(alloc, names)?;
@@ -179,37 +183,37 @@ pub fn place<F: Folder>(alloc: Global, folder: &mut F, names: &[String]) -> Resu
     let marks = mark_lines(alloc, folder, names)?;
     let text = journal_text(alloc, names, marks.as_slice())?;
     if let Err(error) = record(folder, text.as_str()) {
-        return Err(NotPlaced {
+        return Err(NotCommitted {
             begun: false,
             error,
         });
     }
     match settle_behind(folder, moves.as_slice()) {
         Ok(()) => Ok(()),
-        Err(error) => Err(NotPlaced { begun: true, error }),
+        Err(error) => Err(NotCommitted { begun: true, error }),
     }
 }
 
-impl From<io::Error> for NotPlaced {
+impl From<io::Error> for NotCommitted {
     ghost use Rattle.std.specs.Prelude.{false};
 
     ghost from_gives = { λ _ not. not.begun ≡ false };
 
-    fn from(error: io::Error) -> NotPlaced {
-        NotPlaced {
+    fn from(error: io::Error) -> NotCommitted {
+        NotCommitted {
             begun: false,
             error,
         }
     }
 }
 
-impl From<AllocError> for NotPlaced {
+impl From<AllocError> for NotCommitted {
     ghost use Rattle.std.specs.Prelude.{false};
 
     ghost from_gives = { λ _ not. not.begun ≡ false };
 
-    fn from(error: AllocError) -> NotPlaced {
-        NotPlaced {
+    fn from(error: AllocError) -> NotCommitted {
+        NotCommitted {
             begun: false,
             error: error.into(),
         }

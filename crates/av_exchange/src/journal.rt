@@ -1,4 +1,4 @@
-//! The journal's text: a line that tells its form, the names of the files that are to take their places, a line each, an empty line, and for
+//! The journal's text: a line that tells its form, the names of the files that are to take their names, a line each, an empty line, and for
 //! each name a line by which what had it is known again.
 ghost use Rattle.std.specs.Prelude.{◌≡◌, ◌++◌, IfOk, IfSome, OnOk, map, string_bytes, vec_len};
 ghost use Rattle.std.specs.List.{AllByRecursion};
@@ -13,7 +13,7 @@ const HEAD: &str = "anvilwater journal 2\n";
 /// What a journal says.
 #[derive(Drop)]
 pub(crate) struct Journal {
-    /// The names of the files that are to take their places.
+    /// The names of the files that are to take their names.
     pub(crate) names: Vec<String>,
     /// For each, the mark of what had the name.
     pub(crate) marks: Vec<String>,

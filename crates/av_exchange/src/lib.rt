@@ -1,5 +1,5 @@
-//! New files of a folder that take the places of old ones all or none, whenever a process or the machine ends: they are written beside
-//! the old ones, a journal says that they are to take their places, they do, and the journal goes. What was cut off is finished by the
+//! New files of a folder that take the names of old ones all or none, whenever a process or the machine ends: they are written beside
+//! the old ones, a journal says that they are to take their names, they do, and the journal goes. What was cut off is finished by the
 //! journal, or taken away where there is none.
 #![tactic(auto)]
 
@@ -12,7 +12,7 @@ mod moves;
 pub mod names;
 pub mod repairing;
 
-pub use exchange::{NotPlaced, close, place, place_alone, stage, unstage};
+pub use exchange::{NotCommitted, close, commit, commit_alone, stage, unstage};
 pub use folder::Folder;
 pub use names::{JOURNAL, TRIAL, is_own};
 pub use repairing::{repair, sweep};

@@ -1,4 +1,4 @@
-//! New files that are to take places.
+//! New files that are to take names.
 ghost use Rattle.std.specs.Prelude.{◌≡◌, IfOk, string_bytes};
 ghost use Rattle.av_exchange.specs.Names.{part_of};
 

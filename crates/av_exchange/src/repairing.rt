@@ -68,7 +68,7 @@ fn remove_all<F: Folder>(folder: &mut F, names: &[String]) -> io::Result<()>
     Ok(())
 }
 
-/// Takes the files of an exchange away that have no places to take, where there is no journal, and answers how many. None is left.
+/// Takes the files of an exchange away that have no names to take, where there is no journal, and answers how many. None is left.
 ///
 /// # Errors
 /// What the system says, and want of memory: some may be left.
@@ -87,7 +87,7 @@ pub fn sweep<F: Folder>(alloc: Global, folder: &mut F) -> io::Result<usize>
     Ok(beside.len())
 }
 
-/// Finishes an exchange of a folder that was cut off behind the moment from which on its files were to take their places, and takes away
+/// Finishes an exchange of a folder that was cut off behind the moment from which on its files were to take their names, and takes away
 /// what is left of one that was cut off before. That one was finished is told before its journal goes. No other process may work on the
 /// folder.
 ///

@@ -3,9 +3,9 @@ use Rattle.std.proofs.Common.{◌≡◌, ◌∙◌, ℕ, ◌+◌, ◌*◌, ◌<�
 use Rattle.std.proofs.lemmas.Option.{none-some, same_Some}
 use Rattle.std.proofs.lemmas.Bool.{true≢false}
 use Rattle.av_types.specs.Faults.{fault_number}
-use Rattle.av_types.specs.Places.{chunk_at}
-use Rattle.av_types.specs.declared.place.Height.{Height}
-use Rattle.av_types.specs.declared.place.ChunkPos.{ChunkPos}
+use Rattle.av_types.specs.Positions.{chunk_at}
+use Rattle.av_types.specs.declared.position.Height.{Height}
+use Rattle.av_types.specs.declared.position.ChunkPos.{ChunkPos}
 use Rattle.av_types.specs.declared.fault.Fault.{Fault}
 use Rattle.av_types.specs.declared.fault.Fault.TheVariants.{BadLocation, TruncatedChunk, BadLength, ExternalChunk, Compression}
 use Rattle.av_types.proofs.HeightNumbers.{height_is}
@@ -20,7 +20,7 @@ use Rattle.av_files.specs.Files.{File, in_order}
 use Rattle.av_files.specs.Denotes.{Rest, Denotes}
 use Rattle.av_files.specs.Layout.{indices}
 use Rattle.av_edits.specs.Edits.{first_in_edits}
-use Rattle.av_files.specs.FirstFault.{IsPlaceFault, sectors, spelling, document, IsPlaceGood, nothing, chunk, states_read, ArePlacesGood, IsFirstOfPlaces, IsFileGood, IsFirstOfFile, header, place, AreFilesGood, IsFirstOfFiles, IsTable, AreFilesRead, IsFilesFault, range, repeated, region, IsFirstFault, counts, rules, file, edit, IsAccepted, OneFirstFault}
+use Rattle.av_files.specs.FirstFault.{IsFaultAt, sectors, spelling, document, IsGoodAt, nothing, chunk, states_read, AreIndicesGood, IsFirstOfIndices, IsFileGood, IsFirstOfFile, header, at_index, AreFilesGood, IsFirstOfFiles, IsTable, AreFilesRead, IsFilesFault, range, repeated, region, IsFirstFault, counts, rules, file, edit, IsAccepted, OneFirstFault}
 use Rattle.av_files.proofs.Unique.{same_document, some_location, denote_one}
 use Rattle.av_files.proofs.OneFault.{document_fault}
 
@@ -96,32 +96,32 @@ none_is_good f i ExternalChunk h a = zero_offset (location_of f i) a.measured.wh
 none_is_good f i (Compression k) h a = zero_offset (location_of f i) a.measured.whole.located.offset h
 none_is_good f i _ h a = a
 
--- ---- one place
+-- ---- one index
 
-place_one : (h : Height) (t : List BlockState) (f : List ℕ) (c : ChunkPos) (i : ℕ) (e g : Fault) → IsPlaceFault h t f c i e → IsPlaceFault h t f c i g → e ≡ g
-place_one h t f c i e g (sectors a) (sectors b) = sector_one f i e g a b
-place_one h t f c i e g (sectors a) (spelling p held un is) = absurd (held_is_good f i p e held a)
-place_one h t f c i e g (sectors a) (document p d held sp is) = absurd (held_is_good f i p e held a)
-place_one h t f c i e g (spelling p held un is) (sectors b) = absurd (held_is_good f i p g held b)
-place_one h t f c i e g (spelling p held un is) (spelling q held' un' is') = is ∙ sym is'
-place_one h t f c i e g (spelling p held un is) (document q d held' sp is') = absurd (un d (subst (SpellsDocument d) (held'.bytes ∙ sym held.bytes) sp))
-place_one h t f c i e g (document p d held sp is) (sectors b) = absurd (held_is_good f i p g held b)
-place_one h t f c i e g (document p d held sp is) (spelling q held' un is') = absurd (un d (subst (SpellsDocument d) (held.bytes ∙ sym held'.bytes) sp))
-place_one h t f c i e g (document p d held sp is) (document q d' held' sp' is') =
+index_one : (h : Height) (t : List BlockState) (f : List ℕ) (c : ChunkPos) (i : ℕ) (e g : Fault) → IsFaultAt h t f c i e → IsFaultAt h t f c i g → e ≡ g
+index_one h t f c i e g (sectors a) (sectors b) = sector_one f i e g a b
+index_one h t f c i e g (sectors a) (spelling p held un is) = absurd (held_is_good f i p e held a)
+index_one h t f c i e g (sectors a) (document p d held sp is) = absurd (held_is_good f i p e held a)
+index_one h t f c i e g (spelling p held un is) (sectors b) = absurd (held_is_good f i p g held b)
+index_one h t f c i e g (spelling p held un is) (spelling q held' un' is') = is ∙ sym is'
+index_one h t f c i e g (spelling p held un is) (document q d held' sp is') = absurd (un d (subst (SpellsDocument d) (held'.bytes ∙ sym held.bytes) sp))
+index_one h t f c i e g (document p d held sp is) (sectors b) = absurd (held_is_good f i p g held b)
+index_one h t f c i e g (document p d held sp is) (spelling q held' un is') = absurd (un d (subst (SpellsDocument d) (held.bytes ∙ sym held'.bytes) sp))
+index_one h t f c i e g (document p d held sp is) (document q d' held' sp' is') =
     let one = same_document f i p q d d' held held' sp sp' in
     document_fault h c t (root_tags d) e g is (ap (λ x. first_fault h c t (root_tags x)) one.1 ∙ is')
 
-place_not : (h : Height) (t : List BlockState) (f : List ℕ) (c : ChunkPos) (i : ℕ) (e : Fault) (new : List BlockState) → IsPlaceFault h t f c i e → IsPlaceGood h t f c i new → ⊥
-place_not h t f c i e new (sectors a) (nothing n is) = none_is_good f i e n a
-place_not h t f c i e new (sectors a) (chunk p d held sp un is) = held_is_good f i p e held a
-place_not h t f c i e new (spelling p held un is) (nothing n is') = some_location f i p held n
-place_not h t f c i e new (spelling p held un is) (chunk q d held' sp un' is') = un d (subst (SpellsDocument d) (held'.bytes ∙ sym held.bytes) sp)
-place_not h t f c i e new (document p d held sp is) (nothing n is') = some_location f i p held n
-place_not h t f c i e new (document p d held sp is) (chunk q d' held' sp' un is') =
+index_not : (h : Height) (t : List BlockState) (f : List ℕ) (c : ChunkPos) (i : ℕ) (e : Fault) (new : List BlockState) → IsFaultAt h t f c i e → IsGoodAt h t f c i new → ⊥
+index_not h t f c i e new (sectors a) (nothing n is) = none_is_good f i e n a
+index_not h t f c i e new (sectors a) (chunk p d held sp un is) = held_is_good f i p e held a
+index_not h t f c i e new (spelling p held un is) (nothing n is') = some_location f i p held n
+index_not h t f c i e new (spelling p held un is) (chunk q d held' sp un' is') = un d (subst (SpellsDocument d) (held'.bytes ∙ sym held.bytes) sp)
+index_not h t f c i e new (document p d held sp is) (nothing n is') = some_location f i p held n
+index_not h t f c i e new (document p d held sp is) (chunk q d' held' sp' un is') =
     let one = same_document f i p q d d' held held' sp sp' in
     none-some (fault_number e) (sym un ∙ sym (ap (λ x. first_fault h c t (root_tags x)) one.1) ∙ is)
 
-good_one : (h : Height) (t : List BlockState) (f : List ℕ) (c : ChunkPos) (i : ℕ) (x y : List BlockState) → IsPlaceGood h t f c i x → IsPlaceGood h t f c i y → x ≡ y
+good_one : (h : Height) (t : List BlockState) (f : List ℕ) (c : ChunkPos) (i : ℕ) (x y : List BlockState) → IsGoodAt h t f c i x → IsGoodAt h t f c i y → x ≡ y
 good_one h t f c i x y (nothing n is) (nothing n' is') = is ∙ sym is'
 good_one h t f c i x y (nothing n is) (chunk q d held sp un is') = absurd (some_location f i q held n)
 good_one h t f c i x y (chunk p d held sp un is) (nothing n is') = absurd (some_location f i p held n)
@@ -129,39 +129,39 @@ good_one h t f c i x y (chunk p d held sp un is) (chunk q d' held' sp' un' is') 
     let one = same_document f i p q d d' held held' sp sp' in
     is ∙ ap (λ z. with_states t (states_read h z)) one.1 ∙ sym is'
 
--- ---- places and files in order
+-- ---- indices and files in order
 
-places_one : (h : Height) (t : List BlockState) (f : File) (is : List ℕ) (e g : Fault) → IsFirstOfPlaces h t f is e → IsFirstOfPlaces h t f is g → e ≡ g
-places_one h t f [] e g a b = absurd a
-places_one h t f (i ∷ is) e g (inl a) (inl b) = place_one h t f.bytes (chunk_at f.pos i) i e g a b
-places_one h t f (i ∷ is) e g (inl a) (inr b) = absurd (place_not h t f.bytes (chunk_at f.pos i) i e b.0 a b.1)
-places_one h t f (i ∷ is) e g (inr a) (inl b) = absurd (place_not h t f.bytes (chunk_at f.pos i) i g a.0 b a.1)
-places_one h t f (i ∷ is) e g (inr a) (inr b) =
+indices_one : (h : Height) (t : List BlockState) (f : File) (is : List ℕ) (e g : Fault) → IsFirstOfIndices h t f is e → IsFirstOfIndices h t f is g → e ≡ g
+indices_one h t f [] e g a b = absurd a
+indices_one h t f (i ∷ is) e g (inl a) (inl b) = index_one h t f.bytes (chunk_at f.pos i) i e g a b
+indices_one h t f (i ∷ is) e g (inl a) (inr b) = absurd (index_not h t f.bytes (chunk_at f.pos i) i e b.0 a b.1)
+indices_one h t f (i ∷ is) e g (inr a) (inl b) = absurd (index_not h t f.bytes (chunk_at f.pos i) i g a.0 b a.1)
+indices_one h t f (i ∷ is) e g (inr a) (inr b) =
     let same = good_one h t f.bytes (chunk_at f.pos i) i b.0 a.0 b.1 a.1 in
-    places_one h a.0 f is e g a.2 (subst (λ x. IsFirstOfPlaces h x f is g) same b.2)
+    indices_one h a.0 f is e g a.2 (subst (λ x. IsFirstOfIndices h x f is g) same b.2)
 
-places_not : (h : Height) (t : List BlockState) (f : File) (is : List ℕ) (e : Fault) (new : List BlockState) → IsFirstOfPlaces h t f is e → ArePlacesGood h t f is new → ⊥
-places_not h t f [] e new a b = a
-places_not h t f (i ∷ is) e new (inl a) b = place_not h t f.bytes (chunk_at f.pos i) i e b.0 a b.1
-places_not h t f (i ∷ is) e new (inr a) b =
+indices_not : (h : Height) (t : List BlockState) (f : File) (is : List ℕ) (e : Fault) (new : List BlockState) → IsFirstOfIndices h t f is e → AreIndicesGood h t f is new → ⊥
+indices_not h t f [] e new a b = a
+indices_not h t f (i ∷ is) e new (inl a) b = index_not h t f.bytes (chunk_at f.pos i) i e b.0 a b.1
+indices_not h t f (i ∷ is) e new (inr a) b =
     let same = good_one h t f.bytes (chunk_at f.pos i) i b.0 a.0 b.1 a.1 in
-    places_not h a.0 f is e new a.2 (subst (λ x. ArePlacesGood h x f is new) same b.2)
+    indices_not h a.0 f is e new a.2 (subst (λ x. AreIndicesGood h x f is new) same b.2)
 
-places_good : (h : Height) (t : List BlockState) (f : File) (is : List ℕ) (x y : List BlockState) → ArePlacesGood h t f is x → ArePlacesGood h t f is y → x ≡ y
-places_good h t f [] x y a b = a ∙ sym b
-places_good h t f (i ∷ is) x y a b =
+indices_good : (h : Height) (t : List BlockState) (f : File) (is : List ℕ) (x y : List BlockState) → AreIndicesGood h t f is x → AreIndicesGood h t f is y → x ≡ y
+indices_good h t f [] x y a b = a ∙ sym b
+indices_good h t f (i ∷ is) x y a b =
     let same = good_one h t f.bytes (chunk_at f.pos i) i b.0 a.0 b.1 a.1 in
-    places_good h a.0 f is x y a.2 (subst (λ z. ArePlacesGood h z f is y) same b.2)
+    indices_good h a.0 f is x y a.2 (subst (λ z. AreIndicesGood h z f is y) same b.2)
 
 file_one : (h : Height) (t : List BlockState) (f : File) (e g : Fault) → IsFirstOfFile h t f e → IsFirstOfFile h t f g → e ≡ g
 file_one h t f e g (header s is) (header s' is') = is ∙ sym is'
-file_one h t f e g (header s is) (place n p) = absurd (n s)
-file_one h t f e g (place n p) (header s is) = absurd (n s)
-file_one h t f e g (place n p) (place n' p') = places_one h t f indices e g p p'
+file_one h t f e g (header s is) (at_index n p) = absurd (n s)
+file_one h t f e g (at_index n p) (header s is) = absurd (n s)
+file_one h t f e g (at_index n p) (at_index n' p') = indices_one h t f indices e g p p'
 
 file_not : (h : Height) (t : List BlockState) (f : File) (e : Fault) (new : List BlockState) → IsFirstOfFile h t f e → IsFileGood h t f new → ⊥
 file_not h t f e new (header s is) b = b.whole s
-file_not h t f e new (place n p) b = places_not h t f indices e new p b.places
+file_not h t f e new (at_index n p) b = indices_not h t f indices e new p b.good
 
 files_one : (h : Height) (t : List BlockState) (fs : List File) (e g : Fault) → IsFirstOfFiles h t fs e → IsFirstOfFiles h t fs g → e ≡ g
 files_one h t [] e g a b = absurd a
@@ -169,20 +169,20 @@ files_one h t (f ∷ fs) e g (inl a) (inl b) = file_one h t f e g a b
 files_one h t (f ∷ fs) e g (inl a) (inr b) = absurd (file_not h t f e b.0 a b.1)
 files_one h t (f ∷ fs) e g (inr a) (inl b) = absurd (file_not h t f g a.0 b a.1)
 files_one h t (f ∷ fs) e g (inr a) (inr b) =
-    let same = places_good h t f indices b.0 a.0 b.1.places a.1.places in
+    let same = indices_good h t f indices b.0 a.0 b.1.good a.1.good in
     files_one h a.0 fs e g a.2 (subst (λ x. IsFirstOfFiles h x fs g) same b.2)
 
 files_not : (h : Height) (t : List BlockState) (fs : List File) (e : Fault) (new : List BlockState) → IsFirstOfFiles h t fs e → AreFilesGood h t fs new → ⊥
 files_not h t [] e new a b = a
 files_not h t (f ∷ fs) e new (inl a) b = file_not h t f e b.0 a b.1
 files_not h t (f ∷ fs) e new (inr a) b =
-    let same = places_good h t f indices b.0 a.0 b.1.places a.1.places in
+    let same = indices_good h t f indices b.0 a.0 b.1.good a.1.good in
     files_not h a.0 fs e new a.2 (subst (λ x. AreFilesGood h x fs new) same b.2)
 
 files_good : (h : Height) (t : List BlockState) (fs : List File) (x y : List BlockState) → AreFilesGood h t fs x → AreFilesGood h t fs y → x ≡ y
 files_good h t [] x y a b = a ∙ sym b
 files_good h t (f ∷ fs) x y a b =
-    let same = places_good h t f indices b.0 a.0 b.1.places a.1.places in
+    let same = indices_good h t f indices b.0 a.0 b.1.good a.1.good in
     files_good h a.0 fs x y a.2 (subst (λ z. AreFilesGood h z fs y) same b.2)
 
 -- ---- the whole input

@@ -5,10 +5,10 @@ use Rattle.std.specs.List.{AllByRecursion}
 use Rattle.std.proofs.lemmas.List.FromFn.{length-map-range_with_len}
 use Rattle.std.proofs.lemmas.Option.{none-some}
 use Rattle.std.proofs.lemmas.List.Elements.{All-from_recursion}
-use Rattle.av_types.specs.Places.{chunk_at}
-use Rattle.av_types.specs.declared.place.Height.{Height}
-use Rattle.av_types.specs.declared.place.ChunkPos.{ChunkPos}
-use Rattle.av_types.specs.declared.place.RegionPos.{RegionPos}
+use Rattle.av_types.specs.Positions.{chunk_at}
+use Rattle.av_types.specs.declared.position.Height.{Height}
+use Rattle.av_types.specs.declared.position.ChunkPos.{ChunkPos}
+use Rattle.av_types.specs.declared.position.RegionPos.{RegionPos}
 use Rattle.av_region.specs.Layout.{HoldsAll, region_bytes, first_too_large}
 use Rattle.av_region.proofs.Law.{holds_all}
 use Rattle.av_state.specs.BlockState.{BlockState}

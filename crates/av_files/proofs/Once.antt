@@ -6,7 +6,7 @@ use Rattle.std.proofs.lemmas.Int.{ints}
 use Rattle.std.proofs.lemmas.Bool.{true≢false, false≢true}
 use Rattle.std.proofs.lemmas.Option.{slice_get_past, none-some}
 use Rattle.av_tags.specs.Shape.{or_else}
-use Rattle.av_types.specs.declared.place.Pos.{Pos}
+use Rattle.av_types.specs.declared.position.Pos.{Pos}
 use Rattle.av_types.specs.declared.tick.Entry.{Entry}
 use Rattle.av_state.specs.BlockState.{BlockState, air, index_where}
 use Rattle.av_state.specs.StateList.{IsStateList, first_states, number_in, same_state}
@@ -19,12 +19,12 @@ use Rattle.av_land.proofs.Runs.{run_moved, count_moved}
 use Rattle.av_files.specs.Run.{kind_or_shut, kinds_in, stated, stated_set, OneRun}
 
 -- the number of a state in another table, past its end for none
-abbrev place : List BlockState → Option BlockState → ℕ
-place table None = length table
-place table (Some s) = or_else (length table) (number_in table s)
+abbrev number_or_past : List BlockState → Option BlockState → ℕ
+number_or_past table None = length table
+number_or_past table (Some s) = or_else (length table) (number_in table s)
 
 abbrev renumber : List BlockState → List BlockState → ℕ → ℕ
-renumber table states i = place table (slice_get states i)
+renumber table states i = number_or_past table (slice_get states i)
 
 found : (xs : List BlockState) (i : ℕ) (s : BlockState) → slice_get xs i ≡ Some s → (n : ℕ) × (number_in xs s ≡ Some n)
 found [] i s h = absurd (none-some s h)
@@ -42,16 +42,16 @@ found (x ∷ xs) (suc i) s h = by (same_state s x) (found xs i s h) where
 abbrev Has : List BlockState → List BlockState → Type 0
 Has table states = (i : ℕ) (s : BlockState) → slice_get states i ≡ Some s → (j : ℕ) × (slice_get table j ≡ Some s)
 
-placed : (table : List BlockState) (o : Option BlockState) → ((s : BlockState) → o ≡ Some s → (j : ℕ) × (slice_get table j ≡ Some s)) → slice_get table (place table o) ≡ o
-placed table None has = slice_get_past table (length table) (omega arith)
-placed table (Some s) has =
+number_there : (table : List BlockState) (o : Option BlockState) → ((s : BlockState) → o ≡ Some s → (j : ℕ) × (slice_get table j ≡ Some s)) → slice_get table (number_or_past table o) ≡ o
+number_there table None has = slice_get_past table (length table) (omega arith)
+number_there table (Some s) has =
     let j = has s refl in
     let n = found table j.0 s j.1 in
     ap (λ o. slice_get table (or_else (length table) o)) n.1 ∙ number_in-there table s n.0 n.1
 
 same_kind : (t : BlockTable) (table states : List BlockState) → Has table states → kinds_in t states ≡ (λ i. kinds_in t table (renumber table states i))
 same_kind t table states has =
-    let e : (i : ℕ) → kind_or_shut t (slice_get states i) ≡ kind_or_shut t (slice_get table (renumber table states i)) = λ i. ap (kind_or_shut t) (sym (placed table (slice_get states i) (has i))) in
+    let e : (i : ℕ) → kind_or_shut t (slice_get states i) ≡ kind_or_shut t (slice_get table (renumber table states i)) = λ i. ap (kind_or_shut t) (sym (number_there table (slice_get states i) (has i))) in
     λ j i. e i j
 
 index_is : (xs : List BlockState) (i : ℕ) → slice_index_or xs i air ≡ or_else air (slice_get xs i)
@@ -60,7 +60,7 @@ index_is (x ∷ xs) zero = refl
 index_is (x ∷ xs) (suc i) = index_is xs i
 
 same_index : (table states : List BlockState) → Has table states → (i : ℕ) → slice_index_or table (renumber table states i) air ≡ slice_index_or states i air
-same_index table states has i = index_is table (renumber table states i) ∙ ap (or_else air) (placed table (slice_get states i) (has i)) ∙ sym (index_is states i)
+same_index table states has i = index_is table (renumber table states i) ∙ ap (or_else air) (number_there table (slice_get states i) (has i)) ∙ sym (index_is states i)
 
 no_later : (es : List Entry) → map (later 0) es ≡ es
 no_later [] = refl
@@ -77,7 +77,7 @@ same_stated table states has v =
 -- numbers of two tables that stand for one state become one number
 one_number : (table states others : List BlockState) (i j : ℕ) → i < length states → j < length others → slice_index_or states i air ≡ slice_index_or others j air → renumber table states i ≡ renumber table others j
 one_number table states others i j a b e =
-    ap (place table) (there states i a ∙ ap (λ s. Some s) e ∙ sym (there others j b)) where
+    ap (number_or_past table) (there states i a ∙ ap (λ s. Some s) e ∙ sym (there others j b)) where
       there : (xs : List BlockState) (i : ℕ) → i < length xs → slice_get xs i ≡ Some (slice_index_or xs i air)
       there [] i h = absurd (omega arith)
       there (s ∷ xs) zero h = refl
@@ -122,7 +122,7 @@ first_kept : (table states : List BlockState) → IsStateList states → ((m : �
 first_kept table states list firsts m less =
     let is = first_state m less in
     let here : slice_get states m ≡ Some is.state = ap (λ xs. slice_get xs m) (list-begins states list) ∙ slice_get-append first_states (drop 10 states) m is.state is.is_there in
-    ap (place table) here ∙ ap (or_else (length table)) (firsts m less is.state is.is_there)
+    ap (number_or_past table) here ∙ ap (or_else (length table)) (firsts m less is.state is.is_there)
 
 -- the states of two tables, one after the other
 left_has : (xs ys : List BlockState) → Has (xs ++ ys) xs

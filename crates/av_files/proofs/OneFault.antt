@@ -3,8 +3,8 @@ use Rattle.std.proofs.Common.{◌≡◌, ◌∙◌, ℕ, ◌≤◌, min, List, [
 use Rattle.std.specs.List.{AllByRecursion, flat_map, list_any}
 use Rattle.std.proofs.lemmas.Option.{none-some, same_Some}
 use Rattle.av_types.specs.Faults.{fault_number, least, lesser}
-use Rattle.av_types.specs.declared.place.Height.{Height}
-use Rattle.av_types.specs.declared.place.ChunkPos.{ChunkPos}
+use Rattle.av_types.specs.declared.position.Height.{Height}
+use Rattle.av_types.specs.declared.position.ChunkPos.{ChunkPos}
 use Rattle.av_types.specs.declared.fault.Fault.{Fault}
 use Rattle.av_types.specs.declared.fault.Fault.TheVariants.{OldLayout, BadChunk, WrongPlace, BadPalette, BadPacked, BadTick, BadWaterLevel, TooManyStates}
 use Rattle.av_tags.specs.Nbt.{NamedTag}
@@ -98,6 +98,6 @@ same_fault BadWaterLevel BadWaterLevel h s = refl
 same_fault TooManyStates TooManyStates h s = refl
 same_fault _ _ h s = absurd (let a = h.from in let b = h.to in omega arith)
 
--- two documents' first faults at one place are one
+-- two documents' first faults at one index are one
 pub document_fault : (h : Height) (c : ChunkPos) (table : List BlockState) (root : List NamedTag) (e f : Fault) → first_fault h c table root ≡ Some (fault_number e) → first_fault h c table root ≡ Some (fault_number f) → e ≡ f
 document_fault h c table root e f a b = same_fault e f (first_between h c table root (fault_number e) a) (same_Some (fault_number e) (fault_number f) (sym a ∙ b))

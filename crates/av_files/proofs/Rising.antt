@@ -6,8 +6,8 @@ use Rattle.std.specs.declared.cmp.Ordering.{Ordering}
 use Rattle.std.specs.declared.cmp.Ordering.TheVariants.{Less, Equal, Greater}
 use Rattle.std.proofs.lemmas.Int.{ints}
 use Rattle.std.proofs.lemmas.Bool.{and_parts, or_cases, false≢true}
-use Rattle.av_types.specs.declared.place.ChunkPos.{ChunkPos}
-use Rattle.av_types.proofs.SamePlaces.{same_chunk_is, same_chunk-refl}
+use Rattle.av_types.specs.declared.position.ChunkPos.{ChunkPos}
+use Rattle.av_types.proofs.SamePositions.{same_chunk_is, same_chunk-refl}
 use Rattle.av_cells.specs.Positions.{same_chunk}
 use Rattle.av_land.specs.Land.{has_chunk}
 use Rattle.av_files.specs.Files.{chunk_order, starts_after, chunks_rise}

@@ -1,12 +1,12 @@
--- One place of a file that is written.
+-- One index of a file that is written.
 use Rattle.std.proofs.Common.{◌≡◌, ◌∙◌, ℕ, ◌+◌, ◌-◌, ◌*◌, ◌<◌, ◌≤◌, ◌%◌, List, length, drop, true, false, cond, Some, None, get_or, ap, arith}
 use Rattle.std.specs.Prelude.{map, slice_get, slice_range, option_map}
 use Rattle.std.specs.List.{range_with_len}
 use Rattle.std.proofs.lemmas.Option.{slice_get-map, slice_get-get_or}
 use Rattle.std.proofs.lemmas.List.{length-take}
 use Rattle.std.proofs.lemmas.List.FromFn.{length-range_with_len, get_or-range_with_len}
-use Rattle.av_types.specs.Places.{chunk_at}
-use Rattle.av_types.specs.declared.place.RegionPos.{RegionPos}
+use Rattle.av_types.specs.Positions.{chunk_at}
+use Rattle.av_types.specs.declared.position.RegionPos.{RegionPos}
 use Rattle.av_region.specs.Region.{Holds, start_of, end_of, length_of, location_of}
 use Rattle.av_region.specs.Layout.{HoldsAll}
 use Rattle.av_state.specs.BlockState.{BlockState}
@@ -37,7 +37,7 @@ holds_few file i payload h =
       few : (location size start count : ℕ) → count ≤ (start + 4 + size) - (start + 5) → size + 4 ≤ 4096 * (location % 256) → count ≤ 1044475
       few location size start count n m = omega arith
 
--- the world's chunk at a place, once it is written
+-- the world's chunk at an index, once it is written
 pub slot_written : (t : BlockTable) (w v : Land BlockState) (r : Rest) (light : Lights) (n : ℕ) (file out : List ℕ) (region : RegionPos) (i : ℕ) → i < 1024
     → IsSlot v.height w r file (chunk_at region i) i → v.chunks ≡ w.chunks → IsLawfulLand v n → AreLights v.height light
     → HoldsAll out (payloads (sources_of t v) v r light n region) (stamps r region) → IsSlot v.height (shifted n v) r out (chunk_at region i) i

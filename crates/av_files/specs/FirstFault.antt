@@ -1,9 +1,9 @@
 -- The first fault of a run's input, in the order in which faults are looked for.
 use Rattle.std.specs.Prelude.{◌≡◌, IsUtf8, ℕ, ◌≤◌, ◌⊎◌, List, [], ◌∷◌, length, Some, None, true, false, if◌then◌else◌}
 use Rattle.av_types.specs.Faults.{fault_number}
-use Rattle.av_types.specs.Places.{IsInLimits, chunk_at}
-use Rattle.av_types.specs.declared.place.Height.{Height}
-use Rattle.av_types.specs.declared.place.ChunkPos.{ChunkPos}
+use Rattle.av_types.specs.Positions.{IsInLimits, chunk_at}
+use Rattle.av_types.specs.declared.position.Height.{Height}
+use Rattle.av_types.specs.declared.position.ChunkPos.{ChunkPos}
 use Rattle.av_types.specs.declared.fault.Fault.{Fault}
 use Rattle.av_types.specs.declared.fault.Fault.TheVariants.{BadCount, BadTable, RegionRange, RepeatedRegion, ShortHeader, BadNbt}
 use Rattle.av_tags.specs.Nbt.{Document}
@@ -21,42 +21,42 @@ use Rattle.av_files.specs.Denotes.{Rest, Denotes}
 use Rattle.av_files.specs.Layout.{indices}
 use Rattle.av_edits.specs.Edits.{first_in_edits}
 
--- ---- one place of a file
+-- ---- one index of a file
 
 -- a chunk's states, none of one that is kept
 abbrev pub states_read : Height → Document → List BlockState
 states_read h d = if is_full (root_tags d) then all_states h (root_tags d) else []
 
--- the first fault of a place, whose states are numbered after those of the table
-pub data IsPlaceFault (h : Height) (table : List BlockState) (file : List ℕ) (c : ChunkPos) (index : ℕ) (e : Fault) : Type 0 where
-  sectors : IsChunkFault file index e → IsPlaceFault h table file c index e
-  spelling : (payload : List ℕ) → Holds file index payload → SpellsNone payload → e ≡ BadNbt → IsPlaceFault h table file c index e
-  document : (payload : List ℕ) (d : Document) → Holds file index payload → SpellsDocument d payload → first_fault h c table (root_tags d) ≡ Some (fault_number e) → IsPlaceFault h table file c index e
+-- the first fault at an index, whose states are numbered after those of the table
+pub data IsFaultAt (h : Height) (table : List BlockState) (file : List ℕ) (c : ChunkPos) (index : ℕ) (e : Fault) : Type 0 where
+  sectors : IsChunkFault file index e → IsFaultAt h table file c index e
+  spelling : (payload : List ℕ) → Holds file index payload → SpellsNone payload → e ≡ BadNbt → IsFaultAt h table file c index e
+  document : (payload : List ℕ) (d : Document) → Holds file index payload → SpellsDocument d payload → first_fault h c table (root_tags d) ≡ Some (fault_number e) → IsFaultAt h table file c index e
 
--- a place without a fault, and the states that it adds
-pub data IsPlaceGood (h : Height) (table : List BlockState) (file : List ℕ) (c : ChunkPos) (index : ℕ) (new : List BlockState) : Type 0 where
-  nothing : IsAbsent file index → new ≡ table → IsPlaceGood h table file c index new
+-- an index without a fault, and the states that it adds
+pub data IsGoodAt (h : Height) (table : List BlockState) (file : List ℕ) (c : ChunkPos) (index : ℕ) (new : List BlockState) : Type 0 where
+  nothing : IsAbsent file index → new ≡ table → IsGoodAt h table file c index new
   chunk : (payload : List ℕ) (d : Document) → Holds file index payload → SpellsDocument d payload → first_fault h c table (root_tags d) ≡ None → new ≡ with_states table (states_read h d)
-      → IsPlaceGood h table file c index new
+      → IsGoodAt h table file c index new
 
--- ---- a file's places in order, and files in order
+-- ---- a file's indices in order, and files in order
 
-abbrev pub ArePlacesGood : Height → List BlockState → File → List ℕ → List BlockState → Type 0
-ArePlacesGood h table f [] new = new ≡ table
-ArePlacesGood h table f (i ∷ is) new = (next : List BlockState) × IsPlaceGood h table f.bytes (chunk_at f.pos i) i next × ArePlacesGood h next f is new
+abbrev pub AreIndicesGood : Height → List BlockState → File → List ℕ → List BlockState → Type 0
+AreIndicesGood h table f [] new = new ≡ table
+AreIndicesGood h table f (i ∷ is) new = (next : List BlockState) × IsGoodAt h table f.bytes (chunk_at f.pos i) i next × AreIndicesGood h next f is new
 
-abbrev pub IsFirstOfPlaces : Height → List BlockState → File → List ℕ → Fault → Type 0
-IsFirstOfPlaces h table f [] e = ⊥
-IsFirstOfPlaces h table f (i ∷ is) e =
-    IsPlaceFault h table f.bytes (chunk_at f.pos i) i e ⊎ ((next : List BlockState) × IsPlaceGood h table f.bytes (chunk_at f.pos i) i next × IsFirstOfPlaces h next f is e)
+abbrev pub IsFirstOfIndices : Height → List BlockState → File → List ℕ → Fault → Type 0
+IsFirstOfIndices h table f [] e = ⊥
+IsFirstOfIndices h table f (i ∷ is) e =
+    IsFaultAt h table f.bytes (chunk_at f.pos i) i e ⊎ ((next : List BlockState) × IsGoodAt h table f.bytes (chunk_at f.pos i) i next × IsFirstOfIndices h next f is e)
 
 pub record IsFileGood (h : Height) (table : List BlockState) (f : File) (new : List BlockState) : Type 0 where
   pub whole : ¬ IsShort f.bytes
-  pub places : ArePlacesGood h table f indices new
+  pub good : AreIndicesGood h table f indices new
 
 pub data IsFirstOfFile (h : Height) (table : List BlockState) (f : File) (e : Fault) : Type 0 where
   header : IsShort f.bytes → e ≡ ShortHeader → IsFirstOfFile h table f e
-  place : ¬ IsShort f.bytes → IsFirstOfPlaces h table f indices e → IsFirstOfFile h table f e
+  at_index : ¬ IsShort f.bytes → IsFirstOfIndices h table f indices e → IsFirstOfFile h table f e
 
 abbrev pub AreFilesGood : Height → List BlockState → List File → List BlockState → Type 0
 AreFilesGood h table [] new = new ≡ table
@@ -98,7 +98,7 @@ pub record AreReadAfter (h : Height) (old : List BlockState) (files : List File)
 abbrev pub AreFilesRead : Height → List File → List BlockState → Type 0
 AreFilesRead h files table = AreReadAfter h first_states files table
 
--- The first fault of files: of the list of regions, and else of the first place that has one, by (z, x) of its region and its index.
+-- The first fault of files: of the list of regions, and else of the first index that has one, by (z, x) of its region and its index.
 pub data IsFilesFaultAfter (h : Height) (old : List BlockState) (files : List File) (e : Fault) : Type 0 where
   range : ¬ AllInLimits files → e ≡ RegionRange → IsFilesFaultAfter h old files e
   repeated : AllInLimits files → share_a_region files ≡ true → e ≡ RepeatedRegion → IsFilesFaultAfter h old files e

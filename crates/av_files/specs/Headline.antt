@@ -1,7 +1,7 @@
 -- What a run of the whole program answers.
 use Rattle.std.specs.Prelude.{◌≡◌, ℕ, List, length, Some, None}
-use Rattle.av_types.specs.declared.place.Height.{Height}
-use Rattle.av_types.specs.declared.place.ChunkPos.{ChunkPos}
+use Rattle.av_types.specs.declared.position.Height.{Height}
+use Rattle.av_types.specs.declared.position.ChunkPos.{ChunkPos}
 use Rattle.av_types.specs.declared.fault.Fault.{Fault}
 use Rattle.av_types.specs.declared.fault.Fault.TheVariants.{ChunkTooLarge}
 use Rattle.av_state.specs.BlockState.{BlockState}

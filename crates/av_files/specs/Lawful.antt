@@ -1,10 +1,10 @@
 -- Worlds that can be written.
 use Rattle.std.specs.Prelude.{◌≡◌, ℕ, ℤ, List, [], true, false, length, slice_get, Some}
 use Rattle.std.specs.List.{AllByRecursion}
-use Rattle.av_types.specs.Places.{is_section_of}
-use Rattle.av_types.specs.declared.place.ChunkPos.{ChunkPos}
-use Rattle.av_types.specs.declared.place.Height.{Height}
-use Rattle.av_types.specs.declared.place.Pos.{Pos}
+use Rattle.av_types.specs.Positions.{is_section_of}
+use Rattle.av_types.specs.declared.position.ChunkPos.{ChunkPos}
+use Rattle.av_types.specs.declared.position.Height.{Height}
+use Rattle.av_types.specs.declared.position.Pos.{Pos}
 use Rattle.av_state.specs.BlockState.{BlockState, air, is_storable}
 use Rattle.av_document.specs.Law.{IsLawful, HasInts}
 use Rattle.av_land.specs.Land.{Land, has_chunk, is_loaded}

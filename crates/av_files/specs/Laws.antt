@@ -1,10 +1,10 @@
 -- The laws of reading and writing whole files.
 use Rattle.std.specs.Prelude.{◌≡◌, ℕ, ◌<◌, ◌^◌, List, None, true}
 use Rattle.std.specs.List.{list_any}
-use Rattle.av_types.specs.Places.{region_of}
-use Rattle.av_types.specs.declared.place.ChunkPos.{ChunkPos}
+use Rattle.av_types.specs.Positions.{region_of}
+use Rattle.av_types.specs.declared.position.ChunkPos.{ChunkPos}
 use Rattle.av_document.specs.Law.{IsSameChunk}
-use Rattle.av_types.specs.declared.place.Height.{Height}
+use Rattle.av_types.specs.declared.position.Height.{Height}
 use Rattle.av_state.specs.BlockState.{BlockState}
 use Rattle.av_rules.specs.Rows.{BlockTable}
 use Rattle.av_land.specs.Land.{Land, has_chunk}
@@ -14,7 +14,7 @@ use Rattle.av_files.specs.Denotes.{Rest, Denotes}
 use Rattle.av_files.specs.Layout.{Lights, layout, too_large}
 use Rattle.av_files.specs.Lawful.{IsLawfulLand, AreLights}
 use Rattle.av_land.specs.Resumed.{shifted}
-use Rattle.av_types.specs.declared.place.RegionPos.{RegionPos}
+use Rattle.av_types.specs.declared.position.RegionPos.{RegionPos}
 
 abbrev pub StampsFit : Rest → Type 0
 StampsFit r = (region : RegionPos) (i : ℕ) → r.stamp region i < 2 ^ 32

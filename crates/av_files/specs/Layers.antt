@@ -1,8 +1,8 @@
 -- What the layers of a run answer, over what their values stand for.
 use Rattle.std.specs.Prelude.{◌≡◌, ℕ, ◌<◌, List, ◌++◌, length, map, Bool, true, false, None}
 use Rattle.std.specs.List.{AllByRecursion}
-use Rattle.av_types.specs.declared.place.Height.{Height}
-use Rattle.av_types.specs.declared.place.Pos.{Pos}
+use Rattle.av_types.specs.declared.position.Height.{Height}
+use Rattle.av_types.specs.declared.position.Pos.{Pos}
 use Rattle.av_state.specs.BlockState.{BlockState}
 use Rattle.av_state.specs.StateList.{IsStateList, first_states}
 use Rattle.av_land.specs.Land.{Land, is_loaded}

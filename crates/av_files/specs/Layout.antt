@@ -1,11 +1,11 @@
 -- The files that a world and a rest are written as.
 use Rattle.std.specs.Prelude.{ℕ, ℤ, List, [], ◌∷◌, Option, Some, None, Bool, if◌then◌else◌, map, option_map}
 use Rattle.std.specs.List.{range_with_len}
-use Rattle.av_types.specs.Places.{chunk_at}
+use Rattle.av_types.specs.Positions.{chunk_at}
 use Rattle.av_types.specs.Water.{is_source}
-use Rattle.av_types.specs.declared.place.Pos.{Pos}
-use Rattle.av_types.specs.declared.place.ChunkPos.{ChunkPos}
-use Rattle.av_types.specs.declared.place.RegionPos.{RegionPos}
+use Rattle.av_types.specs.declared.position.Pos.{Pos}
+use Rattle.av_types.specs.declared.position.ChunkPos.{ChunkPos}
+use Rattle.av_types.specs.declared.position.RegionPos.{RegionPos}
 use Rattle.av_nbt.specs.Writing.{written_document}
 use Rattle.av_region.specs.Layout.{region_bytes, first_too_large}
 use Rattle.av_state.specs.BlockState.{BlockState}
@@ -27,11 +27,11 @@ sources_of t w p = is_source (wet_in t (w.at p))
 abbrev pub chunk_bytes : (Pos → Bool) → Land BlockState → Rest → Lights → ℕ → ChunkPos → List ℕ
 chunk_bytes sources w r light n c = written_document (chunk_layout c w.height w.at (w.lists c) sources (r.chunk c) (light c) n)
 
--- what is written at a chunk's place
+-- what is written at a chunk's index
 abbrev pub payload_of : (Pos → Bool) → Land BlockState → Rest → Lights → ℕ → ChunkPos → Option (List ℕ)
 payload_of sources w r light n c = if has_chunk w.chunks c then Some (chunk_bytes sources w r light n c) else r.kept c
 
--- the places of a region
+-- the indices of a region
 abbrev pub indices : List ℕ
 indices = range_with_len 0 1024
 

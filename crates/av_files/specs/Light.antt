@@ -1,9 +1,9 @@
 -- The block light of a world: at each loaded block that of its brightest path.
 use Rattle.std.specs.Prelude.{◌≡◌, ℤ, length, true}
 use Rattle.av_types.specs.Division.{divided}
-use Rattle.av_types.specs.Places.{chunk_of, place_of, is_section_of}
-use Rattle.av_types.specs.declared.place.Pos.{Pos}
-use Rattle.av_types.specs.declared.place.ChunkPos.{ChunkPos}
+use Rattle.av_types.specs.Positions.{chunk_of, place_of, is_section_of}
+use Rattle.av_types.specs.declared.position.Pos.{Pos}
+use Rattle.av_types.specs.declared.position.ChunkPos.{ChunkPos}
 use Rattle.av_pack.specs.Nibbles.{nibble_at}
 use Rattle.av_state.specs.BlockState.{BlockState}
 use Rattle.av_rules.specs.Rows.{BlockTable, row_of}

@@ -1,6 +1,6 @@
 -- A run that is stopped, written, read and resumed.
 use Rattle.std.specs.Prelude.{◌≡◌, ℕ, ◌+◌, List}
-use Rattle.av_types.specs.declared.place.Height.{Height}
+use Rattle.av_types.specs.declared.position.Height.{Height}
 use Rattle.av_state.specs.BlockState.{BlockState}
 use Rattle.av_rules.specs.Rows.{BlockTable}
 use Rattle.av_land.specs.Land.{Land}

@@ -1,7 +1,7 @@
 -- The run over block states, by the numbers of any table that has them.
 use Rattle.std.specs.Prelude.{◌≡◌, ℕ, ◌+◌, ◌<◌, List, length, Option, Some, None, false, true, map, slice_get, slice_index_or}
 use Rattle.std.specs.List.{AllByRecursion}
-use Rattle.av_types.specs.declared.place.Pos.{Pos}
+use Rattle.av_types.specs.declared.position.Pos.{Pos}
 use Rattle.av_types.specs.declared.water.Wet.TheVariants.{Dry}
 use Rattle.av_cells.specs.declared.kind.Kind.{Kind}
 use Rattle.av_state.specs.BlockState.{BlockState, air}

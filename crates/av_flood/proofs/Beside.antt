@@ -3,15 +3,15 @@ use Rattle.std.proofs.Common.{IsTrue, ◌≡◌, ℕ, ℤ, pos, ◌+◌, ◌-◌
 use Rattle.std.proofs.lemmas.Int.{ints}
 use Rattle.std.proofs.lemmas.Bool.{cases_lt, and_parts}
 use Rattle.std.specs.Prelude.{int_le, int_lt}
-use Rattle.av_types.specs.declared.place.Pos.{Pos}
-use Rattle.av_types.specs.declared.place.ChunkPos.{ChunkPos}
-use Rattle.av_types.specs.declared.place.Height.{Height}
+use Rattle.av_types.specs.declared.position.Pos.{Pos}
+use Rattle.av_types.specs.declared.position.ChunkPos.{ChunkPos}
+use Rattle.av_types.specs.declared.position.Height.{Height}
 use Rattle.av_flood.specs.Offsets.{is_within, IsNth, IsBeyond, apart}
 use Rattle.av_flood.specs.Light.{below, above, north, south, west, east}
-use Rattle.av_flood.specs.Board.{corner, is_on, IsOff, IsPlace}
+use Rattle.av_flood.specs.Board.{corner, is_on, IsOff, IsOnBoard}
 use Rattle.av_flood.specs.Quiet.{IsBeside}
 use Rattle.av_flood.specs.Spots.{IsSpot}
-use Rattle.av_flood.proofs.Boards.{below_first, after_last, off_x, off_y, off_z, placed, IsStepped, stepped}
+use Rattle.av_flood.proofs.Boards.{below_first, after_last, off_x, off_y, off_z, on_board_at, IsStepped, stepped}
 
 within_low : (from x : ℤ) (size : ℕ) → is_within from size x ≡ true → from ≤ℤ x
 within_low from x size h = let l : int_le from x ≡ true = (and_parts (int_le from x) (int_lt x (from +ℤ pos size)) h).0 in grind (arith, ints)
@@ -68,12 +68,12 @@ apart_z i (inr e) = omega arith
 in_row : (j : ℕ) → j % 1936 % 44 ≡ j % 44
 in_row j = omega arith
 
-module _ (c : ChunkPos) (h : Height) (p : Pos) (i : ℕ) (place : IsPlace c h p i) where
+module _ (c : ChunkPos) (h : Height) (p : Pos) (i : ℕ) (on_board : IsOnBoard c h p i) where
   s : IsStepped c h p i
-  s = stepped c h p i place
+  s = stepped c h p i on_board
 
   here : (q : Pos) (x y z j : ℕ) → IsNth (corner c h).x 44 q.x x → IsNth (corner c h).z 44 q.z z → IsNth (corner c h).y (16 * h.sections) q.y y → j ≡ 44 * (44 * (y + 1) + z) + x → IsSpot c h record { pos = q; index = j }
-  here q x y z j a b d e = inl (subst (IsPlace c h q) (sym e) (placed c h q x y z a b d))
+  here q x y z j a b d e = inl (subst (IsOnBoard c h q) (sym e) (on_board_at c h q x y z a b d))
 
   off : (q : Pos) (j : ℕ) → IsOff c h q → j < 30976 * h.sections + 3872 → IsBeside (30976 * h.sections + 1936) j ⊎ (14 ≤ apart (j % 1936)) → IsSpot c h record { pos = q; index = j }
   off q j o l e = inr (record { off = o.off; less = l; edge = e })
@@ -82,21 +82,21 @@ module _ (c : ChunkPos) (h : Height) (p : Pos) (i : ℕ) (place : IsPlace c h p 
   below_is q j is e = subst (λ r. IsSpot c h record { pos = r; index = j }) (sym is) (on (cases_lt 0 s.y)) where
     on : (0 < s.y) ⊎ (s.y ≤ 0) → IsSpot c h record { pos = below p; index = j }
     on (inl l) = let f = s.is in here (below p) s.x (s.y - 1) s.z j s.nth_x s.nth_z (nth_before _ _ _ _ s.nth_y l) (omega arith)
-    on (inr l) = let f = s.is in let m = place.less in let a = s.nth_x.less in let b = s.nth_z.less in
+    on (inr l) = let f = s.is in let m = on_board.less in let a = s.nth_x.less in let b = s.nth_z.less in
         off (below p) j (off_y c h (below p) (before_first _ _ _ _ s.nth_y (omega arith))) (omega arith) (inl (inl (omega arith)))
 
   pub above_is : (q : Pos) (j : ℕ) → q ≡ above p → j ≡ i + 1936 → IsSpot c h record { pos = q; index = j }
   above_is q j is e = subst (λ r. IsSpot c h record { pos = r; index = j }) (sym is) (on (cases_lt (s.y + 1) (16 * h.sections))) where
     on : (s.y + 1 < 16 * h.sections) ⊎ (16 * h.sections ≤ s.y + 1) → IsSpot c h record { pos = above p; index = j }
     on (inl l) = let f = s.is in here (above p) s.x (s.y + 1) s.z j s.nth_x s.nth_z (nth_after _ _ _ _ s.nth_y l) (omega arith)
-    on (inr l) = let f = s.is in let m = place.less in let k = s.nth_y.less in
+    on (inr l) = let f = s.is in let m = on_board.less in let k = s.nth_y.less in
         off (above p) j (off_y c h (above p) (past_last _ _ _ _ s.nth_y (omega arith))) (omega arith) (inl (inr (omega arith)))
 
   pub north_is : (q : Pos) (j : ℕ) → q ≡ north p → j ≡ i - 44 → IsSpot c h record { pos = q; index = j }
   north_is q j is e = subst (λ r. IsSpot c h record { pos = r; index = j }) (sym is) (on (cases_lt 0 s.z)) where
     on : (0 < s.z) ⊎ (s.z ≤ 0) → IsSpot c h record { pos = north p; index = j }
     on (inl l) = let f = s.is in here (north p) s.x s.y (s.z - 1) j s.nth_x (nth_before _ _ _ _ s.nth_z l) s.nth_y (omega arith)
-    on (inr l) = let f = s.is in let m = place.less in let a = s.nth_x.less in
+    on (inr l) = let f = s.is in let m = on_board.less in let a = s.nth_x.less in
         let r : j % 1936 ≡ 1892 + s.x = omega arith in
         off (north p) j (off_z c h (north p) (before_first _ _ _ _ s.nth_z (omega arith))) (omega arith) (inr (apart_z j (inr (omega arith))))
 
@@ -104,7 +104,7 @@ module _ (c : ChunkPos) (h : Height) (p : Pos) (i : ℕ) (place : IsPlace c h p 
   south_is q j is e = subst (λ r. IsSpot c h record { pos = r; index = j }) (sym is) (on (cases_lt (s.z + 1) 44)) where
     on : (s.z + 1 < 44) ⊎ (44 ≤ s.z + 1) → IsSpot c h record { pos = south p; index = j }
     on (inl l) = let f = s.is in here (south p) s.x s.y (s.z + 1) j s.nth_x (nth_after _ _ _ _ s.nth_z l) s.nth_y (omega arith)
-    on (inr l) = let f = s.is in let m = place.less in let a = s.nth_x.less in let b = s.nth_z.less in
+    on (inr l) = let f = s.is in let m = on_board.less in let a = s.nth_x.less in let b = s.nth_z.less in
         let r : j % 1936 ≡ s.x = omega arith in
         off (south p) j (off_z c h (south p) (past_last _ _ _ _ s.nth_z (omega arith))) (omega arith) (inr (apart_z j (inl (omega arith))))
 
@@ -112,7 +112,7 @@ module _ (c : ChunkPos) (h : Height) (p : Pos) (i : ℕ) (place : IsPlace c h p 
   west_is q j is e = subst (λ r. IsSpot c h record { pos = r; index = j }) (sym is) (on (cases_lt 0 s.x)) where
     on : (0 < s.x) ⊎ (s.x ≤ 0) → IsSpot c h record { pos = west p; index = j }
     on (inl l) = let f = s.is in here (west p) (s.x - 1) s.y s.z j (nth_before _ _ _ _ s.nth_x l) s.nth_z s.nth_y (omega arith)
-    on (inr l) = let f = s.is in let m = place.less in
+    on (inr l) = let f = s.is in let m = on_board.less in
         let r : j % 44 ≡ 43 = omega arith in
         off (west p) j (off_x c h (west p) (before_first _ _ _ _ s.nth_x (omega arith))) (omega arith) (inr (apart_x j (inr (in_row j ∙ r))))
 
@@ -120,6 +120,6 @@ module _ (c : ChunkPos) (h : Height) (p : Pos) (i : ℕ) (place : IsPlace c h p 
   east_is q j is e = subst (λ r. IsSpot c h record { pos = r; index = j }) (sym is) (on (cases_lt (s.x + 1) 44)) where
     on : (s.x + 1 < 44) ⊎ (44 ≤ s.x + 1) → IsSpot c h record { pos = east p; index = j }
     on (inl l) = let f = s.is in here (east p) (s.x + 1) s.y s.z j (nth_after _ _ _ _ s.nth_x l) s.nth_z s.nth_y (omega arith)
-    on (inr l) = let f = s.is in let m = place.less in let a = s.nth_x.less in
+    on (inr l) = let f = s.is in let m = on_board.less in let a = s.nth_x.less in
         let r : j % 44 ≡ 0 = omega arith in
         off (east p) j (off_x c h (east p) (past_last _ _ _ _ s.nth_x (omega arith))) (omega arith) (inr (apart_x j (inl (in_row j ∙ r))))

@@ -5,14 +5,14 @@ use Rattle.std.specs.Prelude.{int_le, int_lt, nat_le}
 use Rattle.std.proofs.lemmas.List.{get_or-set_same, get_or-set_other}
 use Rattle.std.proofs.lemmas.Bool.{false≢true, and_parts, and_left, and_right, and_from}
 use Rattle.std.proofs.lemmas.Bool.Decides.{nat_tests}
-use Rattle.av_types.specs.declared.place.Pos.{Pos}
-use Rattle.av_types.specs.declared.place.ChunkPos.{ChunkPos}
-use Rattle.av_types.specs.declared.place.Height.{Height}
+use Rattle.av_types.specs.declared.position.Pos.{Pos}
+use Rattle.av_types.specs.declared.position.ChunkPos.{ChunkPos}
+use Rattle.av_types.specs.declared.position.Height.{Height}
 use Rattle.av_types.specs.Division.{divided}
-use Rattle.av_types.specs.Places.{chunk_of, same_pos}
-use Rattle.av_types.proofs.SamePlaces.{same_pos_is, same_pos-refl}
+use Rattle.av_types.specs.Positions.{chunk_of, same_pos}
+use Rattle.av_types.proofs.SamePositions.{same_pos_is, same_pos-refl}
 use Rattle.av_flood.specs.Offsets.{is_within, offset, IsNth, IsBeyond, away, apart}
-use Rattle.av_flood.specs.Board.{corner, is_on, index_of, IsOff, IsPlace, IsSettled}
+use Rattle.av_flood.specs.Board.{corner, is_on, index_of, IsOff, IsOnBoard, IsSettled}
 use Rattle.av_flood.specs.Blocks.{IsNear, IsFarFromEnds, MayBeLoaded, column_at}
 use Rattle.av_flood.specs.Flooding.{Matters, IsNearAlong}
 
@@ -78,8 +78,8 @@ module _ (c : ChunkPos) (h : Height) (p : Pos) where
   pub off_y : IsBeyond (corner c h).y (16 * h.sections) p.y → IsOff c h p
   off_y e = record { off = and_right (is_within (corner c h).x 44 p.x && is_within (corner c h).z 44 p.z) (is_within (corner c h).y (16 * h.sections) p.y) e.beyond }
 
-  pub placed : (x y z : ℕ) → IsNth (corner c h).x 44 p.x x → IsNth (corner c h).z 44 p.z z → IsNth (corner c h).y (16 * h.sections) p.y y → IsPlace c h p (44 * (44 * (y + 1) + z) + x)
-  placed x y z a b d =
+  pub on_board_at : (x y z : ℕ) → IsNth (corner c h).x 44 p.x x → IsNth (corner c h).z 44 p.z z → IsNth (corner c h).y (16 * h.sections) p.y y → IsOnBoard c h p (44 * (44 * (y + 1) + z) + x)
+  on_board_at x y z a b d =
       let k = corner c h in
       let i = offset_nth k.x p.x 44 x a in
       let j = offset_nth k.y p.y (16 * h.sections) y d in
@@ -91,19 +91,19 @@ module _ (c : ChunkPos) (h : Height) (p : Pos) where
       }
 
 -- a board with one place set
-pub light_set : (c : ChunkPos) (h : Height) (p : Pos) (xs : List ℕ) (n i : ℕ) → IsPlace c h p i → i < length xs → (q : Pos)
+pub light_set : (c : ChunkPos) (h : Height) (p : Pos) (xs : List ℕ) (n i : ℕ) → IsOnBoard c h p i → i < length xs → (q : Pos)
     → cond (is_on c h q) (get_or (set xs i n) (index_of c h q) 0) 0 ≡ cond (same_pos q p) n (cond (is_on c h q) (get_or xs (index_of c h q) 0) 0)
-light_set c h p xs n i place less q = cases (same_pos q p) refl (is_on c h q) refl where
+light_set c h p xs n i on_board less q = cases (same_pos q p) refl (is_on c h q) refl where
   cases : (b : Bool) → same_pos q p ≡ b → (d : Bool) → is_on c h q ≡ d
       → cond d (get_or (set xs i n) (index_of c h q) 0) 0 ≡ cond b n (cond d (get_or xs (index_of c h q) 0) 0)
-  cases true e true f = ap (λ j. get_or (set xs i n) j 0) (ap (index_of c h) (same_pos_is q p e) ∙ sym place.is) ∙ get_or-set_same xs i n 0 less
-  cases true e false f = absurd (false≢true (sym f ∙ ap (is_on c h) (same_pos_is q p e) ∙ place.on))
-  cases false e true f = get_or-set_other xs i (index_of c h q) n 0 (λ j. false≢true (sym e ∙ ap (same_pos q) (same_index c h p q place.on f (sym place.is ∙ sym j)) ∙ same_pos-refl q))
+  cases true e true f = ap (λ j. get_or (set xs i n) j 0) (ap (index_of c h) (same_pos_is q p e) ∙ sym on_board.is) ∙ get_or-set_same xs i n 0 less
+  cases true e false f = absurd (false≢true (sym f ∙ ap (is_on c h) (same_pos_is q p e) ∙ on_board.on))
+  cases false e true f = get_or-set_other xs i (index_of c h q) n 0 (λ j. false≢true (sym e ∙ ap (same_pos q) (same_index c h p q on_board.on f (sym on_board.is ∙ sym j)) ∙ same_pos-refl q))
   cases false e false f = refl
 
 -- a block of the board stands where it is said to
-pub place_of : (c : ChunkPos) (h : Height) (p : Pos) → is_on c h p ≡ true → IsPlace c h p (index_of c h p)
-place_of c h p on =
+pub on_board_of : (c : ChunkPos) (h : Height) (p : Pos) → is_on c h p ≡ true → IsOnBoard c h p (index_of c h p)
+on_board_of c h p on =
     let k = corner c h in
     let xz = (and_parts (is_within k.x 44 p.x && is_within k.z 44 p.z) (is_within k.y (16 * h.sections) p.y) on).0 in
     let x = offset_below k.x p.x 44 (and_parts (is_within k.x 44 p.x) (is_within k.z 44 p.z) xz).0 in
@@ -111,8 +111,8 @@ place_of c h p on =
     let y = offset_below k.y p.y (16 * h.sections) (and_parts (is_within k.x 44 p.x && is_within k.z 44 p.z) (is_within k.y (16 * h.sections) p.y) on).1 in
     record { on = on; is = refl; less = omega arith }
 
-pub raw_at : (c : ChunkPos) (h : Height) (p : Pos) (xs : List ℕ) (i : ℕ) → IsPlace c h p i → get_or xs i 0 ≡ cond (is_on c h p) (get_or xs (index_of c h p) 0) 0
-raw_at c h p xs i place = ap (λ j. get_or xs j 0) place.is ∙ ap (λ b. cond b (get_or xs (index_of c h p) 0) 0) (sym place.on)
+pub raw_at : (c : ChunkPos) (h : Height) (p : Pos) (xs : List ℕ) (i : ℕ) → IsOnBoard c h p i → get_or xs i 0 ≡ cond (is_on c h p) (get_or xs (index_of c h p) 0) 0
+raw_at c h p xs i on_board = ap (λ j. get_or xs j 0) on_board.is ∙ ap (λ b. cond b (get_or xs (index_of c h p) 0) 0) (sym on_board.on)
 
 -- so many steps from the ends
 pub record IsStepped (c : ChunkPos) (h : Height) (p : Pos) (i : ℕ) : Type 0 where
@@ -124,13 +124,13 @@ pub record IsStepped (c : ChunkPos) (h : Height) (p : Pos) (i : ℕ) : Type 0 wh
   pub nth_y : IsNth (corner c h).y (16 * h.sections) p.y y
   pub is : i ≡ 44 * (44 * (y + 1) + z) + x
 
-pub stepped : (c : ChunkPos) (h : Height) (p : Pos) (i : ℕ) → IsPlace c h p i → IsStepped c h p i
-stepped c h p i place =
+pub stepped : (c : ChunkPos) (h : Height) (p : Pos) (i : ℕ) → IsOnBoard c h p i → IsStepped c h p i
+stepped c h p i on_board =
     let k = corner c h in
-    let xz = (and_parts (is_within k.x 44 p.x && is_within k.z 44 p.z) (is_within k.y (16 * h.sections) p.y) place.on).0 in
+    let xz = (and_parts (is_within k.x 44 p.x && is_within k.z 44 p.z) (is_within k.y (16 * h.sections) p.y) on_board.on).0 in
     let x = (and_parts (is_within k.x 44 p.x) (is_within k.z 44 p.z) xz).0 in
     let z = (and_parts (is_within k.x 44 p.x) (is_within k.z 44 p.z) xz).1 in
-    let y = (and_parts (is_within k.x 44 p.x && is_within k.z 44 p.z) (is_within k.y (16 * h.sections) p.y) place.on).1 in
+    let y = (and_parts (is_within k.x 44 p.x && is_within k.z 44 p.z) (is_within k.y (16 * h.sections) p.y) on_board.on).1 in
     record {
       x = offset (p.x -ℤ k.x);
       z = offset (p.z -ℤ k.z);
@@ -138,7 +138,7 @@ stepped c h p i place =
       nth_x = record { less = offset_below k.x p.x 44 x; is = offset_back k.x p.x 44 x };
       nth_z = record { less = offset_below k.z p.z 44 z; is = offset_back k.z p.z 44 z };
       nth_y = record { less = offset_below k.y p.y (16 * h.sections) y; is = offset_back k.y p.y (16 * h.sections) y };
-      is = place.is;
+      is = on_board.is;
     }
 
 -- what of a byte is light, and whether there is any
@@ -284,9 +284,9 @@ near_away from x n h = let l = h.less in let e = h.is in record { low = omega (a
 away_least : (from x : ℤ) (n k : ℕ) → IsNth (from -ℤ pos 14) 44 x n → IsNearAlong from k x → away n ≤ k
 away_least from x n k h a = let l = h.less in let e = h.is in let f = a.low in let g = a.high in omega (arith, ints)
 
-pub matters_above : (c : ChunkPos) (h : Height) (p : Pos) (i v : ℕ) → IsPlace c h p i → apart (i % 1936) < v → Matters c v p
-matters_above c h p i v place less =
-    let s = stepped c h p i place in
+pub matters_above : (c : ChunkPos) (h : Height) (p : Pos) (i v : ℕ) → IsOnBoard c h p i → apart (i % 1936) < v → Matters c v p
+matters_above c h p i v on_board less =
+    let s = stepped c h p i on_board in
     record {
       over_x = away s.x;
       over_z = away s.z;
@@ -295,9 +295,9 @@ matters_above c h p i v place less =
       along_z = near_away _ _ _ s.nth_z;
     }
 
-pub matters_only : (c : ChunkPos) (h : Height) (p : Pos) (i v : ℕ) → IsPlace c h p i → Matters c v p → apart (i % 1936) < v
-matters_only c h p i v place m =
-    let s = stepped c h p i place in
+pub matters_only : (c : ChunkPos) (h : Height) (p : Pos) (i v : ℕ) → IsOnBoard c h p i → Matters c v p → apart (i % 1936) < v
+matters_only c h p i v on_board m =
+    let s = stepped c h p i on_board in
     let e = apart_is s.x s.z s.y i s.nth_x.less s.nth_z.less s.is in
     let a = away_least _ _ _ _ s.nth_x m.along_x in
     let b = away_least _ _ _ _ s.nth_z m.along_z in

@@ -1,11 +1,11 @@
 -- Steps of a flood.
 use Rattle.std.proofs.Common.{◌≡◌, ℕ, ◌+◌, ◌-◌, ◌<◌, ◌≤◌, ◌⊎◌, Bool, true, false, cond, inl, inr, ⊎_elim, suc, zero, IsTrue, List, [], ◌∷◌, length, get_or, eqb, ◌≢◌, refl, sym, ap, ◌∙◌, subst, arith}
 use Rattle.std.specs.Prelude.{Contains}
-use Rattle.av_types.specs.declared.place.Pos.{Pos}
-use Rattle.av_types.specs.declared.place.ChunkPos.{ChunkPos}
-use Rattle.av_types.specs.declared.place.Height.{Height}
-use Rattle.av_types.specs.Places.{same_pos}
-use Rattle.av_types.proofs.SamePlaces.{same_pos_is, same_pos-refl}
+use Rattle.av_types.specs.declared.position.Pos.{Pos}
+use Rattle.av_types.specs.declared.position.ChunkPos.{ChunkPos}
+use Rattle.av_types.specs.declared.position.Height.{Height}
+use Rattle.av_types.specs.Positions.{same_pos}
+use Rattle.av_types.proofs.SamePositions.{same_pos_is, same_pos-refl}
 use Rattle.av_flood.specs.Light.{Terrain, sides, below, above, north, south, west, east, IsAdjacent, cost, HasLight, IsLight}
 use Rattle.av_flood.specs.declared.board.Flood.{Flood}
 use Rattle.av_flood.specs.Board.{is_on, light_of, raw_of, IsSettled}

@@ -8,12 +8,12 @@ use Rattle.std.proofs.lemmas.List.{get_or-take, get_or-drop, length-append, leng
 use Rattle.std.proofs.lemmas.List.Elements.{All-take, All-drop}
 use Rattle.std.proofs.lemmas.List.Sums.{sum_by-cons}
 use Rattle.std.proofs.Math.Seq.{get_or-append_right}
-use Rattle.av_types.specs.declared.place.ChunkPos.{ChunkPos}
-use Rattle.av_types.specs.declared.place.Height.{Height}
+use Rattle.av_types.specs.declared.position.ChunkPos.{ChunkPos}
+use Rattle.av_types.specs.declared.position.Height.{Height}
 use Rattle.av_pack.specs.Nibbles.{nibble_at}
 use Rattle.av_flood.specs.Offsets.{IsNth}
-use Rattle.av_flood.specs.Board.{corner, is_on, index_of, own_block, IsPlace, HasLightSoFar}
-use Rattle.av_flood.proofs.Boards.{placed, lit_raw}
+use Rattle.av_flood.specs.Board.{corner, is_on, index_of, own_block, IsOnBoard, HasLightSoFar}
+use Rattle.av_flood.proofs.Boards.{on_board_at, lit_raw}
 
 low_half : (bytes : List ℕ) (k : ℕ) → nibble_at bytes (2 * k) ≡ get_or bytes k 0 % 16
 unfolding nibble_at
@@ -124,11 +124,11 @@ parts_z y z x l m = let e : (256 * y + 16 * z + x) / 16 ≡ 16 * y + z = omega a
 nth : (from : ℤ) (size n : ℕ) (x : ℤ) → n < size → x ≡ from +ℤ pos n → IsNth from size x n
 nth from size n x l e = record { less = l; is = e }
 
-pub own_place : (c : ChunkPos) (h : Height) (y z x : ℕ) → y < 16 * h.sections → z < 16 → x < 16 → IsPlace c h (own_block c h (256 * y + 16 * z + x)) (44 * (44 * (y + 1) + (z + 14)) + (x + 14))
-own_place c h y z x yl zl xl =
+pub own_on_board : (c : ChunkPos) (h : Height) (y z x : ℕ) → y < 16 * h.sections → z < 16 → x < 16 → IsOnBoard c h (own_block c h (256 * y + 16 * z + x)) (44 * (44 * (y + 1) + (z + 14)) + (x + 14))
+own_on_board c h y z x yl zl xl =
     let p = own_block c h (256 * y + 16 * z + x) in
     let ex = parts_x y z x zl xl in let ey = parts_y y z x zl xl in let ez = parts_z y z x zl xl in
-    placed c h p (x + 14) y (z + 14)
+    on_board_at c h p (x + 14) y (z + 14)
     (nth (corner c h).x 44 (x + 14) p.x (omega arith) (ap (λ n. pos 16 *ℤ c.x +ℤ pos n) ex ∙ omega (arith, ints)))
     (nth (corner c h).z 44 (z + 14) p.z (omega arith) (ap (λ n. pos 16 *ℤ c.z +ℤ pos n) ez ∙ omega (arith, ints)))
     (nth (corner c h).y (16 * h.sections) y p.y yl (ap (λ n. pos 16 *ℤ h.min_section +ℤ pos n) ey))
@@ -137,9 +137,9 @@ pub own_row : (c : ChunkPos) (h : Height) (xs : List ℕ) (y z : ℕ) → y < 16
     → (let raw = cond (is_on c h (own_block c h (256 * y + 16 * z + x))) (get_or xs (index_of c h (own_block c h (256 * y + 16 * z + x))) 0) 0 in
     get_or (slice_range xs start (start + 16)) x 0 - 128 ≡ cond (nat_le 128 raw) raw 0 - 128)
 own_row c h xs y z yl zl start is x xl =
-    let place = own_place c h y z x yl zl xl in
+    let on_board = own_on_board c h y z x yl zl xl in
     let i : start + x ≡ 44 * (44 * (y + 1) + (z + 14)) + (x + 14) = omega arith in
-    ap (λ n. n - 128) (in_range ∙ ap (λ j. get_or xs j 0) (i ∙ place.is) ∙ ap (λ b. cond b (get_or xs (index_of c h (own_block c h (256 * y + 16 * z + x))) 0) 0) (sym place.on)) ∙ sym (lit_raw _)
+    ap (λ n. n - 128) (in_range ∙ ap (λ j. get_or xs j 0) (i ∙ on_board.is) ∙ ap (λ b. cond b (get_or xs (index_of c h (own_block c h (256 * y + 16 * z + x))) 0) 0) (sym on_board.on)) ∙ sym (lit_raw _)
   where
     in_range : get_or (slice_range xs start (start + 16)) x 0 ≡ get_or xs (start + x) 0
     in_range = get_or-take (start + 16 - start) (drop start xs) x 0 (omega arith) ∙ get_or-drop start xs x 0

@@ -1,8 +1,8 @@
 -- Marks of a flood: blocks that were noted, seen or settled.
 use Rattle.std.proofs.Common.{◌≡◌, ℕ, ◌+◌, ◌-◌, ◌<◌, ◌≤◌, ⊎_elim, IsTrue, ap, sym, subst, arith}
 use Rattle.std.specs.Prelude.{Contains}
-use Rattle.av_types.specs.declared.place.Pos.{Pos}
-use Rattle.av_types.specs.declared.place.ChunkPos.{ChunkPos}
+use Rattle.av_types.specs.declared.position.Pos.{Pos}
+use Rattle.av_types.specs.declared.position.ChunkPos.{ChunkPos}
 use Rattle.av_flood.specs.Light.{Terrain, cost}
 use Rattle.av_flood.specs.Board.{IsSettled}
 use Rattle.av_flood.specs.Flooding.{IsMarked, IsNoted, IsPopped, IsPushed, Levels, Matters, Waits}

@@ -1,8 +1,8 @@
 -- Paths of light, and where light matters.
 use Rattle.std.proofs.Common.{◌≡◌, ℕ, ◌+◌, ◌-◌, ◌<◌, ◌≤◌, ◌⊎◌, inl, inr, suc, zero, IsTrue, pos, ◌+ℤ◌, ◌-ℤ◌, ◌≤ℤ◌, ℤ, List, [], ◌∷◌, ◌++◌, get_or, refl, sym, ap, subst, arith}
 use Rattle.std.proofs.lemmas.Int.{ints}
-use Rattle.av_types.specs.declared.place.Pos.{Pos}
-use Rattle.av_types.specs.declared.place.ChunkPos.{ChunkPos}
+use Rattle.av_types.specs.declared.position.Pos.{Pos}
+use Rattle.av_types.specs.declared.position.ChunkPos.{ChunkPos}
 use Rattle.av_flood.specs.Light.{Terrain, IsAdjacent, sides, cost, costs, IsLightPath, last_of, light_along, HasLight, IsLight}
 use Rattle.av_flood.specs.Flooding.{Matters, IsNearAlong}
 

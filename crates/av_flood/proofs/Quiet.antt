@@ -7,16 +7,16 @@ use Rattle.std.proofs.lemmas.Bool.Decides.{eqb_tells, nat_tests}
 use Rattle.std.proofs.lemmas.List.{get_or-set_same, get_or-set_other, get_or_default, get_or-append_right, get_or_append_left, get_or-take, get_or-drop, length-take-le, length-append, length-drop, take_at, take_all, get_or_past}
 use Rattle.std.proofs.lemmas.List.Sums.{sum_by-cons, sum_by-set}
 use Rattle.std.proofs.lemmas.List.Elements.{All-from_get_or}
-use Rattle.av_types.specs.declared.place.Pos.{Pos}
-use Rattle.av_types.specs.declared.place.ChunkPos.{ChunkPos}
-use Rattle.av_types.specs.declared.place.Height.{Height}
+use Rattle.av_types.specs.declared.position.Pos.{Pos}
+use Rattle.av_types.specs.declared.position.ChunkPos.{ChunkPos}
+use Rattle.av_types.specs.declared.position.Height.{Height}
 use Rattle.av_flood.specs.Offsets.{apart}
 use Rattle.av_flood.specs.Board.{is_on, index_of, own_block}
 use Rattle.av_flood.specs.Flooding.{Matters}
 use Rattle.av_flood.specs.Quiet.{IsQuiet, IsBeside, IsFenced, AreDark}
 use Rattle.av_flood.specs.Spots.{IsEnd}
-use Rattle.av_flood.proofs.Boards.{place_of, matters_only, apart_most, lit_raw}
-use Rattle.av_flood.proofs.Halves.{own_place}
+use Rattle.av_flood.proofs.Boards.{on_board_of, matters_only, apart_most, lit_raw}
+use Rattle.av_flood.proofs.Halves.{own_on_board}
 
 -- one byte set, and its layer noted
 pub IsQuiet-set : (touched : List Bool) (light : List ℕ) (i v : ℕ) → 1936 ≤ i → (i - 1936) / 1936 < length touched → IsQuiet touched light → IsQuiet (set touched ((i - 1936) / 1936) true) (set light i v)
@@ -270,11 +270,11 @@ module _ (touched : List Bool) (light : List ℕ) (n m : ℕ) (quiet : IsQuiet t
   all_fresh c h size p = on (is_on c h p) refl where
     on : (b : Bool) → is_on c h p ≡ b → (cond b (get_or light (index_of c h p) 0) 0 < 128) × ((v : ℕ) → v ≤ cond b (get_or light (index_of c h p) 0) 0 → Matters c v p → ⊥)
     on true e =
-        let place = place_of c h p e in
+        let on_board = on_board_of c h p e in
         let low : 1936 ≤ index_of c h p = omega arith in
-        let high = place.less in
+        let high = on_board.less in
         let is : get_or light (index_of c h p) 0 ≡ apart (index_of c h p % 1936) = dark_within (index_of c h p) low (omega arith) in
-        (all_low (index_of c h p), λ v l m. let less = matters_only c h p (index_of c h p) v place m in omega (arith, is, less))
+        (all_low (index_of c h p), λ v l m. let less = matters_only c h p (index_of c h p) v on_board m in omega (arith, is, less))
     on false e = (omega arith, λ v l m. let less = m.less in omega arith)
 
 -- the chunk's blocks of a quiet layer are dark
@@ -294,13 +294,13 @@ dark_layer c h touched light y quiet within untouched j low high =
     let z = j / 16 % 16 in let x = j % 16 in
     let zl : z < 16 = omega arith in let xl : x < 16 = omega arith in
     let here : j / 256 ≡ y = omega arith in
-    let place = own_place c h y z x within zl xl in
+    let on_board = own_on_board c h y z x within zl xl in
     let p = own_block c h (256 * y + 16 * z + x) in
     let i = 44 * (44 * (y + 1) + (z + 14)) + (x + 14) in
     let k = i - 1936 in
     let e : 1936 + k ≡ i = omega arith in
     let none : get_or light (index_of c h p) 0 ≡ apart (k % 1936)
-    = ap (λ n. get_or light n 0) (sym place.is ∙ sym e) ∙ quiet.quiet k (ap (λ n. get_or touched n true) (in_layer y z x zl xl) ∙ untouched) in
+    = ap (λ n. get_or light n 0) (sym on_board.is ∙ sym e) ∙ quiet.quiet k (ap (λ n. get_or touched n true) (in_layer y z x zl xl) ∙ untouched) in
     let most = apart_most k in
     let dark : cond (is_on c h p) (get_or light (index_of c h p) 0) 0 - 128 ≡ 0 = low_cond (is_on c h p) (get_or light (index_of c h p) 0) (omega (arith, none, most)) in
     lit_raw _ ∙ subst (λ n. cond (is_on c h (own_block c h n)) (get_or light (index_of c h (own_block c h n)) 0) 0 - 128 ≡ 0) (ap (λ n. 256 * n + 16 * z + x) (sym here) ∙ whole j) dark

@@ -1,9 +1,9 @@
 -- Where loaded blocks can lie. A region from -60,000 to 60,000 has the blocks from -30,720,000 to 30,720,511.
 use Rattle.std.specs.Prelude.{ℕ, ◌≡◌, ◌<◌, ◌%◌, ◌/◌, ◌-ℤ◌, pos, negsuc, ◌≤ℤ◌, ◌<ℤ◌, ◌+ℤ◌, ◌*ℤ◌, ◌*◌, List, IsTrue, Contains}
-use Rattle.av_types.specs.Places.{chunk_of}
-use Rattle.av_types.specs.declared.place.Pos.{Pos}
-use Rattle.av_types.specs.declared.place.ChunkPos.{ChunkPos}
-use Rattle.av_types.specs.declared.place.Height.{Height}
+use Rattle.av_types.specs.Positions.{chunk_of}
+use Rattle.av_types.specs.declared.position.Pos.{Pos}
+use Rattle.av_types.specs.declared.position.ChunkPos.{ChunkPos}
+use Rattle.av_types.specs.declared.position.Height.{Height}
 use Rattle.av_flood.specs.Light.{Terrain}
 
 -- in the height, and in a region within the limits

@@ -1,10 +1,10 @@
 -- The board of a flood: a chunk and 14 blocks on each horizontal side, over the whole height.
 use Rattle.std.specs.Prelude.{◌-◌, ◌/◌, ◌%◌, ◌≡◌, ◌<◌, List, length, true, false, ℕ, ◌+◌, ◌*◌, pos, ◌+ℤ◌, ◌-ℤ◌, ◌*ℤ◌, Bool, ◌&&◌, if◌then◌else◌, slice_index, nat_le}
-use Rattle.av_types.specs.Places.{same_pos}
-use Rattle.av_types.specs.declared.place.Pos.{Pos}
+use Rattle.av_types.specs.Positions.{same_pos}
+use Rattle.av_types.specs.declared.position.Pos.{Pos}
 use Rattle.av_pack.specs.Nibbles.{nibble_at}
-use Rattle.av_types.specs.declared.place.ChunkPos.{ChunkPos}
-use Rattle.av_types.specs.declared.place.Height.{Height}
+use Rattle.av_types.specs.declared.position.ChunkPos.{ChunkPos}
+use Rattle.av_types.specs.declared.position.Height.{Height}
 use Rattle.av_flood.specs.Offsets.{is_within, offset}
 use Rattle.av_flood.specs.declared.board.Flood.{Flood}
 
@@ -25,7 +25,7 @@ pub record IsOff (c : ChunkPos) (h : Height) (p : Pos) : Type 0 where
   pub off : is_on c h p ≡ false
 
 -- its light stands there
-pub record IsPlace (c : ChunkPos) (h : Height) (p : Pos) (i : ℕ) : Type 0 where
+pub record IsOnBoard (c : ChunkPos) (h : Height) (p : Pos) (i : ℕ) : Type 0 where
   pub on : is_on c h p ≡ true
   pub is : i ≡ index_of c h p
   pub less : i < 30976 * h.sections + 1936

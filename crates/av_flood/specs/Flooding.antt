@@ -3,9 +3,9 @@ use Rattle.std.specs.Prelude.{ℤ, ◌≡◌, ℕ, ◌+◌, ◌≤◌, ◌<◌, 
 use Rattle.av_flood.specs.declared.buckets.Buckets.{Buckets}
 use Rattle.av_flood.specs.declared.board.Flood.{Flood}
 use Rattle.av_flood.specs.Board.{light_of, raw_of}
-use Rattle.av_types.specs.declared.place.Pos.{Pos}
-use Rattle.av_types.specs.declared.place.ChunkPos.{ChunkPos}
-use Rattle.av_types.specs.declared.place.Height.{Height}
+use Rattle.av_types.specs.declared.position.Pos.{Pos}
+use Rattle.av_types.specs.declared.position.ChunkPos.{ChunkPos}
+use Rattle.av_types.specs.declared.position.Height.{Height}
 use Rattle.av_flood.specs.Light.{Terrain, IsAdjacent, cost, HasLight}
 
 -- a coordinate is at most n from the chunk's sixteen

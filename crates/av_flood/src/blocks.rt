@@ -7,9 +7,9 @@ use av_types::{ChunkPos, Height, Pos};
 
 /// Blocks as light sees them. Each is loaded or not, and gives and takes light.
 pub trait Blocks {
-    ghost use Rattle.av_types.specs.declared.place.Pos.{Pos};
-    ghost use Rattle.av_types.specs.declared.place.ChunkPos.{ChunkPos};
-    ghost use Rattle.av_types.specs.declared.place.Height.{Height};
+    ghost use Rattle.av_types.specs.declared.position.Pos.{Pos};
+    ghost use Rattle.av_types.specs.declared.position.ChunkPos.{ChunkPos};
+    ghost use Rattle.av_types.specs.declared.position.Height.{Height};
 
     ghost terrain: { Self → Terrain };
 

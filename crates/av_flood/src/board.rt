@@ -1,7 +1,7 @@
 //! The board of a flood: blocks with their light.
 ghost use Rattle.std.specs.Prelude.{◌≡◌, ◌≤◌, ◌<◌, ◌+◌, ◌*◌, ℕ, pos, IsTrue, MatchOption, IfOk, vec_len, true, false, count_by, nat_le, if◌then◌else◌, All, length, slice_index, ◌-◌, ◌/◌, ◌%◌, OnOk, slice_range};
 ghost use Rattle.std.proofs.Props.{props};
-ghost use Rattle.av_types.specs.declared.place.Pos.{Pos};
+ghost use Rattle.av_types.specs.declared.position.Pos.{Pos};
 ghost use Rattle.av_flood.specs.Offsets.{IsNth, IsBeyond};
 ghost use Rattle.av_flood.specs.Quiet.{IsQuiet, IsFenced};
 
@@ -38,9 +38,9 @@ pub struct Flood {
 
 impl Flood {
     ghost use Rattle.av_flood.specs.Offsets.{apart};
-    ghost use Rattle.av_flood.specs.Board.{corner, is_on, raw_of, byte_of, light_of, is_settled, settled_count, light_at, HasLightSoFar, IsOff, IsPlace, IsSettled};
+    ghost use Rattle.av_flood.specs.Board.{corner, is_on, raw_of, byte_of, light_of, is_settled, settled_count, light_at, HasLightSoFar, IsOff, IsOnBoard, IsSettled};
     ghost use Rattle.av_flood.specs.Spots.{IsSpot};
-    ghost use Rattle.av_types.specs.Places.{same_pos};
+    ghost use Rattle.av_types.specs.Positions.{same_pos};
     ghost use Rattle.av_flood.specs.Flooding.{IsFresh};
 
     /// A board on which no block has light yet.
@@ -165,7 +165,7 @@ impl Flood {
     /// Where a block's byte stands, if it is one of the board.
     pub(crate) fn index(&self, pos: Pos) -> Option<usize>
         ensures { MatchOption result (IsOff self.now.chunk self.now.height pos)
-            (IsPlace self.now.chunk self.now.height pos) }
+            (IsOnBoard self.now.chunk self.now.height pos) }
     {
         let x = self.along_x(pos)?;
         let z = self.along_z(pos)?;
@@ -194,10 +194,10 @@ impl Flood {
     #[inline(always)]
     pub(crate) fn byte(&self, spot: Spot) -> u8
         requires { IsSpot self.now.chunk self.now.height spot }
-        ensures place { IsPlace self.now.chunk self.now.height spot.pos spot.index
+        ensures on_board { IsOnBoard self.now.chunk self.now.height spot.pos spot.index
             → result ≡ raw_of self.now spot.pos }
         ensures far { apart (spot.index % 1936) ≤ result }
-        ensures least { result < 14 → IsPlace self.now.chunk self.now.height spot.pos spot.index }
+        ensures least { result < 14 → IsOnBoard self.now.chunk self.now.height spot.pos spot.index }
     {
         self.light[spot.index]
     }
@@ -221,7 +221,7 @@ impl Flood {
     /// Notes that no light of so much or less is of use to a block.
     #[inline(always)]
     pub(crate) fn mark(&mut self, spot: Spot, byte: u8)
-        requires place { IsPlace self.old.chunk self.old.height spot.pos spot.index }
+        requires on_board { IsOnBoard self.old.chunk self.old.height spot.pos spot.index }
         requires unsettled { raw_of self.old spot.pos < 128 }
         requires small { byte < 128 }
         requires far { apart (spot.index % 1936) ≤ byte }
@@ -236,7 +236,7 @@ impl Flood {
     /// Gives a block of the board its light, once.
     #[inline(always)]
     pub(crate) fn settle_at(&mut self, spot: Spot, level: u8)
-        requires place { IsPlace self.old.chunk self.old.height spot.pos spot.index }
+        requires on_board { IsOnBoard self.old.chunk self.old.height spot.pos spot.index }
         requires unsettled { raw_of self.old spot.pos < 128 }
         requires level { level ≤ 15 }
         ensures bytes { IsSettled (raw_of self.old) (raw_of self.new) spot.pos (128 + level) }

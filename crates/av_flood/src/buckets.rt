@@ -1,6 +1,6 @@
 //! Blocks that wait for light, by its level.
 ghost use Rattle.std.specs.Prelude.{◌≡◌, ◌<◌, ℕ, vec_len, OnOk, MatchOption, IfOk, []};
-ghost use Rattle.av_types.specs.declared.place.Pos.{Pos};
+ghost use Rattle.av_types.specs.declared.position.Pos.{Pos};
 
 use av_types::Pos;
 use std::alloc::{AllocError, Global};

@@ -1,6 +1,6 @@
 //! The blocks from which a flood starts: those that emit light that may come to the chunk.
 ghost use Rattle.std.specs.Prelude.{◌≡◌, ◌≤◌, ◌<◌, ℕ, pos, negsuc, ◌+ℤ◌, ◌-ℤ◌, ◌≤ℤ◌, OnOk, [], Contains};
-ghost use Rattle.av_types.specs.declared.place.Pos.{Pos};
+ghost use Rattle.av_types.specs.declared.position.Pos.{Pos};
 ghost use Rattle.av_flood.specs.Blocks.{MayBeLoaded, AreKnown, column_at};
 ghost use Rattle.av_flood.specs.Board.{raw_of};
 ghost use Rattle.av_flood.specs.Flooding.{todo_of, IsFresh, IsDark, IsNoted, IsGrown, IsStarted, WaitsIfEmitting};

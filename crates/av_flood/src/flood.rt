@@ -1,9 +1,9 @@
 //! A flood of light, from the brightest level down.
 ghost use Rattle.std.specs.Prelude.{◌≡◌, ◌≤◌, ◌<◌, ◌-◌, ℕ, [], OnOk, IfOk};
-ghost use Rattle.av_types.specs.Places.{chunk_of};
-ghost use Rattle.av_types.specs.declared.place.Pos.{Pos};
+ghost use Rattle.av_types.specs.Positions.{chunk_of};
+ghost use Rattle.av_types.specs.declared.position.Pos.{Pos};
 ghost use Rattle.av_flood.specs.Light.{IsAdjacent, HasLight, IsLight};
-ghost use Rattle.av_flood.specs.Board.{light_of, raw_of, IsPlace};
+ghost use Rattle.av_flood.specs.Board.{light_of, raw_of, IsOnBoard};
 ghost use Rattle.av_flood.specs.Spots.{IsSpot};
 ghost use Rattle.av_flood.specs.Blocks.{IsFarFromEnds, MayBeLoaded, AreKnown};
 ghost use Rattle.av_flood.specs.Flooding.{todo_of, Matters, IsFresh, IsMarked, IsGrown, IsBrought, IsOffered, IsFlooding, CanOffer, HasOffered};
@@ -123,7 +123,7 @@ fn spread<B: Blocks>(
     requires can { CanOffer (B.terrain blocks.now) (B.tall blocks.now) level flood.old
         (todo_of buckets.old) spot.pos }
     requires inner { IsFarFromEnds spot.pos }
-    requires place { IsPlace flood.old.chunk flood.old.height spot.pos spot.index }
+    requires on_board { IsOnBoard flood.old.chunk flood.old.height spot.pos spot.index }
     ensures chunk { flood.new.chunk ≡ flood.old.chunk }
     ensures height { flood.new.height ≡ flood.old.height }
     ensures came { OnOk result (HasOffered (B.terrain blocks.now) level flood.old flood.new

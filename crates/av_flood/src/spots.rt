@@ -66,7 +66,7 @@ fn up(section: i32, size: u32, coordinate: i32) -> u32
 
 impl Flood {
     ghost use Rattle.av_flood.specs.Light.{below, above, north, south, west, east};
-    ghost use Rattle.av_flood.specs.Board.{is_on, IsPlace};
+    ghost use Rattle.av_flood.specs.Board.{is_on, IsOnBoard};
     ghost use Rattle.av_flood.specs.Blocks.{IsFarFromEnds};
     ghost use Rattle.av_flood.specs.Spots.{IsSpot, AreSteps};
 
@@ -87,7 +87,7 @@ impl Flood {
     pub(crate) fn spot(&self, pos: Pos) -> Spot
         requires { IsTrue (is_on self.now.chunk self.now.height pos) }
         ensures pos { result.pos ≡ pos }
-        ensures place { IsPlace self.now.chunk self.now.height pos result.index }
+        ensures on_board { IsOnBoard self.now.chunk self.now.height pos result.index }
     {
         Spot {
             pos,
@@ -99,7 +99,7 @@ impl Flood {
     #[inline(always)]
     pub(crate) fn spot_below(&self, spot: Spot) -> Spot
         requires inner { IsFarFromEnds spot.pos }
-        requires place { IsPlace self.now.chunk self.now.height spot.pos spot.index }
+        requires on_board { IsOnBoard self.now.chunk self.now.height spot.pos spot.index }
         ensures pos { result.pos ≡ below spot.pos }
         ensures spot { IsSpot self.now.chunk self.now.height result }
     {
@@ -113,7 +113,7 @@ impl Flood {
     #[inline(always)]
     pub(crate) fn spot_above(&self, spot: Spot) -> Spot
         requires inner { IsFarFromEnds spot.pos }
-        requires place { IsPlace self.now.chunk self.now.height spot.pos spot.index }
+        requires on_board { IsOnBoard self.now.chunk self.now.height spot.pos spot.index }
         ensures pos { result.pos ≡ above spot.pos }
         ensures spot { IsSpot self.now.chunk self.now.height result }
     {
@@ -127,7 +127,7 @@ impl Flood {
     #[inline(always)]
     pub(crate) fn spot_north(&self, spot: Spot) -> Spot
         requires inner { IsFarFromEnds spot.pos }
-        requires place { IsPlace self.now.chunk self.now.height spot.pos spot.index }
+        requires on_board { IsOnBoard self.now.chunk self.now.height spot.pos spot.index }
         ensures pos { result.pos ≡ north spot.pos }
         ensures spot { IsSpot self.now.chunk self.now.height result }
     {
@@ -141,7 +141,7 @@ impl Flood {
     #[inline(always)]
     pub(crate) fn spot_south(&self, spot: Spot) -> Spot
         requires inner { IsFarFromEnds spot.pos }
-        requires place { IsPlace self.now.chunk self.now.height spot.pos spot.index }
+        requires on_board { IsOnBoard self.now.chunk self.now.height spot.pos spot.index }
         ensures pos { result.pos ≡ south spot.pos }
         ensures spot { IsSpot self.now.chunk self.now.height result }
     {
@@ -155,7 +155,7 @@ impl Flood {
     #[inline(always)]
     pub(crate) fn spot_west(&self, spot: Spot) -> Spot
         requires inner { IsFarFromEnds spot.pos }
-        requires place { IsPlace self.now.chunk self.now.height spot.pos spot.index }
+        requires on_board { IsOnBoard self.now.chunk self.now.height spot.pos spot.index }
         ensures pos { result.pos ≡ west spot.pos }
         ensures spot { IsSpot self.now.chunk self.now.height result }
     {
@@ -169,7 +169,7 @@ impl Flood {
     #[inline(always)]
     pub(crate) fn spot_east(&self, spot: Spot) -> Spot
         requires inner { IsFarFromEnds spot.pos }
-        requires place { IsPlace self.now.chunk self.now.height spot.pos spot.index }
+        requires on_board { IsOnBoard self.now.chunk self.now.height spot.pos spot.index }
         ensures pos { result.pos ≡ east spot.pos }
         ensures spot { IsSpot self.now.chunk self.now.height result }
     {

@@ -6,7 +6,7 @@ use Rattle.std.specs.Ordering.{nat_cmp}
 use Rattle.std.specs.Cmp.Lexicographic.{slice_cmp}
 use Rattle.std.specs.declared.cmp.Ordering.TheVariants.{Less}
 use Rattle.std.specs.Prelude.{string_cmp}
-use Rattle.av_types.specs.declared.place.RegionPos.{RegionPos}
+use Rattle.av_types.specs.declared.position.RegionPos.{RegionPos}
 use Rattle.av_region_files.specs.Names.{region_name_of}
 use Rattle.av_folders.specs.declared.reading.Listed.{Listed}
 use Rattle.av_folders.specs.Folders.{AreInNameOrder, IsListed}

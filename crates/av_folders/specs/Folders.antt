@@ -4,7 +4,7 @@ use Rattle.std.specs.List.Sorted.{IsStrictlySortedBy}
 use Rattle.std.specs.Ordering.{nat_cmp}
 use Rattle.std.specs.Path.{path_join}
 use Rattle.std.specs.Cmp.Lexicographic.{slice_cmp}
-use Rattle.av_types.specs.declared.place.RegionPos.{RegionPos}
+use Rattle.av_types.specs.declared.position.RegionPos.{RegionPos}
 use Rattle.av_types.specs.declared.fault.Fault.{Fault}
 use Rattle.av_types.specs.declared.fault.Fault.TheVariants.{OutOfMemory}
 use Rattle.av_sink.specs.Account.{Account, IsDevice}
@@ -33,11 +33,11 @@ pub data IsUnreadFolder (folder : List ℕ) (e : Fault) : Type 0 where
   listing : IsDevice folder e → IsUnreadFolder folder e
   file : (region : RegionPos) → IsDevice (region_name_of region) e → IsUnreadFolder folder e
 
--- a folder tells its name, what was done about a run that was cut off, the counts, whether its files have their places, and whether all is
+-- a folder tells its name, what was done about a run that was cut off, the counts, whether its files have their names, and whether all is
 -- told of them
 abbrev pub folder_account : Option (List ℕ) → Option Repair → ℕ → ℕ → Bool → Bool → Account
-folder_account folder repair failures handed placed closed =
-    record { folder = folder; repair = repair; failures = failures; handed = handed; placed = placed; closed = closed; kept = None }
+folder_account folder repair failures handed committed closed =
+    record { folder = folder; repair = repair; failures = failures; handed = handed; committed = committed; closed = closed; kept = None }
 
 -- region files as they are read: in the byte order of their names, each name once
 abbrev pub AreInNameOrder : List RegionPos → Type 0

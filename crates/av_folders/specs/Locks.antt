@@ -44,8 +44,8 @@ lock_at process parts = option_and_then (λ major. option_and_then (λ minor. op
 
 -- by the second, the fifth and the sixth word
 abbrev pub lock_by : List (List ℕ) → Option LockWords
-lock_by words = option_and_then (λ kind. option_and_then (λ process. option_and_then (λ place.
-    if is_kind kind then lock_at process (split_on 58 place) else None)
+lock_by words = option_and_then (λ kind. option_and_then (λ process. option_and_then (λ file.
+    if is_kind kind then lock_at process (split_on 58 file) else None)
     (slice_get words 5)) (slice_get words 4)) (slice_get words 1)
 
 abbrev pub lock_in : List ℕ → Option LockWords

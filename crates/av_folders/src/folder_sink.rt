@@ -7,7 +7,7 @@ use crate::holding::LockFiles;
 use crate::region_marks::RegionMarks;
 use crate::system_folder::{RefusedStep, SystemFolder, file_told};
 use crate::tidying::hold_if_free;
-use av_exchange::{close, is_own, place, place_alone, repair, stage, sweep, unstage};
+use av_exchange::{close, commit, commit_alone, is_own, repair, stage, sweep, unstage};
 use av_reports::names::region_of_name;
 use av_sink::{FailedFile, OutputFolder, Repair, Sink, SinkFailed, Teller};
 use std::alloc::{AllocError, Global};
@@ -58,11 +58,11 @@ fn write_alone<R: LockFiles + AllocGlobal + Clone + Drop>(
         unstage(rt.alloc(), folder, name)?;
     }
     stage(rt.alloc(), folder, name, bytes)?;
-    let placed = place_alone(rt.alloc(), folder, name);
-    if placed.is_err() {
+    let committed = commit_alone(rt.alloc(), folder, name);
+    if committed.is_err() {
         let _ = unstage(rt.alloc(), folder, name);
     }
-    placed
+    committed
 }
 
 /// What is said of a name that a file by itself can't have.
@@ -74,7 +74,7 @@ fn is_of_exchange(alloc: Global, name: &str) -> Result<bool, AllocError> {
     Ok(is_part || is_own(name) || region_of_name(alloc, name)?.is_some())
 }
 
-/// Writes a file of a folder. One of a region waits for its place, where the folder was repaired for it, and its name is noted.
+/// Writes a file of a folder. One of a region waits for its name, where the folder was repaired for it, and its name is noted.
 fn write<R: LockFiles + AllocGlobal + Clone + Drop>(
     rt: &R,
     folder: &Option<String>,
@@ -93,8 +93,8 @@ fn write<R: LockFiles + AllocGlobal + Clone + Drop>(
     write_alone(rt, &mut folder, name, bytes)
 }
 
-/// A folder that files are written to. Those of regions take their places all or none, in a folder that was repaired; any other file takes
-/// its own at once, and has no name of these. A region's file that has its bytes already is left alone. What is a link in the place of a
+/// A folder that files are written to. Those of regions take their names all or none, in a folder that was repaired; any other file takes
+/// its own at once, and has no name of these. A region's file that has its bytes already is left alone. What is a link where there is to be a
 /// file is not written to. Want of memory for a path is a failed write too, as is each write before the folder is opened. A region's file that
 /// was changed by another program since the folder was repaired is not replaced, nor is any other then.
 #[derive(Drop)]
@@ -108,14 +108,14 @@ pub struct FolderSink<'a, R> {
     marks: RegionMarks,
     failures: u64,
     handed: u64,
-    is_placed: bool,
+    is_committed: bool,
     is_closed: bool,
     failed: Option<FailedFile>,
 }
 
-/// Lets files that were written take their places, where those that they replace are what they were. Where they can't begin to they are taken
+/// Lets files that were written take their names, where those that they replace are what they were. Where they can't begin to they are taken
 /// away.
-fn place_or_sweep<R: Files + AllocGlobal + Clone + Drop>(
+fn commit_or_sweep<R: Files + AllocGlobal + Clone + Drop>(
     alloc: Global,
     folder: &mut SystemFolder<'_, R>,
     marks: &RegionMarks,
@@ -125,7 +125,7 @@ fn place_or_sweep<R: Files + AllocGlobal + Clone + Drop>(
         let _ = sweep(alloc, folder);
         return Err(refused);
     }
-    let Err(not) = place(alloc, folder, names) else {
+    let Err(not) = commit(alloc, folder, names) else {
         return Ok(());
     };
     let begun = not.begun;
@@ -170,7 +170,7 @@ impl<'a, R: LockFiles + AllocGlobal + Clone + Drop> FolderSink<'a, R> {
             marks: RegionMarks::new(rt.alloc()),
             failures: 0,
             handed: 0,
-            is_placed: false,
+            is_committed: false,
             is_closed: false,
             failed: None,
         }
@@ -185,13 +185,13 @@ impl<'a, R: LockFiles + AllocGlobal + Clone + Drop> FolderSink<'a, R> {
         }
     }
 
-    /// Lets the files that were written take their places.
-    fn place_written(&self) -> Result<(), RefusedStep> {
+    /// Lets the files that were written take their names.
+    fn commit_written(&self) -> Result<(), RefusedStep> {
         if self.names.is_empty() {
             return Ok(());
         }
         let mut folder = opened(self.rt, &self.folder)?;
-        place_or_sweep(
+        commit_or_sweep(
             self.rt.alloc(),
             &mut folder,
             &self.marks,
@@ -199,9 +199,9 @@ impl<'a, R: LockFiles + AllocGlobal + Clone + Drop> FolderSink<'a, R> {
         )
     }
 
-    /// Takes the journal away, where the files have their places.
-    fn close_placed(&self) -> Result<(), RefusedStep> {
-        if !self.is_placed || self.names.is_empty() {
+    /// Takes the journal away, where the files have their names.
+    fn close_committed(&self) -> Result<(), RefusedStep> {
+        if !self.is_committed || self.names.is_empty() {
             return Ok(());
         }
         let mut folder = opened(self.rt, &self.folder)?;
@@ -213,7 +213,7 @@ impl<'a, R: LockFiles + AllocGlobal + Clone + Drop> FolderSink<'a, R> {
 }
 
 impl<'a, R: LockFiles + AllocGlobal + Clone + Drop> Sink for FolderSink<'a, R> {
-    ghost account = { λ s. folder_account (option_map string_bytes s.folder) s.repaired s.failures s.handed s.is_placed s.is_closed };
+    ghost account = { λ s. folder_account (option_map string_bytes s.folder) s.repaired s.failures s.handed s.is_committed s.is_closed };
 
     fn failures(&self) -> u64 {
         self.failures
@@ -266,10 +266,10 @@ impl<'a, R: LockFiles + AllocGlobal + Clone + Drop> OutputFolder for FolderSink<
         }
     }
 
-    fn place(&mut self) -> Result<(), SinkFailed> {
-        match self.place_written() {
+    fn commit(&mut self) -> Result<(), SinkFailed> {
+        match self.commit_written() {
             Ok(()) => {
-                self.is_placed = true;
+                self.is_committed = true;
                 Ok(())
             }
             Err(refused) => {
@@ -280,7 +280,7 @@ impl<'a, R: LockFiles + AllocGlobal + Clone + Drop> OutputFolder for FolderSink<
     }
 
     fn close(&mut self) -> Result<(), SinkFailed> {
-        match self.close_placed() {
+        match self.close_committed() {
             Ok(()) => {
                 self.is_closed = true;
                 Ok(())

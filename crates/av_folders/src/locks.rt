@@ -114,7 +114,7 @@ fn is_kind(word: &[u8]) -> bool
     word == b"POSIX".as_slice() || (word == b"OFDLCK".as_slice() || word == b"FLOCK".as_slice())
 }
 
-/// The lock of a process, by the parts of its place.
+/// The lock of a process, by the parts of what is locked.
 fn lock_at<'a>(process: &'a [u8], parts: &[&'a [u8]]) -> Option<Lock<'a>>
     ensures { option_map lock_words result ≡ lock_at process.now (texts parts.now) }
 {
@@ -133,14 +133,14 @@ fn lock_at<'a>(process: &'a [u8], parts: &[&'a [u8]]) -> Option<Lock<'a>>
 fn lock_by<'a>(alloc: Global, words: &[&'a [u8]]) -> Result<Option<Lock<'a>>, AllocError>
     ensures { IfOk result (λ lock. option_map lock_words lock ≡ lock_by (texts words.now)) }
 {
-    let (Some(kind), Some(process), Some(place)) = (word(words, 1), word(words, 4), word(words, 5))
+    let (Some(kind), Some(process), Some(file)) = (word(words, 1), word(words, 4), word(words, 5))
     else {
         return Ok(None);
     };
     if !is_kind(kind) {
         return Ok(None);
     }
-    let numbers = parts(alloc, place, b':')?;
+    let numbers = parts(alloc, file, b':')?;
     Ok(lock_at(process, numbers.as_slice()))
 }
 

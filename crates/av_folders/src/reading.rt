@@ -3,7 +3,7 @@ ghost use Rattle.std.specs.Prelude.{◌≡◌, ◌⊎◌, ◌++◌, [], ◌∷�
 ghost use Rattle.std.specs.List.{All};
 ghost use Rattle.std.specs.List.Sorted.{IsStrictlySortedBy};
 ghost use Rattle.av_types.specs.declared.fault.Fault.TheVariants.{OutOfMemory};
-ghost use Rattle.av_types.specs.declared.place.RegionPos.{RegionPos};
+ghost use Rattle.av_types.specs.declared.position.RegionPos.{RegionPos};
 ghost use Rattle.av_sink.specs.Account.{IsDevice};
 ghost use Rattle.av_folders.specs.Folders.{AreInNameOrder, AreRead, IsFolderRead, IsListed, IsFolderFault, IsUnreadFolder};
 

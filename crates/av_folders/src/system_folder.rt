@@ -17,7 +17,7 @@ const NO_FILE: &str = "a link, a folder or a pipe, where a file is to be";
 pub struct SystemFolder<'a, R> {
     rt: &'a R,
     pub(crate) path: String,
-    /// The file that could not take a place or be taken away, where one couldn't.
+    /// The file that could not take its name or be taken away, where one couldn't.
     unmoved: Option<String>,
 }
 
@@ -123,7 +123,7 @@ fn where_permitted(done: io::Result<()>) -> io::Result<()> {
 }
 
 /// Gives a new file the owner and the group of the one that it is to replace, or the group alone, where this process may. A link that came
-/// in the place of the new file is not followed.
+/// where the new file is to be is not followed.
 fn keep_owner<R: Files>(rt: &R, path: Path<'_>, old: &Metadata) -> io::Result<()> {
     match lchown(rt, path, Some(old.uid()), Some(old.gid())) {
         Err(error) if is_passed_over(&error) => {

@@ -25,7 +25,7 @@ struct Traces {
     any: bool,
     /// Whether there is a journal.
     journal: bool,
-    /// Whether there is anything but the journal, as new files that have no places yet.
+    /// Whether there is anything but the journal, as new files that have no names yet.
     others: bool,
 }
 
@@ -65,7 +65,7 @@ fn undone<R: Files + AllocGlobal>(rt: &R, path: &str, name: &str, refused: Refus
     }
 }
 
-/// Lets no file take its place in a world that the game has open: what it wrote there afterwards would be lost.
+/// Lets no file take its name in a world that the game has open: what it wrote there afterwards would be lost.
 fn wait_for_game<R: Files + AllocGlobal>(rt: &R, path: &str, name: &str) -> Result<(), Failure>
     ensures { IfErr result (λ e. IsFolderFault name.now e.fault) }
 {

@@ -2,18 +2,18 @@
 use Rattle.std.proofs.Common.{◌≡◌, ℕ, ◌||◌, Bool, true, false, List, [], ◌∷◌, IsTrue, All, refl, sym, ap, subst}
 use Rattle.std.proofs.lemmas.Bool.{true≢false, and_parts, and_from}
 use Rattle.std.proofs.lemmas.List.Elements.{All-head, All-tail, All-weaker}
-use Rattle.av_types.specs.Places.{chunk_of, section_of, is_block_of}
-use Rattle.av_types.specs.declared.place.Pos.{Pos}
-use Rattle.av_types.specs.declared.place.ChunkPos.{ChunkPos}
-use Rattle.av_types.specs.declared.place.SectionPos.{SectionPos}
+use Rattle.av_types.specs.Positions.{chunk_of, section_of, is_block_of}
+use Rattle.av_types.specs.declared.position.Pos.{Pos}
+use Rattle.av_types.specs.declared.position.ChunkPos.{ChunkPos}
+use Rattle.av_types.specs.declared.position.SectionPos.{SectionPos}
 use Rattle.av_types.specs.declared.tick.Entry.{Entry}
-use Rattle.av_types.proofs.SamePlaces.{same_chunk_is, same_chunk_from}
+use Rattle.av_types.proofs.SamePositions.{same_chunk_is, same_chunk_from}
 use Rattle.av_cells.specs.Positions.{InReach, same_chunk}
 use Rattle.av_land.specs.Land.{Land, has_chunk, is_loaded}
 use Rattle.av_play.specs.Corners.{corner}
 use Rattle.av_play.proofs.Corners.{meets_corner}
 use Rattle.av_world.specs.Lands.{land_of}
-use Rattle.av_world.specs.Near.{has_place}
+use Rattle.av_world.specs.Near.{is_world_section}
 use Rattle.av_world.specs.Views.{blocks}
 use Rattle.av_world.specs.declared.worlds.World.{World}
 use Rattle.av_world.proofs.ChunkReads.{has_chunk_there}
@@ -70,8 +70,8 @@ all_has P (d ∷ ds) c h m = by (same_chunk d c) refl m (all_has P ds c (All-tai
 -- a block of a section that is there is one of the land
 loaded_in_land : (w : World) (p : Pos) → IsTrue ((blocks w).loaded p) → is_loaded (land_of w) p ≡ true
 loaded_in_land w p h =
-    let place = has_place w.height w.positions.items w.chunks.items w.lawful.parallel (section_of p) h in
-    and_from (has_chunk w.positions.items (chunk_of p)) (is_block_of w.height p.y) (has_chunk_there w.positions.items (chunk_of p) place.chunk) place.high
+    let of_world = is_world_section w.height w.positions.items w.chunks.items w.lawful.parallel (section_of p) h in
+    and_from (has_chunk w.positions.items (chunk_of p)) (is_block_of w.height p.y) (has_chunk_there w.positions.items (chunk_of p) of_world.chunk) of_world.high
 
 pub all_loaded : (w : World) (es : List Entry) → All (λ e. IsTrue ((blocks w).loaded e.pos)) es → All (λ e. is_loaded (land_of w) e.pos ≡ true) es
 all_loaded w = All-weaker (λ e. IsTrue ((blocks w).loaded e.pos)) (λ e. is_loaded (land_of w) e.pos ≡ true) (λ e h. loaded_in_land w e.pos h)

@@ -1,11 +1,11 @@
 -- Entries turned in a part of a land.
 use Rattle.std.proofs.Common.{◌≡◌, ◌∙◌, ℕ, ◌&&◌, ◌||◌, List, [], ◌∷◌, ◌++◌, Bool, true, false, not, cond, if◌then◌else◌, refl, sym, ap, subst, All, filter}
 use Rattle.std.proofs.lemmas.List.Elements.{All-head, All-tail}
-use Rattle.av_types.specs.Places.{chunk_of, is_block_of}
-use Rattle.av_types.specs.declared.place.ChunkPos.{ChunkPos}
+use Rattle.av_types.specs.Positions.{chunk_of, is_block_of}
+use Rattle.av_types.specs.declared.position.ChunkPos.{ChunkPos}
 use Rattle.av_types.specs.declared.tick.Entry.{Entry}
 use Rattle.av_cells.specs.declared.kind.Kind.{Kind}
-use Rattle.av_types.proofs.SamePlaces.{same_chunk_is}
+use Rattle.av_types.proofs.SamePositions.{same_chunk_is}
 use Rattle.av_cells.specs.Positions.{same_chunk}
 use Rattle.av_land.specs.Land.{Land, has_chunk}
 use Rattle.av_land.specs.Tick.{turned, turned_all}

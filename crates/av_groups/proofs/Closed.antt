@@ -5,7 +5,7 @@ use Rattle.std.proofs.lemmas.Option.{slice_get_within, get_or_from_slice_get}
 use Rattle.std.proofs.lemmas.List.{flat_map_more, length_push, length-replicate, take_all}
 use Rattle.std.proofs.Math.Seq.{take-add}
 use Rattle.std.proofs.lemmas.List.Elements.{All-nil, All-weaker, All-get_or, All-replicate}
-use Rattle.av_types.specs.declared.place.ChunkPos.{ChunkPos}
+use Rattle.av_types.specs.declared.position.ChunkPos.{ChunkPos}
 use Rattle.av_types.specs.declared.tick.Entry.{Entry}
 use Rattle.av_land.specs.Land.{Land, has_chunk}
 use Rattle.av_world.specs.Index.{slot}
@@ -13,7 +13,7 @@ use Rattle.av_groups.specs.declared.groups.Group.{Group}
 use Rattle.av_groups.specs.declared.groups.Groups.{Groups}
 use Rattle.av_groups.specs.declared.groups.Touch.{Touch}
 use Rattle.av_groups.specs.declared.corners.Reach.{Reach}
-use Rattle.av_groups.specs.Groups.{entries_in, touched, NoneTouches, IsPlaced, IsGroup, AreCut, AreGroups}
+use Rattle.av_groups.specs.Groups.{entries_in, touched, NoneTouches, HasOwnIndex, IsGroup, AreCut, AreGroups}
 use Rattle.av_groups.specs.Exact.{IsTouchedBy, IsExact}
 use Rattle.av_groups.specs.Open.{IsLast, IsOpen, AreNoted, IsGathered, AreClosed}
 
@@ -54,7 +54,7 @@ group_still w es gs g h i below is = record {
   within = is.within;
   distinct = is.distinct;
   there = is.there;
-  placed = is.placed;
+  own_index = is.own_index;
   loaded = is.loaded;
   stay = is.stay;
   behind = All-weaker (λ t. (t.before ≤ i) × NoneTouches gs t.before i t.chunk) (λ t. (t.before ≤ i) × NoneTouches (gs ++ g ∷ []) t.before i t.chunk) (λ t b. (b.0, none_still gs g t.before i t.chunk below b.1)) h.touches.items is.behind;
@@ -66,7 +66,7 @@ module _ (w : Land ℕ) (es : List Entry) (n : ℕ) (gs : List Group) (earlier l
   more = gs ++ g ∷ []
 
   is_group : IsGroup w es gs (length gs) g
-  is_group = record { within = (further, bound); distinct = is.is_open.distinct; there = is.is_open.there; placed = is.is_open.placed; loaded = is.loaded; stay = is.stay; behind = is.is_open.behind }
+  is_group = record { within = (further, bound); distinct = is.is_open.distinct; there = is.is_open.there; own_index = is.is_open.own_index; loaded = is.loaded; stay = is.stay; behind = is.is_open.behind }
 
   each : (i : ℕ) (h : Group) → slice_get more i ≡ Some h → IsGroup w es more i h
   each i h found = by (push_at gs g h i found) where
@@ -125,7 +125,7 @@ open_anew w es n gs last is = record {
   long = is.cut.long;
   distinct = grind arith;
   there = All-nil (λ c. has_chunk w.chunks c ≡ true);
-  placed = All-nil (IsPlaced w.chunks);
+  own_index = All-nil (HasOwnIndex w.chunks);
   behind = All-nil (λ t. (t.before ≤ length gs) × NoneTouches gs t.before (length gs) t.chunk);
   exact = All-nil (λ t. IsExact gs t.chunk t.before);
   last_is = λ c m h. record { none = (is.cut.behind c m h).1; touched = λ t. absurd (true≢false (sym t)); free = λ f. (is.cut.behind c m h).0; exact = λ f. is.exact.after c m h };

@@ -6,8 +6,8 @@ use Rattle.std.proofs.lemmas.List.{map_push, get_or_default}
 use Rattle.std.proofs.lemmas.List.Elements.{All-nil, All-cons, All-push, All-weaker}
 use Rattle.std.proofs.lemmas.List.Quantifiers.{all_pairs_push}
 use Rattle.std.specs.List.{AllPairs, list_any}
-use Rattle.av_types.specs.declared.place.ChunkPos.{ChunkPos}
-use Rattle.av_types.proofs.SamePlaces.{same_chunk_is, same_chunk-refl}
+use Rattle.av_types.specs.declared.position.ChunkPos.{ChunkPos}
+use Rattle.av_types.proofs.SamePositions.{same_chunk_is, same_chunk-refl}
 use Rattle.av_cells.specs.Positions.{same_chunk}
 use Rattle.av_land.specs.Land.{has_chunk}
 use Rattle.av_world.specs.Index.{slot, IsRising}
@@ -16,7 +16,7 @@ use Rattle.av_world.proofs.Moved.{get_set_same, get_set_other}
 use Rattle.av_groups.specs.declared.corners.Reach.{Reach}
 use Rattle.av_groups.specs.declared.groups.Group.{Group}
 use Rattle.av_groups.specs.declared.groups.Touch.{Touch}
-use Rattle.av_groups.specs.Groups.{NoneTouches, IsPlaced}
+use Rattle.av_groups.specs.Groups.{NoneTouches, HasOwnIndex}
 use Rattle.av_groups.specs.Exact.{IsExact}
 use Rattle.av_groups.specs.Open.{chunks_in, chunks_in_reach, IsLast, IsOpen, IsTouched, IsCovered, AreKept, AreNoted}
 
@@ -100,7 +100,7 @@ module _ (ps : List ChunkPos) (gs : List Group) (last : List ℕ) (ts : List Tou
     long = length-set last i (length gs + 1) ∙ is.long;
     distinct = subst (AllPairs (λ c d. same_chunk c d ≡ false)) (sym pushed) (all_pairs_push (λ c d. same_chunk c d ≡ false) (chunks_in ts) t.chunk is.distinct (λ k d l. apart (chunks_in ts) t.chunk new k d l));
     there = subst (All (λ c. has_chunk ps c ≡ true)) (sym pushed) (All-push (λ c. has_chunk ps c ≡ true) (chunks_in ts) t.chunk is.there there);
-    placed = All-push (IsPlaced ps) ts t is.placed (ap (slice_get ps) index ∙ at);
+    own_index = All-push (HasOwnIndex ps) ts t is.own_index (ap (slice_get ps) index ∙ at);
     behind = All-push (λ t. (t.before ≤ length gs) × NoneTouches gs t.before (length gs) t.chunk) ts t is.behind (is_last.free new, is_last.none);
     exact = All-push (λ t. IsExact gs t.chunk t.before) ts t is.exact (is_last.exact new);
     last_is = λ d m h. by d m h (cases_eq (slot ps d) i);
@@ -123,7 +123,7 @@ touched_more ps cs a b ts i d kept was inside new k e l = by (cases_lt k i) wher
   by (inl below) = record { touched = λ h. new.kept (get_or cs k e) ((was k e below).touched h); kept = kept_now }
   by (inr above) = subst (IsTouched ps a ts) (get_or_default cs i d e inside ∙ ap (λ n. get_or cs n e) (omega (arith, above, l))) (record { touched = new.touched; kept = kept_now })
 
--- a reach that is noted at a place stands there
+-- a reach that is noted in a slot stands there
 pub noted_at : (xs : List (Option Reach)) (i : ℕ) (r : Reach) → get_or xs i None ≡ Some r → slice_get xs i ≡ Some (Some r)
 noted_at [] i r e = absurd (true≢false (sym (ap is_one e))) where
   is_one : Option Reach → Bool

@@ -1,7 +1,7 @@
 -- The numbers of groups by chunk are those of groups that touch the chunk.
 use Rattle.std.specs.Prelude.{◌≡◌, ℕ, ◌+◌, true, List, slice_get, Some}
 use Rattle.std.specs.List.{All}
-use Rattle.av_types.specs.declared.place.ChunkPos.{ChunkPos}
+use Rattle.av_types.specs.declared.position.ChunkPos.{ChunkPos}
 use Rattle.av_land.specs.Land.{Land, has_chunk}
 use Rattle.av_world.specs.Index.{slot}
 use Rattle.av_groups.specs.declared.groups.Group.{Group}

@@ -1,7 +1,7 @@
 -- The entries of a tick in groups, each with the chunks that its turns may touch.
 use Rattle.std.specs.Prelude.{◌≡◌, ℕ, ◌<◌, ◌≤◌, ◌-◌, true, false, List, map, length, take, drop, slice_get, Some}
 use Rattle.std.specs.List.{All, AllPairs, flat_map}
-use Rattle.av_types.specs.declared.place.ChunkPos.{ChunkPos}
+use Rattle.av_types.specs.declared.position.ChunkPos.{ChunkPos}
 use Rattle.av_types.specs.declared.tick.Entry.{Entry}
 use Rattle.av_cells.specs.Positions.{same_chunk}
 use Rattle.av_land.specs.Land.{Land, has_chunk, is_loaded}
@@ -24,15 +24,15 @@ abbrev pub NoneTouches : List Group → ℕ → ℕ → ChunkPos → Type 0
 NoneTouches gs a b c = (j : ℕ) (g : Group) → a ≤ j → j < b → slice_get gs j ≡ Some g → has_chunk (touched g) c ≡ false
 
 -- the chunk stands at its index
-abbrev pub IsPlaced : List ChunkPos → Touch → Type 0
-IsPlaced ps t = slice_get ps t.index ≡ Some t.chunk
+abbrev pub HasOwnIndex : List ChunkPos → Touch → Type 0
+HasOwnIndex ps t = slice_get ps t.index ≡ Some t.chunk
 
 -- The turns of group i stay in the chunks that it touches. Each of these was touched last before it by the group before `before`.
 pub record IsGroup (w : Land ℕ) (es : List Entry) (gs : List Group) (i : ℕ) (g : Group) : Type 0 where
   pub within : (g.from ≤ g.to) × (g.to ≤ length es)
   pub distinct : AllPairs (λ c d. same_chunk c d ≡ false) (touched g)
   pub there : All (λ c. has_chunk w.chunks c ≡ true) (touched g)
-  pub placed : All (IsPlaced w.chunks) g.touches.items
+  pub own_index : All (HasOwnIndex w.chunks) g.touches.items
   pub loaded : All (λ e. is_loaded w e.pos ≡ true) (entries_in es g)
   pub stay : All (StaysIn w (has_chunk (touched g))) (entries_in es g)
   pub behind : All (λ t. (t.before ≤ i) × NoneTouches gs t.before i t.chunk) g.touches.items

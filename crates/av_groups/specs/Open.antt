@@ -1,9 +1,9 @@
 -- Groups of which the last is still open. Working definitions: no public clause cites them.
 use Rattle.std.specs.Prelude.{◌≡◌, ℕ, ◌+◌, ◌≤◌, true, false, List, [], ◌∷◌, map, length, take, slice_get, Option, Some}
 use Rattle.std.specs.List.{All, AllPairs, flat_map}
-use Rattle.av_types.specs.Places.{chunk_of}
-use Rattle.av_types.specs.declared.place.Pos.{Pos}
-use Rattle.av_types.specs.declared.place.ChunkPos.{ChunkPos}
+use Rattle.av_types.specs.Positions.{chunk_of}
+use Rattle.av_types.specs.declared.position.Pos.{Pos}
+use Rattle.av_types.specs.declared.position.ChunkPos.{ChunkPos}
 use Rattle.av_types.specs.declared.tick.Entry.{Entry}
 use Rattle.av_cells.specs.Positions.{same_chunk}
 use Rattle.av_land.specs.Land.{Land, has_chunk, is_loaded}
@@ -12,7 +12,7 @@ use Rattle.av_world.specs.Index.{slot}
 use Rattle.av_groups.specs.declared.groups.Group.{Group}
 use Rattle.av_groups.specs.declared.groups.Touch.{Touch}
 use Rattle.av_groups.specs.declared.corners.Reach.{Reach}
-use Rattle.av_groups.specs.Groups.{NoneTouches, IsPlaced, AreCut, entries_in}
+use Rattle.av_groups.specs.Groups.{NoneTouches, HasOwnIndex, AreCut, entries_in}
 use Rattle.av_groups.specs.Exact.{IsExact, AreExact}
 use Rattle.av_groups.specs.Parts.{StaysIn}
 
@@ -41,7 +41,7 @@ pub record IsOpen (ps : List ChunkPos) (gs : List Group) (last : List ℕ) (ts :
   pub long : length last ≡ length ps
   pub distinct : AllPairs (λ c d. same_chunk c d ≡ false) (chunks_in ts)
   pub there : All (λ c. has_chunk ps c ≡ true) (chunks_in ts)
-  pub placed : All (IsPlaced ps) ts
+  pub own_index : All (HasOwnIndex ps) ts
   pub behind : All (λ t. (t.before ≤ length gs) × NoneTouches gs t.before (length gs) t.chunk) ts
   pub exact : All (λ t. IsExact gs t.chunk t.before) ts
   pub last_is : (c : ChunkPos) (m : ℕ) → slice_get last (slot ps c) ≡ Some m → IsLast gs ts c m

@@ -1,9 +1,9 @@
 -- A land of some of its chunks alone, and put back among the others.
 use Rattle.std.specs.Prelude.{◌≡◌, ℕ, Bool, true, false, ◌&&◌, List, [], if◌then◌else◌}
 use Rattle.std.specs.List.{All}
-use Rattle.av_types.specs.Places.{chunk_of}
-use Rattle.av_types.specs.declared.place.Pos.{Pos}
-use Rattle.av_types.specs.declared.place.ChunkPos.{ChunkPos}
+use Rattle.av_types.specs.Positions.{chunk_of}
+use Rattle.av_types.specs.declared.position.Pos.{Pos}
+use Rattle.av_types.specs.declared.position.ChunkPos.{ChunkPos}
 use Rattle.av_types.specs.declared.tick.Entry.{Entry}
 use Rattle.av_cells.specs.Positions.{InReach}
 use Rattle.av_cells.specs.declared.kind.Kind.{Kind}

@@ -13,7 +13,7 @@ ghost use Rattle.av_groups.specs.Parts.{StaysIn};
 
 use crate::corners::{Reach, chunks_of, reach_of};
 use crate::groups::{Group, Groups, Touch};
-use crate::noting::{Noted, is_noted, none_noted, place_of};
+use crate::noting::{Noted, is_noted, none_noted, slot_of};
 use av_types::{ChunkPos, Entry};
 use av_world::World;
 use std::alloc::{AllocError, Global};
@@ -44,7 +44,7 @@ struct Marks {
     near: [usize; 32],
 }
 
-/// A chunk's place in `near`: those that a group touches have each another one.
+/// A chunk's slot in `near`: those that a group touches have each another one.
 fn near_index(chunk: ChunkPos) -> usize
     ensures { result < 32 }
 {
@@ -130,13 +130,13 @@ fn touch_reach(
         (chunks_in_reach reach)) }
     ensures kept { OnOk result (AreKept touches.old.items touches.new.items) }
 {
-    let place = place_of(reach);
-    if is_noted(noted[place], reach) {
+    let slot = slot_of(reach);
+    if is_noted(noted[slot], reach) {
         return Ok(());
     }
     let chunks = chunks_of(reach);
     touch_all(world, closed, marks, touches, chunks.as_slice())?;
-    noted[place] = Some(reach);
+    noted[slot] = Some(reach);
     Ok(())
 }
 
@@ -186,15 +186,8 @@ fn touch_entries(
     Ok(())
 }
 
-/// Touches with no more room than they need.
-fn exact_touches(alloc: Global, touches: &[Touch]) -> Result<Vec<Touch>, AllocError>
-    ensures { IfOk result (λ exact. exact.items ≡ touches.now) }
-{
-    Vec::from_slice(alloc, touches)
-}
-
 /// What a group of these entries touches, behind the groups that are closed. It is gathered in a list that all groups use, so that it
-/// seldom grows.
+/// seldom grows, and copied to one without more room than it needs.
 fn touches_of(
     alloc: Global,
     world: &World,
@@ -210,7 +203,7 @@ fn touches_of(
 {
     gathered.clear();
     touch_entries(world, closed, marks, gathered, entries)?;
-    let touches = exact_touches(alloc, gathered.as_slice())?;
+    let touches = Vec::from_slice(alloc, gathered.as_slice())?;
     Ok(touches)
 }
 

@@ -3,7 +3,7 @@ ghost use Rattle.std.specs.Prelude.{◌≡◌, ◌<◌, true, All, None, Some};
 
 use crate::corners::Reach;
 
-/// The reaches that were noted, by the x and z modulo 2 of their chunks: the nine of one chunk's blocks have each another place.
+/// The reaches that were noted, by the x and z modulo 2 of their chunks: the nine of one chunk's blocks have each another slot.
 pub(crate) type Noted = [Option<Reach>; 16];
 
 /// None is noted.
@@ -20,8 +20,8 @@ fn half(number: i32) -> usize
     number.rem_euclid(2) as usize
 }
 
-/// A reach's place among those that are noted.
-pub(crate) fn place_of(reach: Reach) -> usize
+/// A reach's slot among those that are noted.
+pub(crate) fn slot_of(reach: Reach) -> usize
     ensures { result < 16 }
 {
     let x = 2 * half(reach.north_west.x) + half(reach.south_east.x);

@@ -108,11 +108,11 @@ fn expect_turned(
 }
 
 /// A block at y 64, by its x and z.
-type Place = (i32, i32);
+type Column = (i32, i32);
 
 /// Blocks have a number.
-fn expect_numbers(rt: &impl Abort, world: &World, number: u16, places: &[Place]) {
-    for (x, z) in places {
+fn expect_numbers(rt: &impl Abort, world: &World, number: u16, columns: &[Column]) {
+    for (x, z) in columns {
         let block = Pos {
             x: *x,
             y: 64,
@@ -123,10 +123,10 @@ fn expect_numbers(rt: &impl Abort, world: &World, number: u16, places: &[Place])
 }
 
 /// A chunk's entries are of these blocks, in this order, and due in tick 6.
-fn expect_list(rt: &impl Abort, world: &World, chunk: ChunkPos, places: &[Place]) {
+fn expect_list(rt: &impl Abort, world: &World, chunk: ChunkPos, columns: &[Column]) {
     let list = list_of(world, chunk);
-    assert_eq!(rt; list.len(), places.len());
-    for (one, (x, z)) in list.iter().zip(places) {
+    assert_eq!(rt; list.len(), columns.len());
+    for (one, (x, z)) in list.iter().zip(columns) {
         let want = Entry {
             due: 6,
             ..entry(*x, *z)
@@ -142,7 +142,7 @@ fn four() -> [Entry; 4] {
 }
 
 /// The blocks at distance 1 of the four sources.
-const AROUND: [Place; 16] = [
+const AROUND: [Column; 16] = [
     (8, 7),
     (7, 8),
     (9, 8),
@@ -163,7 +163,7 @@ const AROUND: [Place; 16] = [
 
 /// What waits then, for each chunk. The turn of a source wakes those to its north, itself, and those to its south, west and east,
 /// and the entries of the second group come behind those of the first.
-const LISTS: [&[Place]; 6] = [
+const LISTS: [&[Column]; 6] = [
     &[(8, 7), (8, 8), (8, 9), (7, 8), (9, 8), (8, 15)],
     &[],
     &[(72, 7), (72, 8), (72, 9), (71, 8), (73, 8), (72, 15)],

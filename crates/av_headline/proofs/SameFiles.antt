@@ -4,17 +4,17 @@ use Rattle.std.specs.Prelude.{map, codes, option_map}
 use Rattle.std.specs.List.{AllByRecursion, list_any}
 use Rattle.std.proofs.Math.Bool.{or-true}
 use Rattle.av_document.proofs.Inside.{map_range_agree}
-use Rattle.av_types.specs.Places.{chunk_at, is_section_of}
-use Rattle.av_types.specs.declared.place.Pos.{Pos}
-use Rattle.av_types.specs.declared.place.ChunkPos.{ChunkPos}
-use Rattle.av_types.specs.declared.place.RegionPos.{RegionPos}
-use Rattle.av_types.specs.declared.place.Height.{Height}
+use Rattle.av_types.specs.Positions.{chunk_at, is_section_of}
+use Rattle.av_types.specs.declared.position.Pos.{Pos}
+use Rattle.av_types.specs.declared.position.ChunkPos.{ChunkPos}
+use Rattle.av_types.specs.declared.position.RegionPos.{RegionPos}
+use Rattle.av_types.specs.declared.position.Height.{Height}
 use Rattle.av_types.specs.declared.tick.Entry.{Entry}
 use Rattle.av_types.proofs.Coordinates.{region_back}
 use Rattle.av_files.proofs.Coordinates.{same_region-refl}
 use Rattle.av_files.proofs.SameLayout.{payload_if}
 use Rattle.av_tags.specs.Nbt.{members_of}
-use Rattle.av_tags.specs.Place.{with_tag}
+use Rattle.av_tags.specs.ByName.{with_tag}
 use Rattle.av_nbt.specs.Writing.{written_document}
 use Rattle.av_region.specs.Layout.{region_bytes, first_too_large}
 use Rattle.av_state.specs.BlockState.{BlockState}

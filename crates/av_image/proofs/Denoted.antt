@@ -7,16 +7,16 @@ use Rattle.std.proofs.lemmas.Bool.{and_parts, false≢true, or_right, or_parts}
 use Rattle.std.proofs.lemmas.Option.{none-some, same_Some, slice_get_within, get_or_from_slice_get}
 use Rattle.std.proofs.lemmas.List.{length-map}
 use Rattle.std.proofs.lemmas.List.FromFn.{length-map-range_with_len}
-use Rattle.av_types.specs.Places.{chunk_at, region_of, index_of, section_of, chunk_of, is_block_of, IsInLimits, place_of, section_index}
-use Rattle.av_types.specs.declared.place.Height.{Height}
+use Rattle.av_types.specs.Positions.{chunk_at, region_of, index_of, section_of, chunk_of, is_block_of, IsInLimits, place_of, section_index}
+use Rattle.av_types.specs.declared.position.Height.{Height}
 use Rattle.av_types.specs.Division.{divided}
 use Rattle.av_cells.specs.Grid.{number_in as number_in_filling}
 use Rattle.av_world.specs.Sections.{filling_in}
 use Rattle.av_world.specs.Views.{grid}
 use Rattle.av_image.proofs.Rises.{not_later_region, rises}
-use Rattle.av_types.specs.declared.place.Pos.{Pos}
-use Rattle.av_types.specs.declared.place.ChunkPos.{ChunkPos}
-use Rattle.av_types.specs.declared.place.RegionPos.{RegionPos}
+use Rattle.av_types.specs.declared.position.Pos.{Pos}
+use Rattle.av_types.specs.declared.position.ChunkPos.{ChunkPos}
+use Rattle.av_types.specs.declared.position.RegionPos.{RegionPos}
 use Rattle.av_types.proofs.Coordinates.{region_back, index_back}
 use Rattle.av_region.specs.Region.{stamp_of}
 use Rattle.av_state.specs.BlockState.{BlockState, air}
@@ -30,29 +30,29 @@ use Rattle.av_files.specs.Run.{stated}
 use Rattle.av_files.specs.Denotes.{IsSlot, DenotesFile, Denotes}
 use Rattle.av_files.proofs.Coordinates.{same_region_is, same_region-refl}
 use Rattle.av_files.proofs.Slots.{made_at}
-use Rattle.av_image.specs.declared.reading.places.Place.{Place}
-use Rattle.av_image.specs.declared.reading.places.Place.TheVariants.{Absent, Kept, Full}
+use Rattle.av_image.specs.declared.reading.stored.Stored.{Stored}
+use Rattle.av_image.specs.declared.reading.stored.Stored.TheVariants.{Absent, Kept, Full}
 use Rattle.av_image.specs.declared.reading.regions.ReadRegion.{ReadRegion}
 use Rattle.av_image.specs.declared.rest.Slot.{Slot}
 use Rattle.av_image.specs.declared.rest.RegionRest.{RegionRest}
 use Rattle.av_image.specs.declared.reading.splits.LoadedChunk.{LoadedChunk}
-use Rattle.av_image.specs.Placed.{WasPlaceRead, WasRegionRead, WereRegionsRead, are_stamps}
+use Rattle.av_image.specs.RegionsRead.{WasReadAt, WasRegionRead, WereRegionsRead, are_stamps}
 use Rattle.av_world.specs.Lands.{land_of}
 use Rattle.av_image.specs.Views.{rest_view, region_found, stamp_in, slot_in, slot_at, kept_in, chunk_rest_in}
-use Rattle.av_image.specs.Splits.{slot_of, placed_in, IsSplit, AreSplit, chunk_found, HasAt, IsWorldOf}
+use Rattle.av_image.specs.Splits.{slot_of, positioned_in, IsSplit, AreSplit, chunk_found, HasAt, IsWorldOf}
 use Rattle.av_image.specs.Saving.{IsSlotOf, IsRegionOf}
 use Rattle.av_image.proofs.Back.{other_region, chunk_in, found_away, found_from, found_none_of, or_none}
 use Rattle.av_image.proofs.Worlds.{found_append, first_some}
 use Rattle.av_image.proofs.OneSlot.{slot_is}
 
--- regions that were read have the files' places, and so have their rests
-pub places_same : (h : Height) (t : List BlockState) (fs : List File) (rs : List ReadRegion) (xs : List RegionRest) → WereRegionsRead h t fs rs → AreSplit rs xs → map (λ x. x.pos) xs ≡ map (λ f. f.pos) fs
-places_same h t [] [] [] w s = refl
-places_same h t (f ∷ fs) (r ∷ rs) (x ∷ xs) w s = let first = s.0.pos_is ∙ w.0.pos_is in let more = places_same h t fs rs xs w.1 s.1 in λ i. first i ∷ more i
-places_same h t [] [] (x ∷ xs) w s = absurd s
-places_same h t [] (r ∷ rs) xs w s = absurd w
-places_same h t (f ∷ fs) [] xs w s = absurd w
-places_same h t (f ∷ fs) (r ∷ rs) [] w s = absurd s
+-- regions that were read have the files' positions, and so have their rests
+pub indices_same : (h : Height) (t : List BlockState) (fs : List File) (rs : List ReadRegion) (xs : List RegionRest) → WereRegionsRead h t fs rs → AreSplit rs xs → map (λ x. x.pos) xs ≡ map (λ f. f.pos) fs
+indices_same h t [] [] [] w s = refl
+indices_same h t (f ∷ fs) (r ∷ rs) (x ∷ xs) w s = let first = s.0.pos_is ∙ w.0.pos_is in let more = indices_same h t fs rs xs w.1 s.1 in λ i. first i ∷ more i
+indices_same h t [] [] (x ∷ xs) w s = absurd s
+indices_same h t [] (r ∷ rs) xs w s = absurd w
+indices_same h t (f ∷ fs) [] xs w s = absurd w
+indices_same h t (f ∷ fs) (r ∷ rs) [] w s = absurd s
 
 -- no region of a rising list comes again
 pub record NotAgain (p : RegionPos) (ps : List RegionPos) : Type 0 where
@@ -64,10 +64,10 @@ IsOf ps p = list_any (same_region p) ps ≡ true
 
 pub record Tells (whole : List RegionRest) (found : List LoadedChunk) (rs : List ReadRegion) (xs : List RegionRest) : Type 0 where
   pub region : (p : RegionPos) → IsOf (map (λ x. x.pos) xs) p → region_found whole p ≡ region_found xs p
-  pub chunk : (c : ChunkPos) → IsOf (map (λ x. x.pos) xs) (region_of c) → chunk_found found c ≡ chunk_found (flat_map placed_in rs) c
+  pub chunk : (c : ChunkPos) → IsOf (map (λ x. x.pos) xs) (region_of c) → chunk_found found c ≡ chunk_found (flat_map positioned_in rs) c
 
-few_of : (h : Height) (t : List BlockState) (f : File) (r : ReadRegion) → WasRegionRead h t f r → 0 + length r.places.items ≤ 1024
-few_of h t f r w = omega (arith, w.places_are.many)
+few_of : (h : Height) (t : List BlockState) (f : File) (r : ReadRegion) → WasRegionRead h t f r → 0 + length r.stored.items ≤ 1024
+few_of h t f r w = omega (arith, w.stored_are.many)
 
 tells_rest : (h : Height) (t : List BlockState) (whole : List RegionRest) (found : List LoadedChunk) (f : File) (r : ReadRegion) (x : RegionRest) (rs : List ReadRegion) (xs : List RegionRest)
     → WasRegionRead h t f r → IsSplit r x → NotAgain x.pos (map (λ x. x.pos) xs) → Tells whole found (r ∷ rs) (x ∷ xs) → Tells whole found rs xs
@@ -76,17 +76,17 @@ tells_rest h t whole found f r x rs xs w s n tells = record {
   chunk = λ c is.
       let away : same_region r.pos (region_of c) ≡ false = ap (λ p. same_region p (region_of c)) (sym s.pos_is) ∙ n.none (region_of c) is in
       tells.chunk c (or_right (same_region (region_of c) x.pos) (list_any (same_region (region_of c)) (map (λ x. x.pos) xs)) is)
-      ∙ found_none_of (placed_in r) (flat_map placed_in rs) c (found_away r.pos 0 r.places.items c (few_of h t f r w) away);
+      ∙ found_none_of (positioned_in r) (flat_map positioned_in rs) c (found_away r.pos 0 r.stored.items c (few_of h t f r w) away);
 }
 
 -- chunks of other regions are not found
 pub found_elsewhere : (h : Height) (t : List BlockState) (fs : List File) (rs : List ReadRegion) (xs : List RegionRest) → WereRegionsRead h t fs rs → AreSplit rs xs → (c : ChunkPos)
-    → list_any (same_region (region_of c)) (map (λ x. x.pos) xs) ≡ false → chunk_found (flat_map placed_in rs) c ≡ None
+    → list_any (same_region (region_of c)) (map (λ x. x.pos) xs) ≡ false → chunk_found (flat_map positioned_in rs) c ≡ None
 found_elsewhere h t [] [] [] w s c e = refl
 found_elsewhere h t (f ∷ fs) (r ∷ rs) (x ∷ xs) w s c e =
     let parts = or_parts (same_region (region_of c) x.pos) (list_any (same_region (region_of c)) (map (λ x. x.pos) xs)) e in
     let away : same_region r.pos (region_of c) ≡ false = ap (λ p. same_region p (region_of c)) (sym s.0.pos_is) ∙ other_region (region_of c) x.pos parts.0 in
-    found_none_of (placed_in r) (flat_map placed_in rs) c (found_away r.pos 0 r.places.items c (few_of h t f r w.0) away) ∙ found_elsewhere h t fs rs xs w.1 s.1 c parts.1
+    found_none_of (positioned_in r) (flat_map positioned_in rs) c (found_away r.pos 0 r.stored.items c (few_of h t f r w.0) away) ∙ found_elsewhere h t fs rs xs w.1 s.1 c parts.1
 found_elsewhere h t [] [] (x ∷ xs) w s c e = absurd s
 found_elsewhere h t [] (r ∷ rs) xs w s c e = absurd w
 found_elsewhere h t (f ∷ fs) [] xs w s c e = absurd w
@@ -104,25 +104,25 @@ get_within [] i lt = absurd (omega (arith, lt))
 get_within (x ∷ xs) zero lt = (x, refl)
 get_within (x ∷ xs) (suc i) lt = get_within xs i (omega (arith, lt))
 
--- each place has its chunk in the world, or none
-has_place : (h : Height) (t : List BlockState) (whole : List RegionRest) (found : List LoadedChunk) (w : World) (f : File) (r : ReadRegion) (x : RegionRest) (rs : List ReadRegion) (xs : List RegionRest)
-    → IsWorldOf h found w → WasRegionRead h t f r → IsSplit r x → Tells whole found (r ∷ rs) (x ∷ xs) → ((c : ChunkPos) → IsOf (map (λ x. x.pos) (x ∷ xs)) (region_of c) → same_region (region_of c) r.pos ≡ true → chunk_found (flat_map placed_in rs) c ≡ None)
-    → (i : ℕ) → i < 1024 → (p : Place) → slice_get r.places.items i ≡ Some p → HasAt h w (chunk_at f.pos i) (chunk_in (Some p))
-has_place h t whole found w f r x rs xs has was split tells alone i lt p at =
+-- each index has its chunk in the world, or none
+has_item : (h : Height) (t : List BlockState) (whole : List RegionRest) (found : List LoadedChunk) (w : World) (f : File) (r : ReadRegion) (x : RegionRest) (rs : List ReadRegion) (xs : List RegionRest)
+    → IsWorldOf h found w → WasRegionRead h t f r → IsSplit r x → Tells whole found (r ∷ rs) (x ∷ xs) → ((c : ChunkPos) → IsOf (map (λ x. x.pos) (x ∷ xs)) (region_of c) → same_region (region_of c) r.pos ≡ true → chunk_found (flat_map positioned_in rs) c ≡ None)
+    → (i : ℕ) → i < 1024 → (p : Stored) → slice_get r.stored.items i ≡ Some p → HasAt h w (chunk_at f.pos i) (chunk_in (Some p))
+has_item h t whole found w f r x rs xs has was split tells alone i lt p at =
     let c = chunk_at f.pos i in
     let own : region_of c ≡ f.pos = region_back f.pos i lt in
     let pos_is : x.pos ≡ f.pos = split.pos_is ∙ was.pos_is in
     let among : IsOf (map (λ x. x.pos) (x ∷ xs)) f.pos = ap (λ b. b || list_any (same_region f.pos) (map (λ x. x.pos) xs)) (ap (λ p. same_region f.pos p) pos_is ∙ same_region-refl f.pos) in
     let is_among : IsOf (map (λ x. x.pos) (x ∷ xs)) (region_of c) = subst (λ q. IsOf (map (λ x. x.pos) (x ∷ xs)) q) (sym own) among in
-    let rest : chunk_found (flat_map placed_in rs) c ≡ None = alone c is_among (ap (λ q. same_region q r.pos) own ∙ (ap (λ q. same_region f.pos q) was.pos_is ∙ same_region-refl f.pos)) in
-    let from : chunk_found (placed_in r) c ≡ chunk_in (Some p) =
-    ap (λ q. chunk_found (placed_in r) (chunk_at q i)) (sym was.pos_is) ∙ (found_from r.pos 0 r.places.items i i (few_of h t f r was) (omega arith) lt ∙ ap chunk_in at) in
+    let rest : chunk_found (flat_map positioned_in rs) c ≡ None = alone c is_among (ap (λ q. same_region q r.pos) own ∙ (ap (λ q. same_region f.pos q) was.pos_is ∙ same_region-refl f.pos)) in
+    let from : chunk_found (positioned_in r) c ≡ chunk_in (Some p) =
+    ap (λ q. chunk_found (positioned_in r) (chunk_at q i)) (sym was.pos_is) ∙ (found_from r.pos 0 r.stored.items i i (few_of h t f r was) (omega arith) lt ∙ ap chunk_in at) in
     let chunk : chunk_found found c ≡ chunk_in (Some p) =
-    tells.chunk c is_among ∙ (found_append (placed_in r) (flat_map placed_in rs) c ∙ (ap (λ o. first_some (chunk_found (placed_in r) c) o) rest ∙ (or_none (chunk_found (placed_in r) c) ∙ from))) in
+    tells.chunk c is_among ∙ (found_append (positioned_in r) (flat_map positioned_in rs) c ∙ (ap (λ o. first_some (chunk_found (positioned_in r) c) o) rest ∙ (or_none (chunk_found (positioned_in r) c) ∙ from))) in
     subst (HasAt h w c) chunk (has.each c)
 
 file_denoted : (h : Height) (t : List BlockState) (whole : List RegionRest) (found : List LoadedChunk) (w : World) (f : File) (r : ReadRegion) (x : RegionRest) (rs : List ReadRegion) (xs : List RegionRest)
-    → IsWorldOf h found w → WasRegionRead h t f r → IsSplit r x → Tells whole found (r ∷ rs) (x ∷ xs) → ((c : ChunkPos) → IsOf (map (λ x. x.pos) (x ∷ xs)) (region_of c) → same_region (region_of c) r.pos ≡ true → chunk_found (flat_map placed_in rs) c ≡ None)
+    → IsWorldOf h found w → WasRegionRead h t f r → IsSplit r x → Tells whole found (r ∷ rs) (x ∷ xs) → ((c : ChunkPos) → IsOf (map (λ x. x.pos) (x ∷ xs)) (region_of c) → same_region (region_of c) r.pos ≡ true → chunk_found (flat_map positioned_in rs) c ≡ None)
     → DenotesFile h (stated t (land_of w)) (rest_view whole) f
 file_denoted h t whole found w f r x rs xs has was split tells alone = record {
   limits = was.limits;
@@ -142,22 +142,22 @@ file_denoted h t whole found w f r x rs xs has was split tells alone = record {
   slot : (i : ℕ) → i < 1024 → IsSlot h (stated t (land_of w)) (rest_view whole) f.bytes (chunk_at f.pos i) i
   slot i lt =
       let c = chunk_at f.pos i in
-      let at = get_within r.places.items i (omega (arith, was.places_are.many, lt)) in
+      let at = get_within r.stored.items i (omega (arith, was.stored_are.many, lt)) in
       let p = at.0 in
       let stays : slot_at whole c ≡ Some (slot_of p) =
       ap (λ q. slot_in (region_found whole q) (index_of c)) (region_back f.pos i lt) ∙ (ap (λ o. slot_in o (index_of c)) here
-      ∙ (ap (λ j. slice_get x.slots.items j) (index_back f.pos i lt) ∙ (ap (λ l. slice_get l i) split.slots_are ∙ get_map slot_of r.places.items i p at.1))) in
-      slot_is h t f.bytes c i p w (rest_view whole) (was.places_are.each i p at.1) (has_place h t whole found w f r x rs xs has was split tells alone i lt p at.1) (ap kept_in stays) (ap chunk_rest_in stays)
+      ∙ (ap (λ j. slice_get x.slots.items j) (index_back f.pos i lt) ∙ (ap (λ l. slice_get l i) split.slots_are ∙ get_map slot_of r.stored.items i p at.1))) in
+      slot_is h t f.bytes c i p w (rest_view whole) (was.stored_are.each i p at.1) (has_item h t whole found w f r x rs xs has was split tells alone i lt p at.1) (ap kept_in stays) (ap chunk_rest_in stays)
 
 -- ---- one region's rest
 
-slot_own : (h : Height) (t file : _) (c : ChunkPos) (i : ℕ) (w : World) (p : Place) → WasPlaceRead h t file c i p → HasAt h w c (chunk_in (Some p)) → IsSlotOf h w.positions.items c (slot_of p)
+slot_own : (h : Height) (t file : _) (c : ChunkPos) (i : ℕ) (w : World) (p : Stored) → WasReadAt h t file c i p → HasAt h w c (chunk_in (Some p)) → IsSlotOf h w.positions.items c (slot_of p)
 slot_own h t file c i w Absent was has = has.0
 slot_own h t file c i w (Kept p) was has = has.0
-slot_own h t file c i w (Full chunk rest) was has = (has.0, was.read.read.loaded.place_is, was.read.read.loaded.height_is)
+slot_own h t file c i w (Full chunk rest) was has = (has.0, was.read.read.loaded.pos_is, was.read.read.loaded.height_is)
 
 region_own : (h : Height) (t : List BlockState) (whole : List RegionRest) (found : List LoadedChunk) (w : World) (f : File) (r : ReadRegion) (x : RegionRest) (rs : List ReadRegion) (xs : List RegionRest)
-    → IsWorldOf h found w → WasRegionRead h t f r → IsSplit r x → Tells whole found (r ∷ rs) (x ∷ xs) → ((c : ChunkPos) → IsOf (map (λ x. x.pos) (x ∷ xs)) (region_of c) → same_region (region_of c) r.pos ≡ true → chunk_found (flat_map placed_in rs) c ≡ None)
+    → IsWorldOf h found w → WasRegionRead h t f r → IsSplit r x → Tells whole found (r ∷ rs) (x ∷ xs) → ((c : ChunkPos) → IsOf (map (λ x. x.pos) (x ∷ xs)) (region_of c) → same_region (region_of c) r.pos ≡ true → chunk_found (flat_map positioned_in rs) c ≡ None)
     → IsRegionOf h w.positions.items x
 region_own h t whole found w f r x rs xs has was split tells alone = record {
   limits = subst IsInLimits (sym pos_is) was.limits;
@@ -169,17 +169,17 @@ region_own h t whole found w f r x rs xs has was split tells alone = record {
   pos_is = split.pos_is ∙ was.pos_is
 
   many : length x.slots.items ≡ 1024
-  many = ap length split.slots_are ∙ (length-map r.places.items slot_of ∙ was.places_are.many)
+  many = ap length split.slots_are ∙ (length-map r.stored.items slot_of ∙ was.stored_are.many)
 
   each : (i : ℕ) (s : Slot) → slice_get x.slots.items i ≡ Some s → IsSlotOf h w.positions.items (chunk_at x.pos i) s
   each i s e =
       let less : i < length x.slots.items = slice_get_within x.slots.items i s e in
       let lt : i < 1024 = omega (arith, less, many) in
-      let at = get_within r.places.items i (omega (arith, was.places_are.many, lt)) in
-      let same : slot_of at.0 ≡ s = same_Some (slot_of at.0) s (sym (get_map slot_of r.places.items i at.0 at.1) ∙ (ap (λ l. slice_get l i) (sym split.slots_are) ∙ e)) in
+      let at = get_within r.stored.items i (omega (arith, was.stored_are.many, lt)) in
+      let same : slot_of at.0 ≡ s = same_Some (slot_of at.0) s (sym (get_map slot_of r.stored.items i at.0 at.1) ∙ (ap (λ l. slice_get l i) (sym split.slots_are) ∙ e)) in
       subst (λ q. IsSlotOf h w.positions.items (chunk_at q i) s) (sym pos_is)
       (subst (λ z. IsSlotOf h w.positions.items (chunk_at f.pos i) z) same
-      (slot_own h t f.bytes (chunk_at f.pos i) i w at.0 (was.places_are.each i at.0 at.1) (has_place h t whole found w f r x rs xs has was split tells alone i lt at.0 at.1)))
+      (slot_own h t f.bytes (chunk_at f.pos i) i w at.0 (was.stored_are.each i at.0 at.1) (has_item h t whole found w f r x rs xs has was split tells alone i lt at.0 at.1)))
 
 -- ---- all files
 
@@ -188,7 +188,7 @@ not_again p ps h = record { none = λ q is. not_later_region p q ps h is }
 
 -- chunks of a region are in no later one
 alone : (h : Height) (t : List BlockState) (f : File) (r : ReadRegion) (x : RegionRest) (fs : List File) (rs : List ReadRegion) (xs : List RegionRest) → IsSplit r x → WereRegionsRead h t fs rs → AreSplit rs xs → NotAgain x.pos (map (λ x. x.pos) xs)
-    → (c : ChunkPos) → IsOf (map (λ x. x.pos) (x ∷ xs)) (region_of c) → same_region (region_of c) r.pos ≡ true → chunk_found (flat_map placed_in rs) c ≡ None
+    → (c : ChunkPos) → IsOf (map (λ x. x.pos) (x ∷ xs)) (region_of c) → same_region (region_of c) r.pos ≡ true → chunk_found (flat_map positioned_in rs) c ≡ None
 alone h t f r x fs rs xs split was rest n c is own = found_elsewhere h t fs rs xs was rest c (by (list_any (same_region (region_of c)) (map (λ x. x.pos) xs)) refl) where
   at : x.pos ≡ region_of c
   at = split.pos_is ∙ sym (same_region_is (region_of c) r.pos own)
@@ -271,30 +271,30 @@ none_there h w c None has e = has.2
 none_there h w c (Some x) has e = absurd (false≢true (sym e ∙ has.0))
 
 pub denotes_read : (h : Height) (t more : List BlockState) (files : List File) (rs : List ReadRegion) (xs : List RegionRest) (w : World) → take 10 t ≡ air ∷ more
-    → regions_rise (map (λ f. f.pos) (in_order files)) ≡ true → WereRegionsRead h t (in_order files) rs → AreSplit rs xs → IsWorldOf h (flat_map placed_in rs) w
+    → regions_rise (map (λ f. f.pos) (in_order files)) ≡ true → WereRegionsRead h t (in_order files) rs → AreSplit rs xs → IsWorldOf h (flat_map positioned_in rs) w
     → Denotes h files (stated t (land_of w)) (rest_view xs)
 denotes_read h t more files rs xs w begins rise was split has =
-    let same = places_same h t (in_order files) rs xs was split in
+    let same = indices_same h t (in_order files) rs xs was split in
     let up : regions_rise (map (λ x. x.pos) xs) ≡ true = ap regions_rise same ∙ rise in
     record {
       apart = up;
       regions = same;
       each = all_unordered (DenotesFile h (stated t (land_of w)) (rest_view xs)) (λ a b. region_order a.pos b.pos) files
-          (all_files h t xs (flat_map placed_in rs) w (in_order files) rs xs has was split up (record { region = λ p is. refl; chunk = λ c is. refl }));
+          (all_files h t xs (flat_map positioned_in rs) w (in_order files) rs xs has was split up (record { region = λ p is. refl; chunk = λ c is. refl }));
       height = has.height_is;
       rise = positions_rise w;
       others = λ c there. other c there (list_any (same_region (region_of c)) (map (λ x. x.pos) xs)) refl;
-      air_elsewhere = λ p out. air_first t more ((land_of w).at p) begins (zero_elsewhere h w (flat_map placed_in rs) has p out);
-      none_elsewhere = λ c out. none_there h w c (chunk_found (flat_map placed_in rs) c) (has.each c) out;
+      air_elsewhere = λ p out. air_first t more ((land_of w).at p) begins (zero_elsewhere h w (flat_map positioned_in rs) has p out);
+      none_elsewhere = λ c out. none_there h w c (chunk_found (flat_map positioned_in rs) c) (has.each c) out;
     } where
       other : (c : ChunkPos) → has_chunk w.positions.items c ≡ true → (b : Bool) → list_any (same_region (region_of c)) (map (λ x. x.pos) xs) ≡ b → b ≡ true
       other c there true e = refl
-      other c there false e = absurd (was_found h w c (chunk_found (flat_map placed_in rs) c) (has.each c) there (found_elsewhere h t (in_order files) rs xs was split c e))
+      other c there false e = absurd (was_found h w c (chunk_found (flat_map positioned_in rs) c) (has.each c) there (found_elsewhere h t (in_order files) rs xs was split c e))
 
 -- the rest is one of the world
 pub rest_read : (h : Height) (t : List BlockState) (fs : List File) (rs : List ReadRegion) (xs : List RegionRest) (w : World)
-    → regions_rise (map (λ f. f.pos) fs) ≡ true → WereRegionsRead h t fs rs → AreSplit rs xs → IsWorldOf h (flat_map placed_in rs) w
+    → regions_rise (map (λ f. f.pos) fs) ≡ true → WereRegionsRead h t fs rs → AreSplit rs xs → IsWorldOf h (flat_map positioned_in rs) w
     → (regions_rise (map (λ x. x.pos) xs) ≡ true) × AllByRecursion (IsRegionOf h w.positions.items) xs
 rest_read h t fs rs xs w rise was split has =
-    let up : regions_rise (map (λ x. x.pos) xs) ≡ true = ap regions_rise (places_same h t fs rs xs was split) ∙ rise in
-    (up, all_regions h t xs (flat_map placed_in rs) w fs rs xs has was split up (record { region = λ p is. refl; chunk = λ c is. refl }))
+    let up : regions_rise (map (λ x. x.pos) xs) ≡ true = ap regions_rise (indices_same h t fs rs xs was split) ∙ rise in
+    (up, all_regions h t xs (flat_map positioned_in rs) w fs rs xs has was split up (record { region = λ p is. refl; chunk = λ c is. refl }))

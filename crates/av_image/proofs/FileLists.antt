@@ -4,8 +4,8 @@ use Rattle.std.specs.List.{AllByRecursion, list_any}
 use Rattle.std.specs.Ordering.{is_lt}
 use Rattle.std.specs.declared.cmp.Ordering.{Ordering}
 use Rattle.std.proofs.lemmas.Bool.{and_parts, and_from, false≢true, true≢false, or_parts}
-use Rattle.av_types.specs.Places.{IsInLimits}
-use Rattle.av_types.specs.declared.place.RegionPos.{RegionPos}
+use Rattle.av_types.specs.Positions.{IsInLimits}
+use Rattle.av_types.specs.declared.position.RegionPos.{RegionPos}
 use Rattle.std.proofs.lemmas.List.Elements.{All-cons}
 use Rattle.av_types.specs.Order.{inserted, ordered}
 use Rattle.av_files.specs.Files.{File, in_order, regions_rise, region_after, share_a_region}

@@ -4,9 +4,9 @@ use Rattle.std.specs.Prelude.{slice_get, IfSome}
 use Rattle.std.specs.List.{AllByRecursion}
 use Rattle.std.proofs.lemmas.Bool.{true≢false, le-ltb, and_right}
 use Rattle.av_types.specs.Faults.{least}
-use Rattle.av_types.specs.declared.place.Pos.{Pos}
-use Rattle.av_types.specs.declared.place.ChunkPos.{ChunkPos}
-use Rattle.av_types.specs.declared.place.Height.{Height}
+use Rattle.av_types.specs.declared.position.Pos.{Pos}
+use Rattle.av_types.specs.declared.position.ChunkPos.{ChunkPos}
+use Rattle.av_types.specs.declared.position.Height.{Height}
 use Rattle.av_tags.specs.Nbt.{Document, NamedTag}
 use Rattle.av_types.specs.Options.{◌>>=◌}
 use Rattle.av_tags.specs.Shape.{or_else}
@@ -92,7 +92,7 @@ module _ (c : ChunkPos) (h : Height) (d : Document) (old new : List BlockState) 
         within = l.within;
         ints = l.ints;
         pending = l.pending;
-        place_is = l.place_is;
+        pos_is = l.pos_is;
         height_is = l.height_is;
         states = same;
       }

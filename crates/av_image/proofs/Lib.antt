@@ -1,4 +1,4 @@
-pub mod OnePlace
+pub mod OneIndex
 pub mod Growing
 pub mod Ways
 pub mod Worlds
@@ -13,6 +13,6 @@ pub mod OneChunk
 pub mod Written
 pub mod Ready
 pub mod PayloadLists
-pub mod Placing
+pub mod SlotPayloads
 pub mod Crossings
 pub mod Grown

@@ -5,11 +5,11 @@ use Rattle.std.specs.List.{AllByRecursion, list_any, flat_map}
 use Rattle.std.specs.Ordering.{is_lt}
 use Rattle.std.proofs.lemmas.Bool.{and_parts, and_from, false≢true, or_parts}
 use Rattle.std.proofs.lemmas.Option.{none-some, same_Some}
-use Rattle.av_types.specs.Places.{chunk_at, region_of, section_of, chunk_of, is_block_of, IsInLimits}
-use Rattle.av_types.specs.declared.place.Height.{Height}
-use Rattle.av_types.specs.declared.place.Pos.{Pos}
-use Rattle.av_types.specs.declared.place.ChunkPos.{ChunkPos}
-use Rattle.av_types.specs.declared.place.RegionPos.{RegionPos}
+use Rattle.av_types.specs.Positions.{chunk_at, region_of, section_of, chunk_of, is_block_of, IsInLimits}
+use Rattle.av_types.specs.declared.position.Height.{Height}
+use Rattle.av_types.specs.declared.position.Pos.{Pos}
+use Rattle.av_types.specs.declared.position.ChunkPos.{ChunkPos}
+use Rattle.av_types.specs.declared.position.RegionPos.{RegionPos}
 use Rattle.av_state.specs.BlockState.{BlockState}
 use Rattle.av_chunk.specs.declared.chunk.Chunk.{Chunk}
 use Rattle.av_cells.specs.Positions.{same_chunk}
@@ -21,9 +21,9 @@ use Rattle.std.proofs.lemmas.List.{length-append}
 use Rattle.std.proofs.lemmas.List.Elements.{All-cons, All-from_recursion}
 use Rattle.av_types.proofs.Each.{each_then, each_append}
 use Rattle.av_types.specs.Division.{divided}
-use Rattle.av_types.specs.Places.{place_of, is_section_of}
+use Rattle.av_types.specs.Positions.{place_of, is_section_of}
 use Rattle.av_types.proofs.Coordinates.{region_back}
-use Rattle.av_types.proofs.SamePlaces.{same_chunk_is}
+use Rattle.av_types.proofs.SamePositions.{same_chunk_is}
 use Rattle.av_tags.specs.Nbt.{Document}
 use Rattle.av_types.specs.Options.{◌>>=◌}
 use Rattle.av_tags.specs.Shape.{or_else}
@@ -45,18 +45,18 @@ use Rattle.av_types.specs.Order.{inserted, ordered}
 use Rattle.av_files.specs.Files.{File, regions_rise, region_after}
 use Rattle.av_region_files.specs.Regions.{same_region}
 use Rattle.av_files.specs.Laws.{StampsFit}
-use Rattle.av_image.specs.declared.reading.places.Place.{Place}
-use Rattle.av_image.specs.declared.reading.places.Place.TheVariants.{Absent, Kept, Full}
+use Rattle.av_image.specs.declared.reading.stored.Stored.{Stored}
+use Rattle.av_image.specs.declared.reading.stored.Stored.TheVariants.{Absent, Kept, Full}
 use Rattle.av_image.specs.declared.reading.regions.ReadRegion.{ReadRegion}
 use Rattle.av_image.specs.declared.rest.RegionRest.{RegionRest}
 use Rattle.av_image.specs.declared.reading.splits.LoadedChunk.{LoadedChunk}
-use Rattle.av_image.specs.Placed.{WasPlaceRead, WasRegionRead, WereRegionsRead}
-use Rattle.av_image.specs.Loading.{placed_order}
+use Rattle.av_image.specs.RegionsRead.{WasReadAt, WasRegionRead, WereRegionsRead}
+use Rattle.av_image.specs.Loading.{positioned_order}
 use Rattle.av_land.specs.Land.{is_loaded}
 use Rattle.av_world.specs.Views.{grid}
 use Rattle.av_world.specs.Lands.{land_of, IsUncarved}
 use Rattle.av_image.specs.Views.{rest_view, region_found, stamp_in}
-use Rattle.av_image.specs.Splits.{placed_in, placed_from, AreSplit, chunk_found, ArePlacedOnce, HasAt, IsWorldOf}
+use Rattle.av_image.specs.Splits.{positioned_in, positioned_from, AreSplit, chunk_found, ArePositionedOnce, HasAt, IsWorldOf}
 use Rattle.av_image.proofs.Back.{other_region, found_away, found_before, found_none_of}
 use Rattle.av_image.proofs.Worlds.{not_same}
 use Rattle.av_image.proofs.Sorting.{found_inserted, found_ordered}
@@ -72,15 +72,15 @@ limits_of h t (f ∷ fs) (r ∷ rs) w = All-cons (λ r. IsInLimits r.pos) r rs (
 limits_of h t [] (r ∷ rs) w = absurd w
 limits_of h t (f ∷ fs) [] w = absurd w
 
-pub counts_of : (h : Height) (t : List BlockState) (fs : List File) (rs : List ReadRegion) → WereRegionsRead h t fs rs → All (λ r. length r.places.items ≤ 1024) rs
+pub counts_of : (h : Height) (t : List BlockState) (fs : List File) (rs : List ReadRegion) → WereRegionsRead h t fs rs → All (λ r. length r.stored.items ≤ 1024) rs
 counts_of h t [] [] w = λ k d lt. absurd (omega (arith, lt))
-counts_of h t (f ∷ fs) (r ∷ rs) w = All-cons (λ r. length r.places.items ≤ 1024) r rs (let e = w.0.places_are.many in omega (arith, e)) (counts_of h t fs rs w.1)
+counts_of h t (f ∷ fs) (r ∷ rs) w = All-cons (λ r. length r.stored.items ≤ 1024) r rs (let e = w.0.stored_are.many in omega (arith, e)) (counts_of h t fs rs w.1)
 counts_of h t [] (r ∷ rs) w = absurd w
 counts_of h t (f ∷ fs) [] w = absurd w
 
 -- ---- the chunks that were found
 
-pub record IsGoodPlaced (h : Height) (t : List BlockState) (x : LoadedChunk) : Type 0 where
+pub record IsGoodPositioned (h : Height) (t : List BlockState) (x : LoadedChunk) : Type 0 where
   pub limits : IsInLimits (region_of x.at)
   pub fits : IsNewChunk x.at h x.chunk
   pub numbers : (p : Pos) → chunk_of p ≡ x.at → number_in_filling (chunk_grid h x.chunk (section_of p)) (place_of p) < length t
@@ -117,12 +117,12 @@ numbers_less h c d old new t chunk rest l more some p e = by (is_section_of h (d
   by true s = number_less new t (section_in h chunk (divided p.y 16)) (place_of p) more (l.numbered p (inside h c p e s))
   by false s = some
 
-shift : (h : Height) (t : List BlockState) (f : File) (n : ℕ) (p : Place) (ps : List Place) → ((k : ℕ) (q : Place) → slice_get (p ∷ ps) k ≡ Some q → WasPlaceRead h t f.bytes (chunk_at f.pos (n + k)) (n + k) q)
-    → (k : ℕ) (q : Place) → slice_get ps k ≡ Some q → WasPlaceRead h t f.bytes (chunk_at f.pos (n + 1 + k)) (n + 1 + k) q
-shift h t f n p ps each k q e = let same : n + suc k ≡ n + 1 + k = omega arith in subst (λ j. WasPlaceRead h t f.bytes (chunk_at f.pos j) j q) same (each (suc k) q e)
+shift : (h : Height) (t : List BlockState) (f : File) (n : ℕ) (p : Stored) (ps : List Stored) → ((k : ℕ) (q : Stored) → slice_get (p ∷ ps) k ≡ Some q → WasReadAt h t f.bytes (chunk_at f.pos (n + k)) (n + k) q)
+    → (k : ℕ) (q : Stored) → slice_get ps k ≡ Some q → WasReadAt h t f.bytes (chunk_at f.pos (n + 1 + k)) (n + 1 + k) q
+shift h t f n p ps each k q e = let same : n + suc k ≡ n + 1 + k = omega arith in subst (λ j. WasReadAt h t f.bytes (chunk_at f.pos j) j q) same (each (suc k) q e)
 
-good_from : (h : Height) (t : List BlockState) (f : File) (r : RegionPos) (n : ℕ) (ps : List Place) → 0 < length t → IsInLimits r → r ≡ f.pos → n + length ps ≤ 1024
-    → ((k : ℕ) (p : Place) → slice_get ps k ≡ Some p → WasPlaceRead h t f.bytes (chunk_at f.pos (n + k)) (n + k) p) → AllByRecursion (IsGoodPlaced h t) (placed_from r n ps)
+good_from : (h : Height) (t : List BlockState) (f : File) (r : RegionPos) (n : ℕ) (ps : List Stored) → 0 < length t → IsInLimits r → r ≡ f.pos → n + length ps ≤ 1024
+    → ((k : ℕ) (p : Stored) → slice_get ps k ≡ Some p → WasReadAt h t f.bytes (chunk_at f.pos (n + k)) (n + k) p) → AllByRecursion (IsGoodPositioned h t) (positioned_from r n ps)
 good_from h t f r n [] some low is few each = tt
 good_from h t f r n (Absent ∷ ps) some low is few each = good_from h t f r (n + 1) ps some low is (omega (arith, few)) (shift h t f n Absent ps each)
 good_from h t f r n (Kept p ∷ ps) some low is few each = good_from h t f r (n + 1) ps some low is (omega (arith, few)) (shift h t f n (Kept p) ps each)
@@ -131,7 +131,7 @@ good_from h t f r n (Full chunk rest ∷ ps) some low is few each =
     let l = was.read.read.loaded in
     let lt : n < 1024 = omega (arith, few) in
     let at : chunk_at f.pos (n + 0) ≡ chunk_at r n = (let z : n + 0 ≡ n = omega arith in ap (λ k. chunk_at f.pos k) z) ∙ ap (λ q. chunk_at q n) (sym is) in (
-      subst (λ c. IsGoodPlaced h t (record { at = c; chunk = chunk })) at (record {
+      subst (λ c. IsGoodPositioned h t (record { at = c; chunk = chunk })) at (record {
         limits = subst (λ c. IsInLimits (region_of c)) (sym at) (subst IsInLimits (sym (region_back r n lt)) low);
         fits = new_chunk h (chunk_at f.pos (n + 0)) was.read.read.document was.old was.new chunk rest l;
         numbers = numbers_less h (chunk_at f.pos (n + 0)) was.read.read.document was.old was.new t chunk rest l was.grown some;
@@ -141,34 +141,34 @@ good_from h t f r n (Full chunk rest ∷ ps) some low is few each =
     )
 
 -- each chunk that was found is one that a world takes
-pub placed_good : (h : Height) (t : List BlockState) (fs : List File) (rs : List ReadRegion) → 0 < length t → WereRegionsRead h t fs rs → AllByRecursion (IsGoodPlaced h t) (flat_map placed_in rs)
-placed_good h t [] [] some w = tt
-placed_good h t (f ∷ fs) (r ∷ rs) some w =
-    each_append (IsGoodPlaced h t) (placed_in r) (flat_map placed_in rs)
-    (good_from h t f r.pos 0 r.places.items some (subst IsInLimits (sym w.0.pos_is) w.0.limits) w.0.pos_is (let k = w.0.places_are.many in omega (arith, k)) (λ k p e. let z : k ≡ 0 + k = omega arith in subst (λ j. WasPlaceRead h t f.bytes (chunk_at f.pos j) j p) z (w.0.places_are.each k p e)))
-    (placed_good h t fs rs some w.1)
-placed_good h t [] (r ∷ rs) some w = absurd w
-placed_good h t (f ∷ fs) [] some w = absurd w
+pub positioned_good : (h : Height) (t : List BlockState) (fs : List File) (rs : List ReadRegion) → 0 < length t → WereRegionsRead h t fs rs → AllByRecursion (IsGoodPositioned h t) (flat_map positioned_in rs)
+positioned_good h t [] [] some w = tt
+positioned_good h t (f ∷ fs) (r ∷ rs) some w =
+    each_append (IsGoodPositioned h t) (positioned_in r) (flat_map positioned_in rs)
+    (good_from h t f r.pos 0 r.stored.items some (subst IsInLimits (sym w.0.pos_is) w.0.limits) w.0.pos_is (let k = w.0.stored_are.many in omega (arith, k)) (λ k p e. let z : k ≡ 0 + k = omega arith in subst (λ j. WasReadAt h t f.bytes (chunk_at f.pos j) j p) z (w.0.stored_are.each k p e)))
+    (positioned_good h t fs rs some w.1)
+positioned_good h t [] (r ∷ rs) some w = absurd w
+positioned_good h t (f ∷ fs) [] some w = absurd w
 
-pub placed_limits : (h : Height) (t : List BlockState) (fs : List File) (rs : List ReadRegion) → 0 < length t → WereRegionsRead h t fs rs → All (λ x. IsInLimits (region_of x.at)) (ordered placed_order (flat_map placed_in rs))
-placed_limits h t fs rs some w = All-from_recursion _ _ (each_then (IsGoodPlaced h t) (λ x. IsInLimits (region_of x.at)) (λ x g. g.limits) _ (all_ordered (IsGoodPlaced h t) placed_order (flat_map placed_in rs) (placed_good h t fs rs some w)))
+pub positioned_limits : (h : Height) (t : List BlockState) (fs : List File) (rs : List ReadRegion) → 0 < length t → WereRegionsRead h t fs rs → All (λ x. IsInLimits (region_of x.at)) (ordered positioned_order (flat_map positioned_in rs))
+positioned_limits h t fs rs some w = All-from_recursion _ _ (each_then (IsGoodPositioned h t) (λ x. IsInLimits (region_of x.at)) (λ x g. g.limits) _ (all_ordered (IsGoodPositioned h t) positioned_order (flat_map positioned_in rs) (positioned_good h t fs rs some w)))
 
-pub placed_fit : (h : Height) (t : List BlockState) (fs : List File) (rs : List ReadRegion) → 0 < length t → WereRegionsRead h t fs rs → All (λ x. IsNewChunk x.at h x.chunk) (ordered placed_order (flat_map placed_in rs))
-placed_fit h t fs rs some w = All-from_recursion _ _ (each_then (IsGoodPlaced h t) (λ x. IsNewChunk x.at h x.chunk) (λ x g. g.fits) _ (all_ordered (IsGoodPlaced h t) placed_order (flat_map placed_in rs) (placed_good h t fs rs some w)))
+pub positioned_fit : (h : Height) (t : List BlockState) (fs : List File) (rs : List ReadRegion) → 0 < length t → WereRegionsRead h t fs rs → All (λ x. IsNewChunk x.at h x.chunk) (ordered positioned_order (flat_map positioned_in rs))
+positioned_fit h t fs rs some w = All-from_recursion _ _ (each_then (IsGoodPositioned h t) (λ x. IsNewChunk x.at h x.chunk) (λ x g. g.fits) _ (all_ordered (IsGoodPositioned h t) positioned_order (flat_map positioned_in rs) (positioned_good h t fs rs some w)))
 
 -- ---- each once
 
-once_append : (xs ys : List LoadedChunk) → ArePlacedOnce xs → ArePlacedOnce ys → AllByRecursion (λ x. chunk_found ys x.at ≡ None) xs → ArePlacedOnce (xs ++ ys)
+once_append : (xs ys : List LoadedChunk) → ArePositionedOnce xs → ArePositionedOnce ys → AllByRecursion (λ x. chunk_found ys x.at ≡ None) xs → ArePositionedOnce (xs ++ ys)
 once_append [] ys o p h = p
 once_append (x ∷ xs) ys o p h = (found_none_of xs ys x.at o.0 ∙ h.0, once_append xs ys o.1 p h.1)
 
-once_from : (r : RegionPos) (n : ℕ) (ps : List Place) → n + length ps ≤ 1024 → ArePlacedOnce (placed_from r n ps)
+once_from : (r : RegionPos) (n : ℕ) (ps : List Stored) → n + length ps ≤ 1024 → ArePositionedOnce (positioned_from r n ps)
 once_from r n [] few = tt
 once_from r n (Absent ∷ ps) few = once_from r (n + 1) ps (omega (arith, few))
 once_from r n (Kept p ∷ ps) few = once_from r (n + 1) ps (omega (arith, few))
 once_from r n (Full chunk rest ∷ ps) few = (found_before r (n + 1) ps n (omega (arith, few)) (omega (arith, few)) (omega arith), once_from r (n + 1) ps (omega (arith, few)))
 
-all_from : (P : LoadedChunk → Type 0) (r : RegionPos) (n : ℕ) (ps : List Place) → n + length ps ≤ 1024 → ((i : ℕ) (x : Chunk) → i < 1024 → P (record { at = chunk_at r i; chunk = x })) → AllByRecursion P (placed_from r n ps)
+all_from : (P : LoadedChunk → Type 0) (r : RegionPos) (n : ℕ) (ps : List Stored) → n + length ps ≤ 1024 → ((i : ℕ) (x : Chunk) → i < 1024 → P (record { at = chunk_at r i; chunk = x })) → AllByRecursion P (positioned_from r n ps)
 all_from P r n [] few h = tt
 all_from P r n (Absent ∷ ps) few h = all_from P r (n + 1) ps (omega (arith, few)) h
 all_from P r n (Kept p ∷ ps) few h = all_from P r (n + 1) ps (omega (arith, few)) h
@@ -179,12 +179,12 @@ region_pos_is h t f r w i lt = region_back r.pos i lt ∙ w.pos_is
 
 -- chunks of a region that is not among these are not found
 found_not_in : (h : Height) (t : List BlockState) (fs : List File) (rs : List ReadRegion) → WereRegionsRead h t fs rs → (c : ChunkPos)
-    → list_any (same_region (region_of c)) (map (λ f. f.pos) fs) ≡ false → chunk_found (flat_map placed_in rs) c ≡ None
+    → list_any (same_region (region_of c)) (map (λ f. f.pos) fs) ≡ false → chunk_found (flat_map positioned_in rs) c ≡ None
 found_not_in h t [] [] w c e = refl
 found_not_in h t (f ∷ fs) (r ∷ rs) w c e =
     let parts = or_parts (same_region (region_of c) f.pos) (list_any (same_region (region_of c)) (map (λ f. f.pos) fs)) e in
     let away : same_region r.pos (region_of c) ≡ false = ap (λ p. same_region p (region_of c)) w.0.pos_is ∙ other_region (region_of c) f.pos parts.0 in
-    found_none_of (placed_in r) (flat_map placed_in rs) c (found_away r.pos 0 r.places.items c (let k = w.0.places_are.many in omega (arith, k)) away) ∙ found_not_in h t fs rs w.1 c parts.1
+    found_none_of (positioned_in r) (flat_map positioned_in rs) c (found_away r.pos 0 r.stored.items c (let k = w.0.stored_are.many in omega (arith, k)) away) ∙ found_not_in h t fs rs w.1 c parts.1
 found_not_in h t [] (r ∷ rs) w c e = absurd w
 found_not_in h t (f ∷ fs) [] w c e = absurd w
 
@@ -194,34 +194,34 @@ not_in_rest p ps h = by (list_any (same_region p) ps) refl where
   by true e = absurd (false≢true (sym (not_later_region p p ps h e) ∙ same_region-refl p))
   by false e = refl
 
-placed_once_read : (h : Height) (t : List BlockState) (fs : List File) (rs : List ReadRegion) → WereRegionsRead h t fs rs → regions_rise (map (λ f. f.pos) fs) ≡ true → ArePlacedOnce (flat_map placed_in rs)
-placed_once_read h t [] [] w rise = tt
-placed_once_read h t (f ∷ fs) (r ∷ rs) w rise =
-    let few : 0 + length r.places.items ≤ 1024 = let k = w.0.places_are.many in omega (arith, k) in
+positioned_once_read : (h : Height) (t : List BlockState) (fs : List File) (rs : List ReadRegion) → WereRegionsRead h t fs rs → regions_rise (map (λ f. f.pos) fs) ≡ true → ArePositionedOnce (flat_map positioned_in rs)
+positioned_once_read h t [] [] w rise = tt
+positioned_once_read h t (f ∷ fs) (r ∷ rs) w rise =
+    let few : 0 + length r.stored.items ≤ 1024 = let k = w.0.stored_are.many in omega (arith, k) in
     let more = and_parts (region_after f.pos (map (λ g. g.pos) fs)) (regions_rise (map (λ g. g.pos) fs)) rise in
-    once_append (placed_in r) (flat_map placed_in rs) (once_from r.pos 0 r.places.items few) (placed_once_read h t fs rs w.1 more.1)
-    (all_from (λ x. chunk_found (flat_map placed_in rs) x.at ≡ None) r.pos 0 r.places.items few
+    once_append (positioned_in r) (flat_map positioned_in rs) (once_from r.pos 0 r.stored.items few) (positioned_once_read h t fs rs w.1 more.1)
+    (all_from (λ x. chunk_found (flat_map positioned_in rs) x.at ≡ None) r.pos 0 r.stored.items few
     (λ i x lt. found_not_in h t fs rs w.1 (chunk_at r.pos i) (ap (λ q. list_any (same_region q) (map (λ g. g.pos) fs)) (region_pos_is h t f r w.0 i lt) ∙ not_in_rest f.pos (map (λ g. g.pos) fs) rise)))
-placed_once_read h t [] (r ∷ rs) w rise = absurd w
-placed_once_read h t (f ∷ fs) [] w rise = absurd w
+positioned_once_read h t [] (r ∷ rs) w rise = absurd w
+positioned_once_read h t (f ∷ fs) [] w rise = absurd w
 
-once_inserted : (x : LoadedChunk) (xs : List LoadedChunk) → chunk_found xs x.at ≡ None → ArePlacedOnce xs → ArePlacedOnce (inserted placed_order x xs)
+once_inserted : (x : LoadedChunk) (xs : List LoadedChunk) → chunk_found xs x.at ≡ None → ArePositionedOnce xs → ArePositionedOnce (inserted positioned_order x xs)
 once_inserted x [] n o = (refl, tt)
-once_inserted x (y ∷ ys) n o = by (is_lt (placed_order y x)) (parts (same_chunk y.at x.at) n) (λ k. once_inserted x ys k o.1) where
+once_inserted x (y ∷ ys) n o = by (is_lt (positioned_order y x)) (parts (same_chunk y.at x.at) n) (λ k. once_inserted x ys k o.1) where
   parts : (b : Bool) → cond b (Some y.chunk) (chunk_found ys x.at) ≡ None → (b ≡ false) × (chunk_found ys x.at ≡ None)
   parts true k = absurd (none-some y.chunk (sym k))
   parts false k = (refl, k)
 
-  by : (b : Bool) → (same_chunk y.at x.at ≡ false) × (chunk_found ys x.at ≡ None) → (chunk_found ys x.at ≡ None → ArePlacedOnce (inserted placed_order x ys)) → ArePlacedOnce (cond b (y ∷ inserted placed_order x ys) (x ∷ y ∷ ys))
+  by : (b : Bool) → (same_chunk y.at x.at ≡ false) × (chunk_found ys x.at ≡ None) → (chunk_found ys x.at ≡ None → ArePositionedOnce (inserted positioned_order x ys)) → ArePositionedOnce (cond b (y ∷ inserted positioned_order x ys) (x ∷ y ∷ ys))
   by true p more = (found_inserted x ys y.at ∙ (ap (λ b. cond b (Some x.chunk) (chunk_found ys y.at)) (not_same y.at x.at p.0) ∙ o.0), more p.1)
   by false p more = (n, o)
 
-once_ordered : (xs : List LoadedChunk) → ArePlacedOnce xs → ArePlacedOnce (ordered placed_order xs)
+once_ordered : (xs : List LoadedChunk) → ArePositionedOnce xs → ArePositionedOnce (ordered positioned_order xs)
 once_ordered [] o = tt
-once_ordered (x ∷ xs) o = once_inserted x (ordered placed_order xs) (found_ordered xs x.at ∙ o.0) (once_ordered xs o.1)
+once_ordered (x ∷ xs) o = once_inserted x (ordered positioned_order xs) (found_ordered xs x.at ∙ o.0) (once_ordered xs o.1)
 
-pub placed_once : (h : Height) (t : List BlockState) (fs : List File) (rs : List ReadRegion) → WereRegionsRead h t fs rs → regions_rise (map (λ f. f.pos) fs) ≡ true → ArePlacedOnce (ordered placed_order (flat_map placed_in rs))
-placed_once h t fs rs w rise = once_ordered (flat_map placed_in rs) (placed_once_read h t fs rs w rise)
+pub positioned_once : (h : Height) (t : List BlockState) (fs : List File) (rs : List ReadRegion) → WereRegionsRead h t fs rs → regions_rise (map (λ f. f.pos) fs) ≡ true → ArePositionedOnce (ordered positioned_order (flat_map positioned_in rs))
+positioned_once h t fs rs w rise = once_ordered (flat_map positioned_in rs) (positioned_once_read h t fs rs w rise)
 
 -- ---- numbers and stamps
 
@@ -244,25 +244,25 @@ layers_there h x all y = by (is_section_of h y) refl where
   by true e = here_is (section_in h x y) (all y e)
   by false e = refl
 
-pub whole_read : (h : Height) (t : List BlockState) (fs : List File) (rs : List ReadRegion) (w : World) → WereRegionsRead h t fs rs → IsWorldOf h (flat_map placed_in rs) w → 0 < length t → IsUncarved w
+pub whole_read : (h : Height) (t : List BlockState) (fs : List File) (rs : List ReadRegion) (w : World) → WereRegionsRead h t fs rs → IsWorldOf h (flat_map positioned_in rs) w → 0 < length t → IsUncarved w
 whole_read h t fs rs w was is some = λ i p. at p i where
-  by : (p : Pos) (o : Option Chunk) → chunk_found (flat_map placed_in rs) (chunk_of p) ≡ o → HasAt h w (chunk_of p) o → is_here (grid w (section_of p)) ≡ is_loaded (land_of w) p
+  by : (p : Pos) (o : Option Chunk) → chunk_found (flat_map positioned_in rs) (chunk_of p) ≡ o → HasAt h w (chunk_of p) o → is_here (grid w (section_of p)) ≡ is_loaded (land_of w) p
   by p None e has = ap is_here (has.1 (section_of p) refl) ∙ sym (ap (λ b. b && is_block_of w.height p.y) has.0)
   by p (Some x) e has =
-      let good = found_all (IsGoodPlaced h t) (flat_map placed_in rs) (chunk_of p) x (placed_good h t fs rs some was) e in
+      let good = found_all (IsGoodPositioned h t) (flat_map positioned_in rs) (chunk_of p) x (positioned_good h t fs rs some was) e in
       ap is_here (has.1 (section_of p) refl)
       ∙ (layers_there h x good.there (divided p.y 16)
       ∙ sym (ap (λ b. b && is_block_of w.height p.y) has.0 ∙ ap (λ k. is_block_of k p.y) is.height_is))
 
   at : (p : Pos) → is_here (grid w (section_of p)) ≡ is_loaded (land_of w) p
-  at p = by p (chunk_found (flat_map placed_in rs) (chunk_of p)) refl (is.each (chunk_of p))
+  at p = by p (chunk_found (flat_map positioned_in rs) (chunk_of p)) refl (is.each (chunk_of p))
 
 -- each number of the world is one of the table
-pub numbers_read : (h : Height) (t : List BlockState) (fs : List File) (rs : List ReadRegion) (w : World) → WereRegionsRead h t fs rs → IsWorldOf h (flat_map placed_in rs) w → 0 < length t → (p : Pos) → (land_of w).at p < length t
-numbers_read h t fs rs w was is some p = by (chunk_found (flat_map placed_in rs) (chunk_of p)) refl (is.each (chunk_of p)) where
-  by : (o : Option Chunk) → chunk_found (flat_map placed_in rs) (chunk_of p) ≡ o → HasAt h w (chunk_of p) o → (land_of w).at p < length t
+pub numbers_read : (h : Height) (t : List BlockState) (fs : List File) (rs : List ReadRegion) (w : World) → WereRegionsRead h t fs rs → IsWorldOf h (flat_map positioned_in rs) w → 0 < length t → (p : Pos) → (land_of w).at p < length t
+numbers_read h t fs rs w was is some p = by (chunk_found (flat_map positioned_in rs) (chunk_of p)) refl (is.each (chunk_of p)) where
+  by : (o : Option Chunk) → chunk_found (flat_map positioned_in rs) (chunk_of p) ≡ o → HasAt h w (chunk_of p) o → (land_of w).at p < length t
   by None e has = subst (λ f. number_in_filling f (place_of p) < length t) (sym (has.1 (section_of p) refl)) some
-  by (Some x) e has = subst (λ f. number_in_filling f (place_of p) < length t) (sym (has.1 (section_of p) refl)) ((found_all (IsGoodPlaced h t) (flat_map placed_in rs) (chunk_of p) x (placed_good h t fs rs some was) e).numbers p refl)
+  by (Some x) e has = subst (λ f. number_in_filling f (place_of p) < length t) (sym (has.1 (section_of p) refl)) ((found_all (IsGoodPositioned h t) (flat_map positioned_in rs) (chunk_of p) x (positioned_good h t fs rs some was) e).numbers p refl)
 
 index_small : (m : ℕ) (xs : List ℕ) (i : ℕ) → 0 < m → All (λ n. n < m) xs → slice_index_or xs i 0 < m
 index_small m [] i some h = some

@@ -9,10 +9,10 @@ use Rattle.std.proofs.lemmas.Option.{slice_get_within, get_or_from_slice_get}
 use Rattle.std.proofs.lemmas.List.Elements.{recursion_from_All}
 use Rattle.av_types.specs.Division.{divided}
 use Rattle.av_types.specs.Water.{is_source}
-use Rattle.av_types.specs.Places.{section_of, place_of, chunk_of, is_block_of, is_section_of}
-use Rattle.av_types.specs.declared.place.Pos.{Pos}
-use Rattle.av_types.specs.declared.place.ChunkPos.{ChunkPos}
-use Rattle.av_types.specs.declared.place.Height.{Height}
+use Rattle.av_types.specs.Positions.{section_of, place_of, chunk_of, is_block_of, is_section_of}
+use Rattle.av_types.specs.declared.position.Pos.{Pos}
+use Rattle.av_types.specs.declared.position.ChunkPos.{ChunkPos}
+use Rattle.av_types.specs.declared.position.Height.{Height}
 use Rattle.av_types.specs.declared.tick.Entry.{Entry}
 use Rattle.av_types.specs.Options.{◌>>=◌}
 use Rattle.av_state.specs.BlockState.{BlockState, air}
@@ -74,7 +74,7 @@ source_found : (k : Kinds) (o : Option Section) (i : ℕ) → IsSome o → is_so
 source_found k None i h = absurd (true≢false (sym h))
 source_found k (Some s) i h = refl
 
--- ---- the chunk at a place of a world that can be written
+-- ---- the chunk at a position of a world that can be written
 
 module _ (w : World) (k : Kinds) (ls : List ChunkLight) (n : ℕ) (can : CanSave w k ls n) (c : ChunkPos) (x : Chunk) (there : has_chunk (positions_of w) c ≡ true) (own : IsChunkOf w c x) where
   loaded_there : (p : Pos) → lies_in c (height_of w) p ≡ true → is_loaded (land_of w) p ≡ true
@@ -120,7 +120,7 @@ module _ (w : World) (k : Kinds) (ls : List ChunkLight) (n : ℕ) (can : CanSave
   sources_all [] a = tt
   sources_all (e ∷ es) a = (sources_same e.pos a.0, sources_all es a.1)
 
-  module _ (r : ChunkRest) (l : ChunkLight) (at : r.place ≡ c) (tall : r.height ≡ height_of w) (lit : section_count l ≡ (height_of w).sections) where
+  module _ (r : ChunkRest) (l : ChunkLight) (at : r.pos ≡ c) (tall : r.height ≡ height_of w) (lit : section_count l ≡ (height_of w).sections) where
     pub can_write : CanWrite x r k l n
     can_write = record {
       whole = subst (λ b. reading.HasAllSections b x) (sym tall) (record { count = own.count; each_there = each_there });

@@ -1,4 +1,4 @@
--- One place, as a slot of the world and the rest.
+-- One index, as a slot of the world and the rest.
 use Rattle.std.proofs.Common.{◌≡◌, ◌∙◌, ℕ, List, [], ◌∷◌, ◌++◌, true, ◌&&◌, cond, Option, Some, None, refl, ap, sym, IsSome}
 use Rattle.std.specs.Prelude.{slice_get, slice_index_or}
 use Rattle.std.specs.Ordering.{int_eq}
@@ -6,10 +6,10 @@ use Rattle.std.proofs.lemmas.Bool.{and_parts, true≢false}
 use Rattle.std.proofs.lemmas.Bool.Decides.{Decides-int_eq}
 use Rattle.av_types.specs.Division.{divided}
 use Rattle.av_types.specs.Faults.{least}
-use Rattle.av_types.specs.Places.{section_of, place_of, is_block_of, chunk_of_section}
-use Rattle.av_types.specs.declared.place.Height.{Height}
-use Rattle.av_types.specs.declared.place.Pos.{Pos}
-use Rattle.av_types.specs.declared.place.ChunkPos.{ChunkPos}
+use Rattle.av_types.specs.Positions.{section_of, place_of, is_block_of, chunk_of_section}
+use Rattle.av_types.specs.declared.position.Height.{Height}
+use Rattle.av_types.specs.declared.position.Pos.{Pos}
+use Rattle.av_types.specs.declared.position.ChunkPos.{ChunkPos}
 use Rattle.av_tags.specs.Nbt.{Document, NamedTag}
 use Rattle.av_types.specs.Options.{◌>>=◌}
 use Rattle.av_tags.specs.Shape.{or_else}
@@ -32,9 +32,9 @@ use Rattle.av_world.specs.declared.worlds.World.{World}
 use Rattle.av_files.specs.Run.{stated}
 use Rattle.av_files.specs.Denotes.{Rest, IsSlot, absent, kept, full}
 use Rattle.av_files.proofs.Loading.{denotes_kept, state_stays}
-use Rattle.av_image.specs.declared.reading.places.Place.{Place}
-use Rattle.av_image.specs.declared.reading.places.Place.TheVariants.{Absent, Kept, Full}
-use Rattle.av_image.specs.Placed.{WasPlaceRead}
+use Rattle.av_image.specs.declared.reading.stored.Stored.{Stored}
+use Rattle.av_image.specs.declared.reading.stored.Stored.TheVariants.{Absent, Kept, Full}
+use Rattle.av_image.specs.RegionsRead.{WasReadAt}
 use Rattle.av_world.specs.Lands.{land_of}
 use Rattle.av_image.specs.Views.{kept_in, chunk_rest_in}
 use Rattle.av_image.specs.Splits.{HasAt, slot_of}
@@ -76,7 +76,7 @@ cells_same h c d old new table chunk rest w l more has p inside =
     state_found new table (section_in h chunk (divided p.y 16)) (place_of p) more (l.numbered p inside)
     ∙ sym (ap (λ f. slice_index_or table (number_in_filling f (place_of p)) air) (has.1 s parts.0 ∙ ap filling_in (layer_is h chunk p parts.1)))
 
-pub slot_is : (h : Height) (table : List BlockState) (file : List ℕ) (c : ChunkPos) (i : ℕ) (p : Place) (w : World) (r : Rest) → WasPlaceRead h table file c i p
+pub slot_is : (h : Height) (table : List BlockState) (file : List ℕ) (c : ChunkPos) (i : ℕ) (p : Stored) (w : World) (r : Rest) → WasReadAt h table file c i p
     → HasAt h w c (chunk_in (Some p)) → r.kept c ≡ kept_in (Some (slot_of p)) → r.chunk c ≡ chunk_rest_in (Some (slot_of p)) → IsSlot h (stated table (land_of w)) r file c i
 slot_is h table file c i Absent w r was has k e = absent was.read.nothing has.0 k
 slot_is h table file c i (Kept same) w r was has k e =

@@ -1,9 +1,9 @@
--- What is written at the first places of a region, one place more, and at all.
+-- What is written at the first indices of a region, one index more, and at all.
 use Rattle.std.proofs.Common.{◌≡◌, ◌∙◌, ◌≤◌, ◌+◌, ◌++◌, ◌∷◌, [], ℕ, List, Option, map, ap, sym, arith}
 use Rattle.std.specs.Prelude.{option_map, slice_get}
 use Rattle.std.proofs.lemmas.List.{map-append}
 use Rattle.std.proofs.lemmas.List.FromFn.{map-range_with_len_more}
-use Rattle.av_types.specs.Places.{chunk_at}
+use Rattle.av_types.specs.Positions.{chunk_at}
 use Rattle.av_rules.specs.declared.kinds.Kinds.{Kinds}
 use Rattle.av_chunk.specs.declared.light.ChunkLight.{ChunkLight}
 use Rattle.av_world.specs.declared.worlds.World.{World}

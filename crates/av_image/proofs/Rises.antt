@@ -9,8 +9,8 @@ use Rattle.std.proofs.lemmas.Int.{ints}
 use Rattle.std.proofs.lemmas.Bool.{and_parts, and_from, or_cases, true≢false, false≢true}
 use Rattle.std.proofs.lemmas.Bool.Decides.{Decides-int_eq}
 use Rattle.av_document.proofs.Numbers.{lt_from}
-use Rattle.av_types.specs.declared.place.ChunkPos.{ChunkPos}
-use Rattle.av_types.specs.declared.place.RegionPos.{RegionPos}
+use Rattle.av_types.specs.declared.position.ChunkPos.{ChunkPos}
+use Rattle.av_types.specs.declared.position.RegionPos.{RegionPos}
 use Rattle.av_world.specs.Index.{before, IsRising}
 use Rattle.av_files.specs.Files.{region_after, regions_rise, chunk_order, chunks_rise}
 use Rattle.av_region_files.specs.Regions.{region_order, same_region}

@@ -9,9 +9,9 @@ use Rattle.std.proofs.lemmas.Cmp.{then_total, on_total, int_cmp_total}
 use Rattle.std.proofs.lemmas.List.Sorted.{ranks_by}
 use Rattle.std.proofs.lemmas.Bool.{false≢true}
 use Rattle.std.proofs.lemmas.Bool.Decides.{Decides-int_eq}
-use Rattle.av_types.specs.declared.place.ChunkPos.{ChunkPos}
-use Rattle.av_types.specs.declared.place.RegionPos.{RegionPos}
-use Rattle.av_types.proofs.SamePlaces.{same_chunk_is}
+use Rattle.av_types.specs.declared.position.ChunkPos.{ChunkPos}
+use Rattle.av_types.specs.declared.position.RegionPos.{RegionPos}
+use Rattle.av_types.proofs.SamePositions.{same_chunk_is}
 use Rattle.av_types.specs.Order.{inserted, ordered}
 use Rattle.av_chunk.specs.declared.chunk.Chunk.{Chunk}
 use Rattle.av_cells.specs.Positions.{same_chunk}
@@ -21,11 +21,11 @@ use Rattle.av_region_files.specs.Regions.{region_order}
 use Rattle.av_region_files.specs.declared.files.RegionFile.{RegionFile}
 use Rattle.av_image.specs.declared.reading.splits.LoadedChunk.{LoadedChunk}
 use Rattle.av_image.specs.Splits.{chunk_found, HasAt, IsWorldOf}
-use Rattle.av_image.specs.Loading.{placed_order, region_before, comes_after, rises_from}
+use Rattle.av_image.specs.Loading.{positioned_order, region_before, comes_after, rises_from}
 use Rattle.av_image.specs.Views.{file_in}
 
-pub placed_laws : IsStrictWeakOrder (λ x y. is_lt (placed_order x y))
-placed_laws = ranks_by (then_total (on_total (λ (e : LoadedChunk). e.at.z) int_cmp_total) (on_total (λ (e : LoadedChunk). e.at.x) int_cmp_total)) (λ (e : LoadedChunk). e)
+pub positioned_laws : IsStrictWeakOrder (λ x y. is_lt (positioned_order x y))
+positioned_laws = ranks_by (then_total (on_total (λ (e : LoadedChunk). e.at.z) int_cmp_total) (on_total (λ (e : LoadedChunk). e.at.x) int_cmp_total)) (λ (e : LoadedChunk). e)
 
 abbrev pub file_order : RegionFile → RegionFile → Ordering
 file_order a b = region_order a.pos b.pos
@@ -93,10 +93,10 @@ equal_is Equal Equal a b c d p q h e f = false≢true h
 equal_is Equal Greater a b c d p q h e f = false≢true h
 equal_is Greater r a b c d p q h e f = false≢true h
 
-pub found_inserted : (x : LoadedChunk) (xs : List LoadedChunk) (c : ChunkPos) → chunk_found (inserted placed_order x xs) c ≡ cond (same_chunk x.at c) (Some x.chunk) (chunk_found xs c)
+pub found_inserted : (x : LoadedChunk) (xs : List LoadedChunk) (c : ChunkPos) → chunk_found (inserted positioned_order x xs) c ≡ cond (same_chunk x.at c) (Some x.chunk) (chunk_found xs c)
 found_inserted x [] c = refl
-found_inserted x (y ∷ ys) c = by (is_lt (placed_order y x)) refl (found_inserted x ys c) where
-  swap : (a b : Bool) (o : Option Chunk) → same_chunk x.at c ≡ a → same_chunk y.at c ≡ b → is_lt (placed_order y x) ≡ true → cond b (Some y.chunk) (cond a (Some x.chunk) o) ≡ cond a (Some x.chunk) (cond b (Some y.chunk) o)
+found_inserted x (y ∷ ys) c = by (is_lt (positioned_order y x)) refl (found_inserted x ys c) where
+  swap : (a b : Bool) (o : Option Chunk) → same_chunk x.at c ≡ a → same_chunk y.at c ≡ b → is_lt (positioned_order y x) ≡ true → cond b (Some y.chunk) (cond a (Some x.chunk) o) ≡ cond a (Some x.chunk) (cond b (Some y.chunk) o)
   swap true true o e f lt =
       let same : y.at ≡ x.at = same_chunk_is y.at c f ∙ sym (same_chunk_is x.at c e) in
       absurd (equal_is (int_cmp y.at.z x.at.z) (int_cmp y.at.x x.at.x) y.at.z x.at.z y.at.x x.at.x (int_ranks y.at.z x.at.z) (int_ranks y.at.x x.at.x) lt (ap (λ k. k.z) same) (ap (λ k. k.x) same))
@@ -104,14 +104,14 @@ found_inserted x (y ∷ ys) c = by (is_lt (placed_order y x)) refl (found_insert
   swap false true o e f lt = refl
   swap false false o e f lt = refl
 
-  by : (b : Bool) → is_lt (placed_order y x) ≡ b → chunk_found (inserted placed_order x ys) c ≡ cond (same_chunk x.at c) (Some x.chunk) (chunk_found ys c)
-      → chunk_found (cond b (y ∷ inserted placed_order x ys) (x ∷ y ∷ ys)) c ≡ cond (same_chunk x.at c) (Some x.chunk) (chunk_found (y ∷ ys) c)
+  by : (b : Bool) → is_lt (positioned_order y x) ≡ b → chunk_found (inserted positioned_order x ys) c ≡ cond (same_chunk x.at c) (Some x.chunk) (chunk_found ys c)
+      → chunk_found (cond b (y ∷ inserted positioned_order x ys) (x ∷ y ∷ ys)) c ≡ cond (same_chunk x.at c) (Some x.chunk) (chunk_found (y ∷ ys) c)
   by true lt more = ap (λ o. cond (same_chunk y.at c) (Some y.chunk) o) more ∙ swap (same_chunk x.at c) (same_chunk y.at c) (chunk_found ys c) refl refl lt
   by false lt more = refl
 
-pub found_ordered : (xs : List LoadedChunk) (c : ChunkPos) → chunk_found (ordered placed_order xs) c ≡ chunk_found xs c
+pub found_ordered : (xs : List LoadedChunk) (c : ChunkPos) → chunk_found (ordered positioned_order xs) c ≡ chunk_found xs c
 found_ordered [] c = refl
-found_ordered (x ∷ xs) c = found_inserted x (ordered placed_order xs) c ∙ ap (λ o. cond (same_chunk x.at c) (Some x.chunk) o) (found_ordered xs c)
+found_ordered (x ∷ xs) c = found_inserted x (ordered positioned_order xs) c ∙ ap (λ o. cond (same_chunk x.at c) (Some x.chunk) o) (found_ordered xs c)
 
-pub world_ordered : (h : _) (xs : List LoadedChunk) (w : _) → IsWorldOf h (ordered placed_order xs) w → IsWorldOf h xs w
+pub world_ordered : (h : _) (xs : List LoadedChunk) (w : _) → IsWorldOf h (ordered positioned_order xs) w → IsWorldOf h xs w
 world_ordered h xs w is = record { height_is = is.height_is; each = λ c. subst (HasAt h w c) (found_ordered xs c) (is.each c) }

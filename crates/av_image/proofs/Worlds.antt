@@ -2,11 +2,11 @@
 use Rattle.std.proofs.Common.{◌≡◌, ℕ, zero, suc, ◌≤◌, List, [], ◌∷◌, ◌++◌, length, Bool, true, false, ◌||◌, cond, Option, Some, None, refl, ap, sym, subst, ◌∙◌, insert, arith}
 use Rattle.std.proofs.lemmas.Bool.{true≢false, false≢true}
 use Rattle.std.proofs.lemmas.Option.{none-some}
-use Rattle.av_types.specs.Places.{chunk_of_section}
-use Rattle.av_types.specs.declared.place.Height.{Height}
-use Rattle.av_types.specs.declared.place.ChunkPos.{ChunkPos}
-use Rattle.av_types.specs.declared.place.SectionPos.{SectionPos}
-use Rattle.av_types.proofs.SamePlaces.{same_chunk_is, same_chunk_from}
+use Rattle.av_types.specs.Positions.{chunk_of_section}
+use Rattle.av_types.specs.declared.position.Height.{Height}
+use Rattle.av_types.specs.declared.position.ChunkPos.{ChunkPos}
+use Rattle.av_types.specs.declared.position.SectionPos.{SectionPos}
+use Rattle.av_types.proofs.SamePositions.{same_chunk_is, same_chunk_from}
 use Rattle.av_ticks.specs.Ticks.{entries}
 use Rattle.av_chunk.specs.declared.chunk.Chunk.{Chunk}
 use Rattle.av_cells.specs.Positions.{same_chunk}
@@ -18,7 +18,7 @@ use Rattle.av_world.specs.Views.{grid, lists}
 use Rattle.av_world.specs.declared.worlds.World.{World}
 use Rattle.av_land.specs.Land.{has_chunk}
 use Rattle.av_image.specs.declared.reading.splits.LoadedChunk.{LoadedChunk}
-use Rattle.av_image.specs.Splits.{chunk_found, ArePlacedOnce, HasAt, IsWorldOf}
+use Rattle.av_image.specs.Splits.{chunk_found, ArePositionedOnce, HasAt, IsWorldOf}
 
 pub not_same : (a b : ChunkPos) → same_chunk a b ≡ false → same_chunk b a ≡ false
 not_same a b h = by (same_chunk b a) refl where
@@ -70,7 +70,7 @@ none_parts : {X : Type 0} (o p : Option X) → first_some o p ≡ None → (o �
 none_parts None p h = (refl, h)
 none_parts (Some x) p h = absurd (none-some x (sym h))
 
-pub once_at : (xs : List LoadedChunk) (x : LoadedChunk) (ys : List LoadedChunk) → ArePlacedOnce (xs ++ x ∷ ys) → chunk_found xs x.at ≡ None
+pub once_at : (xs : List LoadedChunk) (x : LoadedChunk) (ys : List LoadedChunk) → ArePositionedOnce (xs ++ x ∷ ys) → chunk_found xs x.at ≡ None
 once_at [] x ys h = refl
 once_at (y ∷ xs) x ys h =
     let parts = none_parts (chunk_found xs y.at) (chunk_found (x ∷ ys) y.at) (sym (found_append xs (x ∷ ys) y.at) ∙ h.0) in
@@ -89,7 +89,7 @@ pub world_more : (h : Height) (v w : World) (xs : List LoadedChunk) (x : LoadedC
     → IsWorldOf h (xs ++ x ∷ []) w
 world_more h v w xs x old new same put grid_is lists_are = record { height_is = same ∙ old.height_is; each = λ c. at c (same_chunk x.at c) refl } where
   has : (c : ChunkPos) → has_chunk w.positions.items c ≡ (same_chunk x.at c || has_chunk v.positions.items c)
-  has c = ap (λ l. has_chunk l c) put.is ∙ has_inserted v.positions.items put.index x.at c put.place.most
+  has c = ap (λ l. has_chunk l c) put.is ∙ has_inserted v.positions.items put.index x.at c put.belongs.most
 
   grid_at : (s : SectionPos) → grid w s ≡ cond (same_chunk x.at (chunk_of_section s)) (chunk_grid v.height x.chunk s) (grid v s)
   grid_at s = ap (λ (g : Grid). g s) grid_is

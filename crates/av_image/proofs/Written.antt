@@ -8,9 +8,9 @@ use Rattle.std.proofs.lemmas.List.{map-append, take_more, take_all, drop_all}
 use Rattle.std.proofs.lemmas.List.FromFn.{fill_by_all}
 use Rattle.std.proofs.lemmas.List.Elements.{recursion_from_All}
 use Rattle.av_document.proofs.Inside.{map_range_agree}
-use Rattle.av_types.specs.Places.{chunk_at, region_of, index_of}
-use Rattle.av_types.specs.declared.place.ChunkPos.{ChunkPos}
-use Rattle.av_types.specs.declared.place.RegionPos.{RegionPos}
+use Rattle.av_types.specs.Positions.{chunk_at, region_of, index_of}
+use Rattle.av_types.specs.declared.position.ChunkPos.{ChunkPos}
+use Rattle.av_types.specs.declared.position.RegionPos.{RegionPos}
 use Rattle.av_types.specs.declared.fault.Fault.{Fault}
 use Rattle.av_types.specs.declared.fault.Fault.TheVariants.{ChunkTooLarge}
 use Rattle.av_types.proofs.Coordinates.{region_back, index_back}
@@ -36,7 +36,7 @@ use Rattle.av_image.specs.SavingSteps.{slot_payload, region_payloads, region_fil
 use Rattle.av_image.proofs.Rises.{not_later_region}
 use Rattle.av_image.proofs.Denoted.{get_within}
 
--- ---- each region is found at its place
+-- ---- each region is found at its position
 
 later : (p : RegionPos) (xs : List RegionRest) → ((q : RegionPos) → list_any (same_region q) (map (λ x. x.pos) xs) ≡ true → same_region p q ≡ false) → AllByRecursion (λ y. same_region p y.pos ≡ false) xs
 later p [] n = tt
@@ -72,10 +72,10 @@ module _ (w : World) (k : Kinds) (ls : List ChunkLight) (n : ℕ) (rs : List Reg
       → payload_of (sources_in k w) (states_in k w) (rest_view rs) (lights_in w ls) n (chunk_at x.pos i) ≡ slot_payload w k ls n (chunk_at x.pos i) (slice_get x.slots.items i)
   payload_is x own found i less =
       let c = chunk_at x.pos i in
-      let place : region_of (chunk_at x.pos i) ≡ x.pos = region_back x.pos i less in
+      let item : region_of (chunk_at x.pos i) ≡ x.pos = region_back x.pos i less in
       let there = get_within x.slots.items i (let e = own.slots in omega (arith, e, less)) in
       let at : slot_at rs (chunk_at x.pos i) ≡ Some there.0 =
-      ap (λ q. slot_in (region_found rs q) (index_of (chunk_at x.pos i))) place
+      ap (λ q. slot_in (region_found rs q) (index_of (chunk_at x.pos i))) item
       ∙ (ap (λ o. slot_in o (index_of (chunk_at x.pos i))) found ∙ (ap (λ j. slice_get x.slots.items j) (index_back x.pos i less) ∙ there.1)) in
       slot_is (chunk_at x.pos i) there.0 (own.each i there.0 there.1) at ∙ ap (λ o. slot_payload w k ls n (chunk_at x.pos i) o) (sym there.1)
 

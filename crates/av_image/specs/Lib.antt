@@ -1,5 +1,5 @@
 pub mod Views
-pub mod Placed
+pub mod RegionsRead
 pub mod Ways
 pub mod Splits
 pub mod Loading

@@ -1,7 +1,7 @@
 -- What is loaded. Working definitions: no public clause cites them.
 use Rattle.std.specs.Prelude.{◌≡◌, List, ◌∷◌, map, Bool, true, false, int_lt, ◌||◌, ◌&&◌, Option, Some, None}
 use Rattle.std.specs.Ordering.{int_eq}
-use Rattle.av_types.specs.declared.place.RegionPos.{RegionPos}
+use Rattle.av_types.specs.declared.position.RegionPos.{RegionPos}
 use Rattle.std.specs.declared.cmp.Ordering.{Ordering}
 use Rattle.av_types.specs.declared.fault.Fault.{Fault}
 use Rattle.av_types.specs.declared.fault.Fault.TheVariants.{RegionRange, RepeatedRegion}
@@ -9,8 +9,8 @@ use Rattle.av_files.specs.Files.{File, in_order, regions_rise, share_a_region, c
 use Rattle.av_files.specs.FirstFault.{AllInLimits}
 use Rattle.av_image.specs.declared.reading.splits.LoadedChunk.{LoadedChunk}
 
-abbrev pub placed_order : LoadedChunk → LoadedChunk → Ordering
-placed_order a b = chunk_order a.at b.at
+abbrev pub positioned_order : LoadedChunk → LoadedChunk → Ordering
+positioned_order a b = chunk_order a.at b.at
 
 pub record AreFilesInOrder (files sorted : List File) : Type 0 where
   pub limits : AllInLimits files

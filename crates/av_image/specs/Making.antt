@@ -1,7 +1,7 @@
 -- Payloads that threads make, with their indices in their region. Working definitions: no public clause cites them.
 use Rattle.std.specs.Prelude.{◌≡◌, ◌<◌, ℕ, List, Vec, Option, Some, slice_get}
 use Rattle.std.specs.declared.alloc.Global.{Global}
-use Rattle.av_types.specs.Places.{chunk_at}
+use Rattle.av_types.specs.Positions.{chunk_at}
 use Rattle.av_image.specs.declared.writing.job.RegionJob.{RegionJob}
 use Rattle.av_image.specs.SavingSteps.{slot_payload, region_payloads}
 

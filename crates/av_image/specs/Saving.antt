@@ -4,10 +4,10 @@ use Rattle.std.specs.Int.RustNames.{FitsSigned}
 use Rattle.std.specs.Prelude.{◌≡◌, ◌<◌, ℕ, ℤ, pos, ◌-ℤ◌, List, length, Option, Some, None, Bool, true, false, map, slice_get, replicate}
 use Rattle.std.specs.List.{All}
 use Rattle.av_types.specs.Water.{is_source}
-use Rattle.av_types.specs.Places.{IsInLimits, chunk_at}
-use Rattle.av_types.specs.declared.place.Pos.{Pos}
-use Rattle.av_types.specs.declared.place.Height.{Height}
-use Rattle.av_types.specs.declared.place.ChunkPos.{ChunkPos}
+use Rattle.av_types.specs.Positions.{IsInLimits, chunk_at}
+use Rattle.av_types.specs.declared.position.Pos.{Pos}
+use Rattle.av_types.specs.declared.position.Height.{Height}
+use Rattle.av_types.specs.declared.position.ChunkPos.{ChunkPos}
 use Rattle.av_types.specs.declared.fault.Fault.{Fault}
 use Rattle.av_types.specs.declared.fault.Fault.TheVariants.{Broken, ChunkTooLarge}
 use Rattle.av_state.specs.BlockState.{BlockState}
@@ -68,11 +68,11 @@ pub data IsSaveFault (w : World) (r : Rest) (k : Kinds) (ls : List ChunkLight) (
 
 -- ---- what the caller sees to
 
--- a slot at a place, of a world of this height with these chunks
+-- a slot at a position, of a world of this height with these chunks
 abbrev pub IsSlotOf : Height → List ChunkPos → ChunkPos → Slot → Type 0
 IsSlotOf h cs c Absent = has_chunk cs c ≡ false
 IsSlotOf h cs c (Kept p) = has_chunk cs c ≡ false
-IsSlotOf h cs c (Loaded r) = (has_chunk cs c ≡ true) × (r.place ≡ c) × (r.height ≡ h)
+IsSlotOf h cs c (Loaded r) = (has_chunk cs c ≡ true) × (r.pos ≡ c) × (r.height ≡ h)
 
 pub record IsRegionOf (h : Height) (cs : List ChunkPos) (r : RegionRest) : Type 0 where
   pub limits : IsInLimits r.pos

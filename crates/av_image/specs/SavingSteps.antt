@@ -1,8 +1,8 @@
--- What is written at each place of a region. Working definitions.
+-- What is written at each index of a region. Working definitions.
 use Rattle.std.specs.Prelude.{◌≡◌, ℕ, List, [], ◌∷◌, Option, Some, None, map, option_map, slice_get, take, drop}
 use Rattle.std.specs.List.{range_with_len}
-use Rattle.av_types.specs.Places.{chunk_at}
-use Rattle.av_types.specs.declared.place.ChunkPos.{ChunkPos}
+use Rattle.av_types.specs.Positions.{chunk_at}
+use Rattle.av_types.specs.declared.position.ChunkPos.{ChunkPos}
 use Rattle.av_nbt.specs.Writing.{written_document}
 use Rattle.av_rules.specs.declared.kinds.Kinds.{Kinds}
 use Rattle.av_region.specs.Layout.{region_bytes, first_too_large}
@@ -35,7 +35,7 @@ slot_payload w k ls n c (Some Absent) = None
 slot_payload w k ls n c (Some (Kept p)) = Some p.items
 slot_payload w k ls n c (Some (Loaded r)) = Some (loaded_bytes w k ls n c r)
 
--- at the first places of a region
+-- at the first indices of a region
 abbrev pub first_payloads : World → Kinds → List ChunkLight → ℕ → RegionRest → ℕ → List (Option (List ℕ))
 first_payloads w k ls n r count = map (λ i. slot_payload w k ls n (chunk_at r.pos i) (slice_get r.slots.items i)) (range_with_len 0 count)
 

@@ -1,8 +1,8 @@
 -- What files and a rest in memory stand for.
 use Rattle.std.specs.Prelude.{ℕ, List, [], ◌∷◌, Option, Some, None, map, slice_get, slice_index_or, if◌then◌else◌}
-use Rattle.av_types.specs.Places.{region_of, index_of}
-use Rattle.av_types.specs.declared.place.ChunkPos.{ChunkPos}
-use Rattle.av_types.specs.declared.place.RegionPos.{RegionPos}
+use Rattle.av_types.specs.Positions.{region_of, index_of}
+use Rattle.av_types.specs.declared.position.ChunkPos.{ChunkPos}
+use Rattle.av_types.specs.declared.position.RegionPos.{RegionPos}
 use Rattle.av_document.specs.Chunk.{RestOfChunk}
 use Rattle.av_chunk.specs.Views.{rest_of}
 pub use Rattle.av_files.specs.Files.{file_in}
@@ -13,7 +13,7 @@ use Rattle.av_image.specs.declared.rest.Slot.TheVariants as slots
 use Rattle.av_image.specs.declared.rest.RegionRest.{RegionRest}
 use Rattle.av_image.specs.declared.rest.Rest.{Rest}
 
--- the first region with a place
+-- the first region with a position
 abbrev pub region_found : List RegionRest → RegionPos → Option RegionRest
 region_found [] p = None
 region_found (r ∷ rs) p = if same_region r.pos p then Some r else region_found rs p

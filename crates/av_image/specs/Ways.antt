@@ -1,33 +1,33 @@
 -- How far the reading of files has come. Working definitions of loops.
 use Rattle.std.specs.Prelude.{ℕ, ◌-◌, List}
 use Rattle.std.specs.List.{range_with_len}
-use Rattle.av_types.specs.declared.place.Height.{Height}
+use Rattle.av_types.specs.declared.position.Height.{Height}
 use Rattle.av_types.specs.declared.fault.Fault.{Fault}
 use Rattle.av_state.specs.BlockState.{BlockState}
 use Rattle.av_section.specs.Reading.{OnlyGrows}
 use Rattle.av_files.specs.Files.{File}
 use Rattle.av_files.specs.Layout.{indices}
-use Rattle.av_files.specs.FirstFault.{ArePlacesGood, IsFirstOfPlaces, AreFilesGood, IsFirstOfFiles}
-use Rattle.av_image.specs.declared.reading.places.Place.{Place}
+use Rattle.av_files.specs.FirstFault.{AreIndicesGood, IsFirstOfIndices, AreFilesGood, IsFirstOfFiles}
+use Rattle.av_image.specs.declared.reading.stored.Stored.{Stored}
 use Rattle.av_image.specs.declared.reading.regions.ReadRegion.{ReadRegion}
-use Rattle.av_image.specs.Placed.{WerePlacesRead, WereRegionsRead}
+use Rattle.av_image.specs.RegionsRead.{WereIndicesRead, WereRegionsRead}
 
--- what will be said of the places that are left can be said of all
-pub record IsPlacesWay (h : Height) (f : File) (start table : List BlockState) (all left : List ℕ) : Type 0 where
-  pub good : (new : List BlockState) → ArePlacesGood h table f left new → ArePlacesGood h start f all new
-  pub first : (e : Fault) → IsFirstOfPlaces h table f left e → IsFirstOfPlaces h start f all e
+-- what will be said of the indices that are left can be said of all
+pub record IsIndicesWay (h : Height) (f : File) (start table : List BlockState) (all left : List ℕ) : Type 0 where
+  pub good : (new : List BlockState) → AreIndicesGood h table f left new → AreIndicesGood h start f all new
+  pub first : (e : Fault) → IsFirstOfIndices h table f left e → IsFirstOfIndices h start f all e
 
-pub record PlacesSoFar (h : Height) (f : File) (start table : List BlockState) (n : ℕ) (places : List Place) : Type 0 where
-  pub way : IsPlacesWay h f start table indices (range_with_len n (1024 - n))
-  pub each : WerePlacesRead h table f n places
+pub record IndicesSoFar (h : Height) (f : File) (start table : List BlockState) (n : ℕ) (stored : List Stored) : Type 0 where
+  pub way : IsIndicesWay h f start table indices (range_with_len n (1024 - n))
+  pub each : WereIndicesRead h table f n stored
   pub grown : OnlyGrows start table
 
--- more places were read, or one was refused, whatever was read before
-abbrev pub GoesOn : Height → File → List BlockState → ℕ → List Place → List BlockState → ℕ → List Place → Type 0
-GoesOn h f old n places new m after = (start : List BlockState) → PlacesSoFar h f start old n places → PlacesSoFar h f start new m after
+-- more indices were read, or one was refused, whatever was read before
+abbrev pub GoesOn : Height → File → List BlockState → ℕ → List Stored → List BlockState → ℕ → List Stored → Type 0
+GoesOn h f old n stored new m after = (start : List BlockState) → IndicesSoFar h f start old n stored → IndicesSoFar h f start new m after
 
-abbrev pub Stops : Height → File → List BlockState → ℕ → List Place → Fault → Type 0
-Stops h f old n places e = (start : List BlockState) → PlacesSoFar h f start old n places → IsFirstOfPlaces h start f indices e
+abbrev pub Stops : Height → File → List BlockState → ℕ → List Stored → Fault → Type 0
+Stops h f old n stored e = (start : List BlockState) → IndicesSoFar h f start old n stored → IsFirstOfIndices h start f indices e
 
 -- the same of files
 pub record IsFilesWay (h : Height) (start table : List BlockState) (all left : List File) : Type 0 where

@@ -2,6 +2,6 @@
 mod ahead;
 mod batch;
 pub(crate) mod loading;
-pub(crate) mod places;
 pub(crate) mod regions;
 mod splits;
+pub(crate) mod stored;

@@ -16,7 +16,7 @@ pub enum Slot {
 /// What a region keeps.
 #[derive(Drop)]
 pub struct RegionRest {
-    /// Its place.
+    /// Its position.
     pub pos: RegionPos,
     /// The 1,024 timestamps of its header, also those of absent chunks.
     pub stamps: Vec<u32>,

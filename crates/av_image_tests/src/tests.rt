@@ -121,7 +121,7 @@ fn files_that_are_refused(rt: HostRuntime) -> Result<(), Fail> {
     Ok(())
 }
 
-/// A region of so many chunks that are not full, from index 0 on, in place of which some have other payloads.
+/// A region of so many chunks that are not full, from index 0 on, of which some have other payloads.
 fn kept_chunks(
     alloc: Global,
     count: usize,
@@ -325,7 +325,7 @@ fn large_region(alloc: Global, row: &[i32]) -> Result<Vec<RegionFile>, AllocErro
     one(alloc, RegionPos { x: -1, z: 2 }, bytes)
 }
 
-/// It is told by its place, and nothing is written.
+/// It is told by its position, and nothing is written.
 #[test]
 fn a_chunk_that_is_too_large(rt: HostRuntime) -> Result<(), Fail> {
     let alloc = rt.alloc();

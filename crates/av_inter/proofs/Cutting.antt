@@ -2,12 +2,12 @@
 use Rattle.std.proofs.Common.{◌≡◌, ℕ, zero, suc, ◌+◌, ◌<◌, Bool, true, false, cond, List, [], ◌∷◌, ◌++◌, length, slice_index_or, slice_get, Option, None, Some, ◌⊎◌, inl, inr, refl, sym, ap, ◌∙◌, subst, arith, IsTrue, All}
 use Rattle.std.proofs.lemmas.List.{length-append}
 use Rattle.std.proofs.lemmas.Option.{get_or_from_slice_get}
-use Rattle.av_types.specs.declared.place.SectionPos.{SectionPos}
-use Rattle.av_types.proofs.SamePlaces.{same_section_from}
+use Rattle.av_types.specs.declared.position.SectionPos.{SectionPos}
+use Rattle.av_types.proofs.SamePositions.{same_section_from}
 use Rattle.av_cells.specs.Positions.{same_section}
 use Rattle.av_cells.specs.Grid.{Grid, is_here, among, only, without, over}
 use Rattle.av_world.specs.OutOf.{IsPartOf}
-use Rattle.av_world.specs.Views.{grid, lists, site, IsSamePlaces}
+use Rattle.av_world.specs.Views.{grid, lists, site, IsSameButBlocks}
 use Rattle.av_world.specs.ParcelViews.{kept_grid, aside, blocks as parcel_blocks, lists as parcel_lists}
 use Rattle.av_world.specs.declared.worlds.World.{World}
 use Rattle.av_world.specs.declared.parcels.Parcel.{Parcel}
@@ -32,16 +32,16 @@ among_at (s ∷ ss) (suc k) d h = either (same_section (slice_index_or ss k d) s
   either false c e = e
 
 -- the same height and chunks
-pub same_places : (v w : World) → IsSamePlaces v w → site w ≡ site v
+pub same_places : (v w : World) → IsSameButBlocks v w → site w ≡ site v
 same_places v w s = λ i. record { height = Some (s.height i); chunks = (s.positions i).items; broken = s.broken i }
 
-pub part_in_same : (v w : World) (p : Parcel) → IsSamePlaces v w → IsPartOf v.height v.positions.items (lists v) (parcel_blocks p) (parcel_lists p) → IsPartOf w.height w.positions.items (lists w) (parcel_blocks p) (parcel_lists p)
+pub part_in_same : (v w : World) (p : Parcel) → IsSameButBlocks v w → IsPartOf v.height v.positions.items (lists v) (parcel_blocks p) (parcel_lists p) → IsPartOf w.height w.positions.items (lists w) (parcel_blocks p) (parcel_lists p)
 part_in_same v w p s i =
     subst (λ h. IsPartOf h w.positions.items (lists w) (parcel_blocks p) (parcel_lists p)) (sym s.height)
     (subst (λ ps. IsPartOf v.height ps (lists w) (parcel_blocks p) (parcel_lists p)) (sym (ap (λ x. x.items) s.positions))
     (subst (λ l. IsPartOf v.height v.positions.items l (parcel_blocks p) (parcel_lists p)) (sym s.lists_are) i))
 
-same_cut : (g : Grid) (v w : World) (ss : List SectionPos) (c : Parcel) → IsSamePlaces v w → IsCutOut g v ss c → IsCutOut g w ss c
+same_cut : (g : Grid) (v w : World) (ss : List SectionPos) (c : Parcel) → IsSameButBlocks v w → IsCutOut g v ss c → IsCutOut g w ss c
 same_cut g v w ss c s i = record { kept = i.kept; nothing_aside = i.nothing_aside; part = part_in_same v w c s i.part }
 
 module _ (g : Grid) (secs : List (List SectionPos)) (can : CanCut g secs) where
@@ -67,7 +67,7 @@ module _ (g : Grid) (secs : List (List SectionPos)) (can : CanCut g secs) where
   pub parts_of_cut : (w : World) (cs : List (Option Parcel)) → AreCut g secs w cs → All (HoldsPartOf w) cs
   parts_of_cut w cs cut k d l = let o = cut.out k l in subst (HoldsPartOf w) (sym (get_or_from_slice_get cs k (Some o.0) d o.1)) o.2.part
 
-  pub cut_same : (old new : World) (cs : List (Option Parcel)) → AreCut g secs old cs → grid new ≡ grid old → IsSamePlaces old new → AreCut g secs new cs
+  pub cut_same : (old new : World) (cs : List (Option Parcel)) → AreCut g secs old cs → grid new ≡ grid old → IsSameButBlocks old new → AreCut g secs new cs
   cut_same old new cs cut e same =
       record {
         out = λ n l. let o = cut.out n l in (o.0, o.1, same_cut g old new (sections_at secs n) o.0 same o.2);
@@ -84,7 +84,7 @@ module _ (g : Grid) (secs : List (List SectionPos)) (can : CanCut g secs) where
     by (inl h) = inl (omega arith)
     by (inr h) = inr (ap suc h)
 
-  pub cut_more : (old new : World) (cs : List (Option Parcel)) (c : Parcel) (ss : List SectionPos) → ss ≡ sections_at secs (length cs) → AreCut g secs old cs → IsSamePlaces old new → kept_grid c ≡ only (among ss) (grid old) → aside c ≡ []
+  pub cut_more : (old new : World) (cs : List (Option Parcel)) (c : Parcel) (ss : List SectionPos) → ss ≡ sections_at secs (length cs) → AreCut g secs old cs → IsSameButBlocks old new → kept_grid c ≡ only (among ss) (grid old) → aside c ≡ []
       → IsPartOf new.height new.positions.items (lists new) (parcel_blocks c) (parcel_lists c) → grid new ≡ without (among ss) (grid old) → AreCut g secs new (cs ++ Some c ∷ [])
   cut_more old new cs c ss is cut same kept none part left = record { out = out; gone = gone; others = others } where
     n : ℕ
@@ -121,7 +121,7 @@ module _ (g : Grid) (secs : List (List SectionPos)) (can : CanCut g secs) where
         let long = length-append cs (Some c ∷ []) in
         left_is s ∙ ap (λ b. cond b None (grid old s)) (f n (omega arith)) ∙ cut.others s (λ m l. f m (omega arith))
 
-  pub cut_less : (old new : World) (cs : List (Option Parcel)) (x : Option Parcel) → AreCut g secs old (cs ++ x ∷ []) → IsSamePlaces old new → grid new ≡ put_grid x (grid old) → AreCut g secs new cs
+  pub cut_less : (old new : World) (cs : List (Option Parcel)) (x : Option Parcel) → AreCut g secs old (cs ++ x ∷ []) → IsSameButBlocks old new → grid new ≡ put_grid x (grid old) → AreCut g secs new cs
   cut_less old new cs x cut same put = record { out = out; gone = gone; others = others } where
     n : ℕ
     n = length cs
@@ -163,7 +163,7 @@ module _ (g : Grid) (secs : List (List SectionPos)) (can : CanCut g secs) where
       by true t = picked s t
       by false t = unpicked s t ∙ cut.others s (λ m l. each t m (below_or cs x m l))
 
-pub slot_same : (v w : World) (o : Option Parcel) → IsSamePlaces v w → HoldsPartOf v o → HoldsPartOf w o
+pub slot_same : (v w : World) (o : Option Parcel) → IsSameButBlocks v w → HoldsPartOf v o → HoldsPartOf w o
 slot_same v w None s h = tt
 slot_same v w (Some p) s h = part_in_same v w p s h
 

@@ -7,20 +7,20 @@ use Rattle.std.proofs.lemmas.List.Elements.{All-cons, All-nil}
 use Rattle.std.proofs.lemmas.List.Kept.{AllPairs-cons}
 use Rattle.std.proofs.lemmas.Option.{slice_get_within, slice_get-get_or, get_or_from_slice_get}
 use Rattle.av_ticks.proofs.Lookup.{cond_neither}
-use Rattle.av_types.specs.Places.{chunk_of}
-use Rattle.av_types.specs.declared.place.Pos.{Pos}
-use Rattle.av_types.specs.declared.place.ChunkPos.{ChunkPos}
-use Rattle.av_types.specs.declared.place.SectionPos.{SectionPos}
-use Rattle.av_types.specs.declared.place.Height.{Height}
+use Rattle.av_types.specs.Positions.{chunk_of}
+use Rattle.av_types.specs.declared.position.Pos.{Pos}
+use Rattle.av_types.specs.declared.position.ChunkPos.{ChunkPos}
+use Rattle.av_types.specs.declared.position.SectionPos.{SectionPos}
+use Rattle.av_types.specs.declared.position.Height.{Height}
 use Rattle.av_types.specs.declared.tick.Entry.{Entry}
 use Rattle.av_types.specs.declared.tick.Made.{Made}
-use Rattle.av_types.proofs.SamePlaces.{same_pos_from, same_pos_back}
+use Rattle.av_types.proofs.SamePositions.{same_pos_from, same_pos_back}
 use Rattle.av_ticks.specs.Entries.{is_pending, made_order}
 use Rattle.av_types.specs.Order.{ordered, inserted}
 use Rattle.av_cells.specs.Positions.{same_pos}
 use Rattle.av_cells.specs.World.{World, Lists}
 use Rattle.av_world.specs.Appended.{entries_made, with_entries as with_appended}
-use Rattle.av_play.specs.declared.event.Placed.{Placed}
+use Rattle.av_play.specs.declared.event.DueEntry.{DueEntry}
 use Rattle.av_play.specs.declared.event.Stage.{Stage}
 use Rattle.av_play.specs.declared.event.Stage.TheVariants.{Ended}
 use Rattle.av_play.specs.Play.{entries_of}
@@ -95,7 +95,7 @@ among_is q (e ∷ es) = ap (λ c. cond (same_pos q e.pos) true c) (among_is q es
 pub appended_is : (w : World) (ms ns : List Made) → ns ≡ ordered made_order ms → with_appended w (entries_made ns) ≡ with_entries w (entries_of ms)
 appended_is w ms ns e = λ i. record { loaded = w.loaded; number = w.number; pending = λ q. cond ((ap (λ es. is_pending q es) (ap entries_made e ∙ entries_are (ordered made_order ms)) ∙ among_is q (entries_of (ordered made_order ms)) ∙ among_ordered q ms) i) true (w.pending q) }
 
-module _ (count : ℕ) (h : Height) (ps : List ChunkPos) (l : Lists) (rest : World) (secs : List (List SectionPos)) (parts : List (List Placed)) (stages : List Stage) (os : List (Option Out)) (made : List Made)
+module _ (count : ℕ) (h : Height) (ps : List ChunkPos) (l : Lists) (rest : World) (secs : List (List SectionPos)) (parts : List (List DueEntry)) (stages : List Stage) (os : List (Option Out)) (made : List Made)
     (core : IsCore count h ps l rest secs parts stages os made) (tied_rest : (q : Pos) → rest.loaded q ≡ true → rest.pending q ≡ is_pending q (l (chunk_of q))) (ended : All (λ s. s ≡ Ended) stages) where
   off : (q : Pos) → AreOff os q
   off q n o e = absurd (true≢false (sym (sym (ap is_home e) ∙ core.back n ∙ ap is_ended at))) where

@@ -5,17 +5,17 @@ use Rattle.std.proofs.lemmas.Bool.{true≢false, eqb-true, eq-eqb}
 use Rattle.std.proofs.lemmas.List.{length-map}
 use Rattle.std.proofs.lemmas.Option.{slice_get_within, get_or_from_slice_get}
 use Rattle.av_world.proofs.Corners.{reach_self}
-use Rattle.av_types.specs.Places.{chunk_of}
-use Rattle.av_types.specs.declared.place.Pos.{Pos}
-use Rattle.av_types.specs.declared.place.ChunkPos.{ChunkPos}
-use Rattle.av_types.specs.declared.place.SectionPos.{SectionPos}
-use Rattle.av_types.specs.declared.place.Height.{Height}
+use Rattle.av_types.specs.Positions.{chunk_of}
+use Rattle.av_types.specs.declared.position.Pos.{Pos}
+use Rattle.av_types.specs.declared.position.ChunkPos.{ChunkPos}
+use Rattle.av_types.specs.declared.position.SectionPos.{SectionPos}
+use Rattle.av_types.specs.declared.position.Height.{Height}
 use Rattle.av_types.specs.declared.tick.Made.{Made}
 use Rattle.av_ticks.specs.Entries.{is_pending}
 use Rattle.av_cells.specs.World.{World, Lists}
 use Rattle.av_cells.specs.declared.kind.Kind.{Kind}
 use Rattle.av_world.specs.declared.parcels.Parcel.{Parcel}
-use Rattle.av_play.specs.declared.event.Placed.{Placed}
+use Rattle.av_play.specs.declared.event.DueEntry.{DueEntry}
 use Rattle.av_play.specs.declared.event.Stage.{Stage}
 use Rattle.av_play.specs.declared.event.Stage.TheVariants.{Waits, Held, Ended}
 use Rattle.av_play.specs.declared.event.Event.TheVariants.{Turn}
@@ -56,17 +56,17 @@ set_same [] n x e = refl
 set_same (y ∷ ys) zero x e = let g : y ≡ x = cc in ap (λ z. z ∷ ys) (sym g)
 set_same (y ∷ ys) (suc n) x e = ap (λ zs. y ∷ zs) (set_same ys n x e)
 
-pub among_part : (xs : List Placed) (n : ℕ) (x : Placed) → slice_get xs n ≡ Some x → Contains xs x
+pub among_part : (xs : List DueEntry) (n : ℕ) (x : DueEntry) → slice_get xs n ≡ Some x → Contains xs x
 among_part xs n x e = (n, slice_get_within xs n x e, get_or_from_slice_get xs n x x e)
 
 -- the state after a turn
-pub turn_state : (k : ℕ → Kind) (now : ℕ) (parts : List (List Placed)) (s : State) (worker n done : ℕ) (x : Placed) → slice_get s.stages n ≡ Some (Held worker done) → slice_get (part_at parts n) done ≡ Some x
+pub turn_state : (k : ℕ → Kind) (now : ℕ) (parts : List (List DueEntry)) (s : State) (worker n done : ℕ) (x : DueEntry) → slice_get s.stages n ≡ Some (Held worker done) → slice_get (part_at parts n) done ≡ Some x
     → (w : World) (more : List Made) (stages : List Stage) → w ≡ (turn_of k now x s.world).world → more ≡ s.made ++ made_by k now x s.world → stages ≡ slice_set s.stages n (Held worker (suc done))
     → record { world = w; lists = s.lists; made = more; stages = stages } ≡ after k now parts s (Turn worker n)
 turn_state k now parts s worker n done x e f w more stages a b c =
     (λ i. record { world = a i; lists = s.lists; made = b i; stages = c i }) ∙ sym (ap (turned k now s worker n done) f) ∙ sym (ap (turned_if_held k now (part_at parts n) s n) e)
 
-module _ (count : ℕ) (h : Height) (ps : List ChunkPos) (l : Lists) (rest : World) (secs : List (List SectionPos)) (parts : List (List Placed)) (stages : List Stage) (os : List (Option Out)) (made : List Made)
+module _ (count : ℕ) (h : Height) (ps : List ChunkPos) (l : Lists) (rest : World) (secs : List (List SectionPos)) (parts : List (List DueEntry)) (stages : List Stage) (os : List (Option Out)) (made : List Made)
     (core : IsCore count h ps l rest secs parts stages os made) (n : ℕ) (g : Stage) (at : slice_get stages n ≡ Some g) (held : is_ended (Some g) ≡ false) where
   abbrev w : World
   w = whole os rest made
@@ -82,18 +82,18 @@ module _ (count : ℕ) (h : Height) (ps : List ChunkPos) (l : Lists) (rest : Wor
   has_out None e = absurd (true≢false (sym (ap is_home e) ∙ not_home))
   has_out (Some p) e = (p, refl)
 
-  pub can_turn : (o : Option Out) (x : Placed) → slice_get os n ≡ Some o → Contains (part_at parts n) x → CanTurnIn count x o
+  pub can_turn : (o : Option Out) (x : DueEntry) → slice_get os n ≡ Some o → Contains (part_at parts n) x → CanTurnIn count x o
   can_turn None x e there = absurd (true≢false (sym (ap is_home e) ∙ not_home))
   can_turn (Some p) x e there =
-      record { known = (core.out n p e).known; loaded = (core.out n p e).places x.entry.pos ∙ core.own n x x.entry.pos there (reach_self x.entry.pos) (core.here n x there) }
+      record { known = (core.out n p e).known; loaded = (core.out n p e).inside x.entry.pos ∙ core.own n x x.entry.pos there (reach_self x.entry.pos) (core.here n x there) }
 
-  pub record AfterTurn (k : ℕ → Kind) (now : ℕ) (x : Placed) (more : List Made) (o : Option Out) : Type 0 where
+  pub record AfterTurn (k : ℕ → Kind) (now : ℕ) (x : DueEntry) (more : List Made) (o : Option Out) : Type 0 where
     pub turned_world : whole (slice_set os n o) rest more ≡ (turn_of k now x w).world
     pub turned_made : more ≡ made ++ made_by k now x w
     pub lawful : IsCore count h ps l rest secs parts stages (slice_set os n o) more
 
   pub after_turn : ((q : Pos) → rest.loaded q ≡ false → IsBlank rest q) → ((q : Pos) → rest.loaded q ≡ true → rest.pending q ≡ is_pending q (l (chunk_of q)))
-      → (k : ℕ → Kind) (now : ℕ) (x : Placed) (more : List Made) (o p : Option Out) → slice_get os n ≡ Some o → Contains (part_at parts n) x → TurnsIn k now count x o p made more → AfterTurn k now x more p
+      → (k : ℕ → Kind) (now : ℕ) (x : DueEntry) (more : List Made) (o p : Option Out) → slice_get os n ≡ Some o → Contains (part_at parts n) x → TurnsIn k now count x o p made more → AfterTurn k now x more p
   after_turn blank tied k now x more None p e there t = absurd t
   after_turn blank tied k now x more (Some o) None e there t = absurd t
   after_turn blank tied k now x more (Some o) (Some p) e there t =

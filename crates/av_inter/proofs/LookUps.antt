@@ -1,6 +1,6 @@
 -- What is read of a world and the parcels that are out of it.
 use Rattle.std.proofs.Common.{◌≡◌, ℕ, zero, suc, Bool, true, false, cond, List, [], ◌∷◌, Option, None, Some, ◌⊎◌, inl, inr, refl, sym, ap, ◌∙◌, subst, arith, slice_get, slice_set}
-use Rattle.av_types.specs.declared.place.Pos.{Pos}
+use Rattle.av_types.specs.declared.position.Pos.{Pos}
 use Rattle.av_cells.specs.World.{World}
 use Rattle.av_inter.specs.Out.{Out}
 use Rattle.av_inter.specs.Whole.{read}

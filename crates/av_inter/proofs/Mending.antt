@@ -1,16 +1,16 @@
 -- A parcel that comes back leaves the whole as it was.
 use Rattle.std.proofs.Common.{◌≡◌, ℕ, Bool, true, false, cond, ◌&&◌, ◌||◌, List, Option, None, Some, ◌⊎◌, inl, inr, refl, sym, ap, ◌∙◌, length-set, slice_get, slice_set}
-use Rattle.av_types.specs.Places.{chunk_of, section_of}
-use Rattle.av_types.specs.declared.place.Pos.{Pos}
-use Rattle.av_types.specs.declared.place.ChunkPos.{ChunkPos}
-use Rattle.av_types.specs.declared.place.SectionPos.{SectionPos}
-use Rattle.av_types.specs.declared.place.Height.{Height}
+use Rattle.av_types.specs.Positions.{chunk_of, section_of}
+use Rattle.av_types.specs.declared.position.Pos.{Pos}
+use Rattle.av_types.specs.declared.position.ChunkPos.{ChunkPos}
+use Rattle.av_types.specs.declared.position.SectionPos.{SectionPos}
+use Rattle.av_types.specs.declared.position.Height.{Height}
 use Rattle.av_types.specs.declared.tick.Made.{Made}
 use Rattle.av_ticks.specs.Entries.{is_pending}
 use Rattle.av_cells.specs.World.{World, Lists}
 use Rattle.av_cells.specs.Grid.{among}
 use Rattle.av_world.specs.OutOf.{mended}
-use Rattle.av_play.specs.declared.event.Placed.{Placed}
+use Rattle.av_play.specs.declared.event.DueEntry.{DueEntry}
 use Rattle.av_play.specs.declared.event.Stage.{Stage}
 use Rattle.av_play.specs.declared.event.Stage.TheVariants.{Ended}
 use Rattle.av_play.specs.Play.{entries_of}
@@ -23,7 +23,7 @@ use Rattle.av_inter.specs.Lawful.{HasOut, is_home, is_ended, IsBlank, listed, Is
 use Rattle.av_inter.proofs.LookUps.{AreOff, read_off, read_other, read_rest}
 use Rattle.av_inter.proofs.OneTurn.{only_one, own_read, new_by, new_from, new_to}
 
-module _ (count : ℕ) (h : Height) (ps : List ChunkPos) (l : Lists) (rest : World) (secs : List (List SectionPos)) (parts : List (List Placed)) (stages : List Stage) (os : List (Option Out)) (made : List Made)
+module _ (count : ℕ) (h : Height) (ps : List ChunkPos) (l : Lists) (rest : World) (secs : List (List SectionPos)) (parts : List (List DueEntry)) (stages : List Stage) (os : List (Option Out)) (made : List Made)
     (core : IsCore count h ps l rest secs parts stages os made) (blank_rest : (q : Pos) → rest.loaded q ≡ false → IsBlank rest q) (tied_rest : (q : Pos) → rest.loaded q ≡ true → rest.pending q ≡ is_pending q (l (chunk_of q)))
     (n : ℕ) (o : Out) (e : HasOut os n o) (held : Stage) (at : slice_get stages n ≡ Some held) where
   abbrev b : World
@@ -114,5 +114,5 @@ module _ (count : ℕ) (h : Height) (ps : List ChunkPos) (l : Lists) (rest : Wor
 
       away_at : (m : ℕ) (p : Out) (q : Pos) → HasOut after m p → among (sections_at secs m) (section_of q) ≡ true → new.loaded q ≡ false
       away_at m p q d a =
-          either q (λ u. absurd ((has m p d).0 (core.apart m n (section_of q) a (sym ((core.out n o e).places q) ∙ u))))
+          either q (λ u. absurd ((has m p d).0 (core.apart m n (section_of q) a (sym ((core.out n o e).inside q) ∙ u))))
           (λ u. ap (λ c. cond c true (rest.loaded q)) u ∙ core.away m p q (has m p d).1 a)

@@ -5,14 +5,14 @@ use Rattle.std.proofs.lemmas.Bool.{true≢false}
 use Rattle.std.proofs.lemmas.List.Elements.{All-head, All-tail}
 use Rattle.av_play.proofs.LandTurns.{listed_pending}
 use Rattle.av_ticks.proofs.Lookup.{cond_neither}
-use Rattle.av_types.specs.Places.{chunk_of, section_of}
-use Rattle.av_types.specs.declared.place.Pos.{Pos}
-use Rattle.av_types.specs.declared.place.ChunkPos.{ChunkPos}
-use Rattle.av_types.specs.declared.place.SectionPos.{SectionPos}
-use Rattle.av_types.specs.declared.place.Height.{Height}
+use Rattle.av_types.specs.Positions.{chunk_of, section_of}
+use Rattle.av_types.specs.declared.position.Pos.{Pos}
+use Rattle.av_types.specs.declared.position.ChunkPos.{ChunkPos}
+use Rattle.av_types.specs.declared.position.SectionPos.{SectionPos}
+use Rattle.av_types.specs.declared.position.Height.{Height}
 use Rattle.av_types.specs.declared.tick.Entry.{Entry}
 use Rattle.av_types.specs.declared.tick.Made.{Made}
-use Rattle.av_types.proofs.SamePlaces.{same_pos_is, same_pos_back}
+use Rattle.av_types.proofs.SamePositions.{same_pos_is, same_pos_back}
 use Rattle.av_ticks.specs.Entries.{is_pending}
 use Rattle.av_cells.specs.declared.kind.Kind.{Kind}
 use Rattle.av_cells.specs.Positions.{InReach, same_pos}
@@ -22,7 +22,7 @@ use Rattle.av_cells.specs.Turn.{Change, turn}
 use Rattle.av_water.specs.Frame.{Agree, Same, Kept, InLoadedReach}
 use Rattle.av_water.proofs.Inside.{turn_kept, turn_made}
 use Rattle.av_world.specs.OutOf.{IsPartOf}
-use Rattle.av_play.specs.declared.event.Placed.{Placed}
+use Rattle.av_play.specs.declared.event.DueEntry.{DueEntry}
 use Rattle.av_play.specs.declared.event.Stage.{Stage}
 use Rattle.av_play.specs.Parts.{part_at}
 use Rattle.av_play.specs.Play.{entries_of, labelled, made_by}
@@ -105,7 +105,7 @@ part_after : (h : Height) (ps : List ChunkPos) (l : Lists) (b : World) (aside : 
     → IsPartOf h ps l (turn k now p b).world (listed_all aside (turn k now p b).made)
 part_after h ps l b aside i k now at =
     record {
-      places = λ p t. i.places p (sym (loaded_is p) ∙ t);
+      inside = λ p t. i.inside p (sym (loaded_is p) ∙ t);
       tied = λ p t. turn_waits k now at b p ∙ ap (λ c. cond (is_among p made) true c) (i.tied p (sym (loaded_is p) ∙ t)) ∙ both (is_among p made) (is_pending p (l (chunk_of p))) (is_pending p (aside (chunk_of p)))
           ∙ ap (λ c. is_pending p (l (chunk_of p)) || c) (sym (listed_pending p made aside));
       apart = λ p t e. by p (sym (loaded_is p) ∙ t) (is_among p made) refl (sym (listed_pending p made aside) ∙ e);
@@ -126,7 +126,7 @@ part_after h ps l b aside i k now at =
     by p t true m e = first_of (is_pending p (l (chunk_of p))) _ (sym (i.tied p t) ∙ new_among b p made (turn_fresh k b now at) m)
     by p t false m e = i.apart p t e
 
-module _ (count : ℕ) (h : Height) (ps : List ChunkPos) (l : Lists) (rest : World) (secs : List (List SectionPos)) (parts : List (List Placed)) (stages : List Stage) (os : List (Option Out)) (made : List Made)
+module _ (count : ℕ) (h : Height) (ps : List ChunkPos) (l : Lists) (rest : World) (secs : List (List SectionPos)) (parts : List (List DueEntry)) (stages : List Stage) (os : List (Option Out)) (made : List Made)
     (core : IsCore count h ps l rest secs parts stages os made) (blank_rest : (q : Pos) → rest.loaded q ≡ false → IsBlank rest q) (tied_rest : (q : Pos) → rest.loaded q ≡ true → rest.pending q ≡ is_pending q (l (chunk_of q))) where
   abbrev es : List Entry
   es = entries_of made
@@ -135,7 +135,7 @@ module _ (count : ℕ) (h : Height) (ps : List ChunkPos) (l : Lists) (rest : Wor
   w = whole os rest made
 
   pub only_one : (n : ℕ) (o : Out) → HasOut os n o → (q : Pos) → o.blocks.loaded q ≡ true → (m : ℕ) (p : Out) → HasOut os m p → p.blocks.loaded q ≡ true → m ≡ n
-  only_one n o e q t m p d u = core.apart m n (section_of q) (sym ((core.out m p d).places q) ∙ u) (sym ((core.out n o e).places q) ∙ t)
+  only_one n o e q t m p d u = core.apart m n (section_of q) (sym ((core.out m p d).inside q) ∙ u) (sym ((core.out n o e).inside q) ∙ t)
 
   pub own_read : {X : Type 0} (f : World → Pos → X) (n : ℕ) (o : Out) → HasOut os n o → (q : Pos) → o.blocks.loaded q ≡ true → read f os rest q ≡ f o.blocks q
   own_read f n o e q t = read_own f os rest q n o e t (only_one n o e q t)
@@ -182,7 +182,7 @@ module _ (count : ℕ) (h : Height) (ps : List ChunkPos) (l : Lists) (rest : Wor
     by (inr off) =
         ap (λ b. cond (is_among q es) true b) (read_off (λ v. v.pending) os rest q off ∙ of_rest (rest.loaded q) refl ∙ ap (λ b. b && is_pending q (l (chunk_of q))) (sym (read_off (λ v. v.loaded) os rest q off)))
 
-  module _ (n : ℕ) (o : Out) (e : HasOut os n o) (x : Placed) (there : Contains (part_at parts n) x) (k : ℕ → Kind) (now : ℕ) (new : Out) (more : List Made) (t : Turns k now count x o new made more) where
+  module _ (n : ℕ) (o : Out) (e : HasOut os n o) (x : DueEntry) (there : Contains (part_at parts n) x) (k : ℕ → Kind) (now : ℕ) (new : Out) (more : List Made) (t : Turns k now count x o new made more) where
     abbrev b : World
     b = o.blocks
 
@@ -207,7 +207,7 @@ module _ (count : ℕ) (h : Height) (ps : List ChunkPos) (l : Lists) (rest : Wor
     not_loaded : (q : Pos) → InReach x.entry.pos q → b.loaded q ≡ false → w.loaded q ≡ false
     not_loaded q i f = by (w.loaded q) refl where
       by : (c : Bool) → w.loaded q ≡ c → c ≡ false
-      by true u = absurd (true≢false (sym (mine.places q ∙ core.own n x q there i u) ∙ f))
+      by true u = absurd (true≢false (sym (mine.inside q ∙ core.own n x q there i u) ∙ f))
       by false u = refl
 
     at : (q : Pos) → R q → (b.loaded q ≡ true) ⊎ ((b.loaded q ≡ false) × (w.loaded q ≡ false))
@@ -241,10 +241,10 @@ module _ (count : ℕ) (h : Height) (ps : List ChunkPos) (l : Lists) (rest : Wor
     same = turn_within k now x.entry.pos R b w (λ q i. inl i) agree
 
     pub put_same : more ≡ made ++ made_by k now x w
-    put_same = t.put ∙ ap (λ es. made ++ labelled x.place 0 es) same.same_made
+    put_same = t.put ∙ ap (λ es. made ++ labelled x.index 0 es) same.same_made
 
     entries_more : entries_of more ≡ es ++ tb.made
-    entries_more = ap entries_of t.put ∙ entries_of_append made (made_by k now x b) ∙ ap (λ ys. es ++ ys) (entries_of_labelled x.place 0 tb.made)
+    entries_more = ap entries_of t.put ∙ entries_of_append made (made_by k now x b) ∙ ap (λ ys. es ++ ys) (entries_of_labelled x.index 0 tb.made)
 
     kept_b : Kept (InLoadedReach b x.entry.pos) b tb.world
     kept_b = turn_kept k now x.entry.pos b
@@ -321,7 +321,7 @@ module _ (count : ℕ) (h : Height) (ps : List ChunkPos) (l : Lists) (rest : Wor
     out_new : IsOut count h ps l more (sections_at secs n) new
     out_new =
         record {
-          places = λ q. loaded_kept q ∙ mine.places q;
+          inside = λ q. loaded_kept q ∙ mine.inside q;
           part = subst (λ v. IsPartOf h ps l v new.aside) (sym t.blocks) (subst (λ a. IsPartOf h ps l tb.world a) (sym t.aside) (part_after h ps l b o.aside mine.part k now x.entry.pos));
           waits = λ q u. ap (λ (v : World). v.pending q) t.blocks ∙ turn_waits k now x.entry.pos b q ∙ ap (λ c. cond (is_among q tb.made) true c) (mine.waits q (sym (loaded_kept q) ∙ u))
               ∙ joins (is_among q tb.made) (is_pending q (l (chunk_of q))) (is_among q es) ∙ ap (λ c. is_pending q (l (chunk_of q)) || c) (sym (ap (is_among q) entries_more ∙ among_or q es tb.made));
@@ -345,7 +345,7 @@ module _ (count : ℕ) (h : Height) (ps : List ChunkPos) (l : Lists) (rest : Wor
     out_other m p f d =
         let i = core.out m p d in
         record {
-          places = i.places;
+          inside = i.inside;
           part = i.part;
           waits = λ q u. i.waits q u ∙ ap (λ c. is_pending q (l (chunk_of q)) || c) (sym (ap (is_among q) entries_more ∙ among_or q es tb.made ∙ drop (is_among q es) (is_among q tb.made) (none q u)));
           blank = i.blank;

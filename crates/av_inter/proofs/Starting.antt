@@ -4,9 +4,9 @@ use Rattle.std.specs.List.{Contains}
 use Rattle.std.proofs.lemmas.Bool.{true≢false, cases_eq}
 use Rattle.std.proofs.lemmas.List.{length-map}
 use Rattle.std.proofs.lemmas.Option.{slice_get_within}
-use Rattle.av_types.specs.Places.{chunk_of, section_of, place_of}
-use Rattle.av_types.specs.declared.place.Pos.{Pos}
-use Rattle.av_types.specs.declared.place.SectionPos.{SectionPos}
+use Rattle.av_types.specs.Positions.{chunk_of, section_of, place_of}
+use Rattle.av_types.specs.declared.position.Pos.{Pos}
+use Rattle.av_types.specs.declared.position.SectionPos.{SectionPos}
 use Rattle.av_types.specs.declared.tick.Entry.{Entry}
 use Rattle.av_ticks.specs.Entries.{is_pending}
 use Rattle.av_cells.specs.Rule.{HasKinds}
@@ -18,7 +18,7 @@ use Rattle.av_world.specs.Views.{grid, blocks, lists}
 use Rattle.av_world.specs.ParcelViews.{blocks as parcel_blocks}
 use Rattle.av_world.specs.declared.worlds.World.{World}
 use Rattle.av_world.specs.declared.parcels.Parcel.{Parcel}
-use Rattle.av_play.specs.declared.event.Placed.{Placed}
+use Rattle.av_play.specs.declared.event.DueEntry.{DueEntry}
 use Rattle.av_play.specs.declared.event.Stage.TheVariants.{Waits}
 use Rattle.av_play.specs.Parts.{part_at, numbered}
 use Rattle.av_play.specs.Laws.{IsOfPart}
@@ -62,7 +62,7 @@ out_at [] n o e = cc
 out_at (c ∷ cs) zero o e = let g : c ≡ o = cc in ap (λ x. Some (out_in x)) g
 out_at (c ∷ cs) (suc n) o e = out_at cs n o e
 
-wait_at : (ps : List (List Placed)) (n : ℕ) → is_ended (slice_get (all_wait ps) n) ≡ false
+wait_at : (ps : List (List DueEntry)) (n : ℕ) → is_ended (slice_get (all_wait ps) n) ≡ false
 wait_at [] n = refl
 wait_at (p ∷ ps) zero = refl
 wait_at (p ∷ ps) (suc n) = wait_at ps n
@@ -75,17 +75,17 @@ pub all_wait_is : (cs : List Cluster) → replicate (length cs) Waits ≡ all_wa
 all_wait_is [] = refl
 all_wait_is (c ∷ cs) = ap (λ l. Waits ∷ l) (all_wait_is cs)
 
-wait_count : (ps : List (List Placed)) → length (all_wait ps) ≡ length ps
+wait_count : (ps : List (List DueEntry)) → length (all_wait ps) ≡ length ps
 wait_count [] = refl
 wait_count (p ∷ ps) = ap suc (wait_count ps)
 
-placed_in : (n : ℕ) (es : List Entry) (P : Entry → Type 0) (x : Placed) → All P es → Contains (numbered n es) x → P x.entry
-placed_in n [] P x h c = absurd (none_contained x c)
-placed_in n (e ∷ es) P x h (zero, l, g) = subst (λ (y : Placed). P y.entry) g (All-head P e es h)
-placed_in n (e ∷ es) P x h (suc k, l, g) = placed_in (suc n) es P x (All-tail P e es h) (k, omega arith, g)
+numbered_in : (n : ℕ) (es : List Entry) (P : Entry → Type 0) (x : DueEntry) → All P es → Contains (numbered n es) x → P x.entry
+numbered_in n [] P x h c = absurd (none_contained x c)
+numbered_in n (e ∷ es) P x h (zero, l, g) = subst (λ (y : DueEntry). P y.entry) g (All-head P e es h)
+numbered_in n (e ∷ es) P x h (suc k, l, g) = numbered_in (suc n) es P x (All-tail P e es h) (k, omega arith, g)
 
 -- what is chosen was there
-chosen_from : (p : Placed → Bool) (xs : List Placed) (x : Placed) → Contains (filter p xs) x → Contains xs x
+chosen_from : (p : DueEntry → Bool) (xs : List DueEntry) (x : DueEntry) → Contains (filter p xs) x → Contains xs x
 chosen_from p [] x c = absurd (none_contained x c)
 chosen_from p (y ∷ ys) x c = by (p y) c (chosen_from p ys x) where
   by : (b : Bool) → Contains (cond b (y ∷ filter p ys) (filter p ys)) x → (Contains (filter p ys) x → Contains ys x) → Contains (y ∷ ys) x
@@ -105,7 +105,7 @@ module _ (count : ℕ) (g : Grid) (entries : List Entry) (clusters : List Cluste
 
   -- the n-th parcel has the n-th sections as they were
   was_out : (n : ℕ) (o : Out) → HasOut (outs cs) n o → (o.blocks ≡ cells_of (only (among (sections_at secs n)) g)) × IsOut count w.height w.positions.items (lists w) [] (sections_at secs n) o
-  was_out n o e = subst (λ p. (p.blocks ≡ cells_of (only (among ss) g)) × IsOut count w.height w.positions.items (lists w) [] ss p) (sym is) (same, record { places = places; part = c.2.part; waits = waits; blank = blank; known = kinds }) where
+  was_out n o e = subst (λ p. (p.blocks ≡ cells_of (only (among ss) g)) × IsOut count w.height w.positions.items (lists w) [] ss p) (sym is) (same, record { inside = inside; part = c.2.part; waits = waits; blank = blank; known = kinds }) where
     ss : List SectionPos
     ss = sections_at secs n
 
@@ -122,8 +122,8 @@ module _ (count : ℕ) (g : Grid) (entries : List Entry) (clusters : List Cluste
     picked q true a = can.here n (section_of q) a
     picked q false a = refl
 
-    places : (q : Pos) → (parcel_blocks c.0).loaded q ≡ among ss (section_of q)
-    places q = ap (λ (v : cells.World). v.loaded q) same ∙ picked q (among ss (section_of q)) refl
+    inside : (q : Pos) → (parcel_blocks c.0).loaded q ≡ among ss (section_of q)
+    inside q = ap (λ (v : cells.World). v.loaded q) same ∙ picked q (among ss (section_of q)) refl
 
     drop : (b : Bool) → b || false ≡ b || false
     drop b = refl
@@ -151,10 +151,10 @@ module _ (count : ℕ) (g : Grid) (entries : List Entry) (clusters : List Cluste
     of_part false t = absurd (true≢false (sym t))
 
     alone : (n : ℕ) (o : Out) → HasOut (outs cs) n o → o.blocks.loaded q ≡ true → (m : ℕ) (p : Out) → HasOut (outs cs) m p → p.blocks.loaded q ≡ true → m ≡ n
-    alone n o e t m p d u = can.apart m n (section_of q) (sym ((was_out m p d).1.places q) ∙ u) (sym ((was_out n o e).1.places q) ∙ t)
+    alone n o e t m p d u = can.apart m n (section_of q) (sym ((was_out m p d).1.inside q) ∙ u) (sym ((was_out n o e).1.inside q) ∙ t)
 
     nowhere : AreOff (outs cs) q → (n : ℕ) → n < length cs → among (sections_at secs n) (section_of q) ≡ false
-    nowhere off n l = let c = cut.out n l in let d = out_at cs n (Some c.0) c.1 in sym ((was_out n (out_of c.0) d).1.places q) ∙ off n (out_of c.0) d
+    nowhere off n l = let c = cut.out n l in let d = out_at cs n (Some c.0) c.1 in sym ((was_out n (out_of c.0) d).1.inside q) ∙ off n (out_of c.0) d
 
     by : ((n : ℕ) × (o : Out) × HasOut (outs cs) n o × (o.blocks.loaded q ≡ true)) ⊎ AreOff (outs cs) q → read f (outs cs) (blocks w) q ≡ f (cells_of g) q
     by (inl (n, o, e, t)) =
@@ -183,7 +183,7 @@ module _ (count : ℕ) (g : Grid) (entries : List Entry) (clusters : List Cluste
         away = λ n o q e a. away n o q e a;
         apart = can.apart;
         own = λ n x q c i u. has_among (sections_at secs n) (section_of q) ((planned.exact n (section_of q)).1 (record { owner = x; there = c; territory = record { block = q; in_reach = i; loaded = sym (start_loaded q) ∙ u; lies = refl } }));
-        here = λ n x c. start_loaded x.entry.pos ∙ placed_in 0 entries (λ e. IsTrue ((cells_of g).loaded e.pos)) x loaded (in_tick n x c);
+        here = λ n x c. start_loaded x.entry.pos ∙ numbered_in 0 entries (λ e. IsTrue ((cells_of g).loaded e.pos)) x loaded (in_tick n x c);
         within = λ q a. absurd (true≢false (sym a));
         fresh = refl;
       }
@@ -199,5 +199,5 @@ module _ (count : ℕ) (g : Grid) (entries : List Entry) (clusters : List Cluste
       away : (n : ℕ) (o : Out) (q : Pos) → HasOut (outs cs) n o → among (sections_at secs n) (section_of q) ≡ true → (blocks w).loaded q ≡ false
       away n o q e a = ap is_here (cut.gone n (section_of q) (within_of n (Some o) e) a)
 
-      in_tick : (n : ℕ) (x : Placed) → Contains (part_at (parts_of clusters) n) x → Contains (numbered 0 entries) x
+      in_tick : (n : ℕ) (x : DueEntry) → Contains (part_at (parts_of clusters) n) x → Contains (numbered 0 entries) x
       in_tick n x c = chosen_from _ (numbered 0 entries) x (subst (λ l. Contains l x) (planned.plan.each n) c)

@@ -1,17 +1,17 @@
 -- Where a part is changes nothing else.
 use Rattle.std.proofs.Common.{◌≡◌, ℕ, List, Option, Some, ◌⊎◌, inl, inr, sym, ap, ◌∙◌, length-set, slice_get, slice_set}
-use Rattle.av_types.specs.declared.place.ChunkPos.{ChunkPos}
-use Rattle.av_types.specs.declared.place.SectionPos.{SectionPos}
-use Rattle.av_types.specs.declared.place.Height.{Height}
+use Rattle.av_types.specs.declared.position.ChunkPos.{ChunkPos}
+use Rattle.av_types.specs.declared.position.SectionPos.{SectionPos}
+use Rattle.av_types.specs.declared.position.Height.{Height}
 use Rattle.av_types.specs.declared.tick.Made.{Made}
 use Rattle.av_cells.specs.World.{World, Lists}
-use Rattle.av_play.specs.declared.event.Placed.{Placed}
+use Rattle.av_play.specs.declared.event.DueEntry.{DueEntry}
 use Rattle.av_play.specs.declared.event.Stage.{Stage}
 use Rattle.av_play.proofs.Lists.{at_set}
 use Rattle.av_inter.specs.Out.{Out}
 use Rattle.av_inter.specs.Lawful.{is_home, is_ended, IsCore}
 
-module _ (count : ℕ) (h : Height) (ps : List ChunkPos) (l : Lists) (rest : World) (secs : List (List SectionPos)) (parts : List (List Placed)) (stages : List Stage) (os : List (Option Out)) (made : List Made)
+module _ (count : ℕ) (h : Height) (ps : List ChunkPos) (l : Lists) (rest : World) (secs : List (List SectionPos)) (parts : List (List DueEntry)) (stages : List Stage) (os : List (Option Out)) (made : List Made)
     (core : IsCore count h ps l rest secs parts stages os made) (n : ℕ) (old new : Stage) (at : slice_get stages n ≡ Some old) (same : is_ended (Some old) ≡ is_ended (Some new)) where
   pub core_stage : IsCore count h ps l rest secs parts (slice_set stages n new) os made
   core_stage =

@@ -1,7 +1,7 @@
 -- Parts carved out of a world, one after the other.
 use Rattle.std.specs.Prelude.{◌≡◌, ℕ, ◌<◌, List, [], Option, Some, None, true, false, length}
 use Rattle.std.specs.List.{slice_get, All, AllPairs}
-use Rattle.av_types.specs.declared.place.SectionPos.{SectionPos}
+use Rattle.av_types.specs.declared.position.SectionPos.{SectionPos}
 use Rattle.av_cells.specs.Grid.{Grid, among, only, over, is_here}
 use Rattle.av_cells.specs.Positions.{same_section}
 use Rattle.av_cluster.specs.Clusters.{sections_at}

@@ -2,11 +2,11 @@
 use Rattle.std.specs.Prelude.{◌≡◌, ℕ, Bool, true, false, not, ◌&&◌, ◌||◌, List, [], ◌∷◌, Option, Some, None, length}
 use Rattle.av_types.specs.declared.tick.Entry.{Entry}
 use Rattle.std.specs.List.{slice_get, Contains}
-use Rattle.av_types.specs.Places.{chunk_of, section_of}
-use Rattle.av_types.specs.declared.place.Pos.{Pos}
-use Rattle.av_types.specs.declared.place.ChunkPos.{ChunkPos}
-use Rattle.av_types.specs.declared.place.SectionPos.{SectionPos}
-use Rattle.av_types.specs.declared.place.Height.{Height}
+use Rattle.av_types.specs.Positions.{chunk_of, section_of}
+use Rattle.av_types.specs.declared.position.Pos.{Pos}
+use Rattle.av_types.specs.declared.position.ChunkPos.{ChunkPos}
+use Rattle.av_types.specs.declared.position.SectionPos.{SectionPos}
+use Rattle.av_types.specs.declared.position.Height.{Height}
 use Rattle.av_types.specs.declared.tick.Made.{Made}
 use Rattle.av_ticks.specs.Entries.{is_pending}
 use Rattle.av_cells.specs.Positions.{InReach}
@@ -14,7 +14,7 @@ use Rattle.av_cells.specs.Rule.{HasKinds}
 use Rattle.av_cells.specs.World.{World, Lists}
 use Rattle.av_cells.specs.Grid.{among}
 use Rattle.av_world.specs.OutOf.{IsPartOf}
-use Rattle.av_play.specs.declared.event.Placed.{Placed}
+use Rattle.av_play.specs.declared.event.DueEntry.{DueEntry}
 use Rattle.av_play.specs.declared.event.Stage.{Stage}
 use Rattle.av_play.specs.declared.event.Stage.TheVariants.{Ended}
 use Rattle.av_play.specs.Parts.{part_at}
@@ -45,7 +45,7 @@ pub record IsBlank (w : World) (q : Pos) : Type 0 where
 
 -- A parcel of these sections. What waits in it is what the world's lists have and what was put aside by any part.
 pub record IsOut (count : ℕ) (h : Height) (ps : List ChunkPos) (l : Lists) (made : List Made) (sections : List SectionPos) (o : Out) : Type 0 where
-  pub places : (q : Pos) → o.blocks.loaded q ≡ among sections (section_of q)
+  pub inside : (q : Pos) → o.blocks.loaded q ≡ among sections (section_of q)
   pub part : IsPartOf h ps l o.blocks o.aside
   pub waits : (q : Pos) → o.blocks.loaded q ≡ true → o.blocks.pending q ≡ is_pending q (l (chunk_of q)) || is_among q (entries_of made)
   pub blank : (q : Pos) → o.blocks.loaded q ≡ false → IsBlank o.blocks q
@@ -62,13 +62,13 @@ are_new w (e ∷ es) = not (w.pending e.pos) && not (is_among e.pos es) && are_n
 
 -- The sections of each part are in a parcel until the part is back. No section is of two parts, and a part has all that its entries' turns can
 -- reach. What was put aside is of loaded blocks that do not wait in the lists, and of each once.
-pub record IsCore (count : ℕ) (h : Height) (ps : List ChunkPos) (l : Lists) (rest : World) (sections : List (List SectionPos)) (parts : List (List Placed)) (stages : List Stage) (os : List (Option Out)) (made : List Made) : Type 0 where
+pub record IsCore (count : ℕ) (h : Height) (ps : List ChunkPos) (l : Lists) (rest : World) (sections : List (List SectionPos)) (parts : List (List DueEntry)) (stages : List Stage) (os : List (Option Out)) (made : List Made) : Type 0 where
   pub counted : length os ≡ length stages
   pub back : (n : ℕ) → is_home (slice_get os n) ≡ is_ended (slice_get stages n)
   pub out : (n : ℕ) (o : Out) → HasOut os n o → IsOut count h ps l made (sections_at sections n) o
   pub away : (n : ℕ) (o : Out) (q : Pos) → HasOut os n o → among (sections_at sections n) (section_of q) ≡ true → rest.loaded q ≡ false
   pub apart : (m n : ℕ) (s : SectionPos) → among (sections_at sections m) s ≡ true → among (sections_at sections n) s ≡ true → m ≡ n
-  pub own : (n : ℕ) (x : Placed) (q : Pos) → Contains (part_at parts n) x → InReach x.entry.pos q → (whole os rest made).loaded q ≡ true → among (sections_at sections n) (section_of q) ≡ true
-  pub here : (n : ℕ) (x : Placed) → Contains (part_at parts n) x → (whole os rest made).loaded x.entry.pos ≡ true
+  pub own : (n : ℕ) (x : DueEntry) (q : Pos) → Contains (part_at parts n) x → InReach x.entry.pos q → (whole os rest made).loaded q ≡ true → among (sections_at sections n) (section_of q) ≡ true
+  pub here : (n : ℕ) (x : DueEntry) → Contains (part_at parts n) x → (whole os rest made).loaded x.entry.pos ≡ true
   pub within : (q : Pos) → is_among q (entries_of made) ≡ true → (whole os rest made).loaded q ≡ true
   pub fresh : are_new (listed (whole os rest made) l) (entries_of made) ≡ true

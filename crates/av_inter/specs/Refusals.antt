@@ -1,7 +1,7 @@
 -- When an event is refused.
 use Rattle.std.specs.Prelude.{◌≡◌, ℕ, nat_eq, if◌then◌else◌, List, Option, Some, None, length}
 use Rattle.std.specs.List.{slice_get}
-use Rattle.av_play.specs.declared.event.Placed.{Placed}
+use Rattle.av_play.specs.declared.event.DueEntry.{DueEntry}
 use Rattle.av_play.specs.declared.event.Stage.{Stage}
 use Rattle.av_play.specs.declared.event.Stage.TheVariants.{Waits, Held}
 use Rattle.av_play.specs.declared.event.Event.{Event}
@@ -17,7 +17,7 @@ done_by worker (Some (Held holder done)) = if nat_eq holder worker then Some don
 done_by worker _ = None
 
 -- Memory may be refused to a lawful turn alone. Every other refusal says why the event is not lawful.
-abbrev pub IsEventRefusal : List (List Placed) → State → Event → Refused → Type 0
+abbrev pub IsEventRefusal : List (List DueEntry) → State → Event → Refused → Type 0
 IsEventRefusal parts s (Take worker n) NotWaiting = ¬ (slice_get s.stages n ≡ Some Waits)
 IsEventRefusal parts s (Turn worker n) NotHolder = (done : ℕ) → ¬ (slice_get s.stages n ≡ Some (Held worker done))
 IsEventRefusal parts s (Turn worker n) NoEntry = (done : ℕ) × (slice_get s.stages n ≡ Some (Held worker done)) × (slice_get (part_at parts n) done ≡ None)

@@ -2,7 +2,7 @@
 use Rattle.std.specs.Prelude.{◌≡◌, ℕ, List}
 use Rattle.av_cells.specs.Kinds.{kinds_of}
 use Rattle.av_cells.specs.declared.kind.Kind.{Kind}
-use Rattle.av_play.specs.declared.event.Placed.{Placed}
+use Rattle.av_play.specs.declared.event.DueEntry.{DueEntry}
 use Rattle.av_play.specs.Play.{State}
 use Rattle.av_cells.specs.World.{Site}
 use Rattle.av_world.specs.Views.{blocks, lists, site}
@@ -16,7 +16,7 @@ abbrev pub state_of : Core → State
 state_of c = record { world = whole (outs c.parcels.items) (blocks c.world) c.made.items; lists = lists c.world; made = c.made.items; stages = c.stages.items }
 
 -- the entries of each part
-abbrev pub parts_in : Core → List (List Placed)
+abbrev pub parts_in : Core → List (List DueEntry)
 parts_in c = parts_of c.clusters.items
 
 -- the kinds of numbers, and the tick

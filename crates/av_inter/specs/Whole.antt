@@ -1,6 +1,6 @@
 -- The whole that a world and the parcels out of it make.
 use Rattle.std.specs.Prelude.{List, [], ◌∷◌, Option, Some, None, if◌then◌else◌}
-use Rattle.av_types.specs.declared.place.Pos.{Pos}
+use Rattle.av_types.specs.declared.position.Pos.{Pos}
 use Rattle.av_types.specs.declared.tick.Made.{Made}
 use Rattle.av_cells.specs.World.{World}
 use Rattle.av_play.specs.Play.{entries_of}

@@ -27,7 +27,7 @@ fn all_waiting(alloc: Global, count: usize) -> Result<Vec<Stage>, AllocError>
     ensures { IfOk result (λ stages. stages.items ≡ replicate count Stage.Waits) }
 {
     let mut stages = Vec::new(alloc);
-    for place in 0..count {
+    for index in 0..count {
         stages.push(Stage::Waits)?;
     }
     Ok(stages)
@@ -88,7 +88,7 @@ impl<'a> Core<'a> {
     }
 
     /// The world after the tick, where all parts are back: what was put aside is appended to the chunks' lists, by the
-    /// place of its maker in the tick and then by its number.
+    /// index of its maker in the tick and then by its number.
     ///
     /// # Errors
     /// `NotDone` where a part is not back, and `NoMemory`. Then the core comes back as it was.

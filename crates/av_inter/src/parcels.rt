@@ -1,7 +1,7 @@
 //! Parcels carved out of a world, and put back.
 ghost use Rattle.std.specs.Prelude.{◌≡◌, ◌≤◌, OnOk, [], List, false, length, vec_capacity};
-ghost use Rattle.av_types.specs.declared.place.SectionPos.{SectionPos};
-ghost use Rattle.av_world.specs.Views.{grid, blocks, lists, is_broken, IsSamePlaces};
+ghost use Rattle.av_types.specs.declared.position.SectionPos.{SectionPos};
+ghost use Rattle.av_world.specs.Views.{grid, blocks, lists, is_broken, IsSameButBlocks};
 ghost use Rattle.av_cells.specs.Grid.{Grid};
 ghost use Rattle.av_cluster.specs.Clusters.{sections_of};
 ghost use Rattle.av_inter.specs.Cut.{CanCut, AreCut, ArePartsOf, HoldsPartOf, put_grid, put_blocks};
@@ -23,7 +23,7 @@ pub(crate) fn carve_all(
     requires can { CanCut (grid world.old) (sections_of clusters.now) }
     ensures cut { AreCut (grid world.old) (sections_of clusters.now) world.new parcels.new.items }
     ensures all { OnOk result (length parcels.new.items ≡ length clusters.now) }
-    ensures same { IsSamePlaces world.old world.new }
+    ensures same { IsSameButBlocks world.old world.new }
 {
     for cluster in clusters {
         let Ok(parcel) = world.carve(cluster.sections.as_slice()) else {
@@ -40,7 +40,7 @@ pub(crate) fn mend_one(world: &mut World, slot: Option<Parcel>)
     ensures blocks { blocks world.new ≡ put_blocks (lists world.old) (out_in slot)
         (blocks world.old) }
     ensures grid { grid world.new ≡ put_grid slot (grid world.old) }
-    ensures same { IsSamePlaces world.old world.new }
+    ensures same { IsSameButBlocks world.old world.new }
 {
     if let Some(parcel) = slot {
         world.mend(parcel);
@@ -52,7 +52,7 @@ pub(crate) fn mend_all(world: &mut World, mut parcels: Vec<Option<Parcel>>)
     requires { ArePartsOf world.old parcels.items }
     ensures grid { (g : Grid) (sections : List (List SectionPos)) → CanCut g sections
         → AreCut g sections world.old parcels.items → grid world.new ≡ g }
-    ensures same { IsSamePlaces world.old world.new }
+    ensures same { IsSameButBlocks world.old world.new }
 {
     while let Some(slot) = parcels.pop() {
         mend_one(world, slot);

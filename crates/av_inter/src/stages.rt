@@ -7,7 +7,7 @@ ghost use Rattle.av_cluster.specs.Clusters.{parts_of};
 ghost use Rattle.av_inter.specs.Refusals.{done_by};
 
 use av_cluster::Cluster;
-use av_play::{Placed, Stage};
+use av_play::{DueEntry, Stage};
 
 /// Whether a part waits.
 pub(crate) fn waits(stages: &[Stage], part: u32) -> bool
@@ -49,7 +49,7 @@ pub(crate) fn all_back(stages: &[Stage]) -> bool
 }
 
 /// An entry of a part.
-fn nth(entries: &[Placed], done: usize) -> Option<Placed>
+fn nth(entries: &[DueEntry], done: usize) -> Option<DueEntry>
     ensures entry { result ≡ slice_get entries.now done }
     ensures there { IsSome result → done + 1 < 2 ^ 64 }
 {
@@ -57,7 +57,7 @@ fn nth(entries: &[Placed], done: usize) -> Option<Placed>
 }
 
 /// The entry of a part after so many others.
-pub(crate) fn entry_after(clusters: &[Cluster], part: u32, done: usize) -> Option<Placed>
+pub(crate) fn entry_after(clusters: &[Cluster], part: u32, done: usize) -> Option<DueEntry>
     ensures entry { result ≡ slice_get (part_at (parts_of clusters.now) part) done }
     ensures there { IsSome result → done + 1 < 2 ^ 64 }
 {
@@ -68,7 +68,7 @@ pub(crate) fn entry_after(clusters: &[Cluster], part: u32, done: usize) -> Optio
 }
 
 /// The number of entries.
-fn length_of(entries: &[Placed]) -> usize
+fn length_of(entries: &[DueEntry]) -> usize
     ensures { result ≡ length entries.now }
 {
     entries.len()

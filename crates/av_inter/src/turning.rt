@@ -6,7 +6,7 @@ ghost use Rattle.av_inter.specs.Out.{out_of, out_in};
 ghost use Rattle.av_inter.specs.Turned.{CanTurn, CanTurnIn, Turns, TurnsIn};
 
 use arrayvec::ArrayVec;
-use av_play::{Placed, turn_one};
+use av_play::{DueEntry, turn_one};
 use av_rules::Kinds;
 use av_types::Made;
 use av_world::Parcel;
@@ -17,7 +17,7 @@ fn turn_parcel(
     parcel: &mut Parcel,
     kinds: &Kinds,
     now: u32,
-    next: Placed,
+    next: DueEntry,
     made: &mut Vec<Made>,
 ) -> Result<(), AllocError>
     requires { CanTurn (kind_count kinds.now) next (out_of parcel.old) }
@@ -38,7 +38,7 @@ pub(crate) fn turn_in(
     slot: &mut Option<Parcel>,
     kinds: &Kinds,
     now: u32,
-    next: Placed,
+    next: DueEntry,
     made: &mut Vec<Made>,
 ) -> Result<(), AllocError>
     requires { CanTurnIn (kind_count kinds.now) next (out_in slot.old) }

@@ -1,6 +1,6 @@
 -- A world of air, water and stone, whose due entries left their lists, has kinds for all its blocks.
 use Rattle.std.proofs.Common.{◌≡◌, ℕ, ◌≤◌, ◌<◌, IsTrue, Bool, subst, sym, arith}
-use Rattle.av_types.specs.declared.place.Pos.{Pos}
+use Rattle.av_types.specs.declared.position.Pos.{Pos}
 use Rattle.av_cells.specs.Rule.{HasKinds}
 use Rattle.av_cells.specs.World.{World}
 

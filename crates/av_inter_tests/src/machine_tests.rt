@@ -235,7 +235,7 @@ fn a_tick_ends_when_all_parts_are_back(rt: HostRuntime) -> Result<(), Fail> {
     Ok(())
 }
 
-/// What was made comes into a list by its makers' places, also where the later part was back first.
+/// What was made comes into a list by its makers' indices, also where the later part was back first.
 #[test]
 fn entries_go_by_their_makers(rt: HostRuntime) -> Result<(), Fail> {
     let alloc = rt.alloc();

@@ -92,11 +92,11 @@ fn parts_of(alloc: Global, chunks: &[ChunkPos], sources: &[Pos]) -> Result<Vec<C
     plan_of(alloc, &world, due.as_slice())
 }
 
-/// A part has entries of these blocks, with their places, and these sections, in some order.
+/// A part has entries of these blocks, with their indices, and these sections, in some order.
 fn expect_part(rt: &impl Abort, part: &Cluster, entries: &[(u64, Pos)], sections: &[SectionPos]) {
     assert_eq!(rt; part.entries.len(), entries.len());
-    for (one, (place, pos)) in part.entries.iter().zip(entries) {
-        assert_eq!(rt; one.place, *place);
+    for (one, (index, pos)) in part.entries.iter().zip(entries) {
+        assert_eq!(rt; one.index, *index);
         assert_eq!(rt; one.entry.pos, *pos);
     }
     assert_eq!(rt; part.sections.len(), sections.len());

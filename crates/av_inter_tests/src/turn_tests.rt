@@ -4,7 +4,7 @@ ghost use Rattle.av_world_tests.specs.Flat.{IsPlain};
 use crate::parts::{ORIGIN, at, stone_kinds};
 use arrayvec::ArrayVec;
 use av_cells::Cells;
-use av_play::{Placed, turn_one};
+use av_play::{DueEntry, turn_one};
 use av_rules::Kinds;
 use av_types::{Entry, Fault, Height, Made, Pos};
 use av_world::World;
@@ -13,10 +13,10 @@ use av_world_tests::worlds::{flat_world, put};
 use std::alloc::Global;
 use std::test::Fail;
 
-/// An entry of a block, at a place of its tick.
-fn placed(place: u64, pos: Pos) -> Placed {
-    Placed {
-        place,
+/// An entry of a block, at an index of its tick.
+fn due(index: u64, pos: Pos) -> DueEntry {
+    DueEntry {
+        index,
         entry: Entry {
             pos,
             due: 6,
@@ -25,7 +25,7 @@ fn placed(place: u64, pos: Pos) -> Placed {
     }
 }
 
-/// An entry that the one at a place has made, with its number there, for five ticks later.
+/// An entry that the one at an index has made, with its number there, for five ticks later.
 fn made(maker: u64, number: u8, pos: Pos) -> Made {
     Made {
         maker,
@@ -43,8 +43,8 @@ fn made_by_both(
     alloc: Global,
     world: &mut World,
     kinds: &Kinds,
-    first: Placed,
-    second: Placed,
+    first: DueEntry,
+    second: DueEntry,
 ) -> Result<Vec<Made>, Fault>
     requires { IsPlain world.old }
 {
@@ -64,7 +64,7 @@ fn made_by_both(
     Ok(made)
 }
 
-/// Each has the place of the entry that made it and its number among those of that one, and stands behind what was made before. Water that
+/// Each has the index of the entry that made it and its number among those of that one, and stands behind what was made before. Water that
 /// stands on stone makes five, water that can fall two.
 #[test]
 fn made_entries_are_labelled(rt: HostRuntime) -> Result<(), Fail> {
@@ -73,7 +73,7 @@ fn made_entries_are_labelled(rt: HostRuntime) -> Result<(), Fail> {
     let mut world = flat_world(alloc, Height::game(), &[ORIGIN])?;
     put(&mut world, at(8, 64, 8), SOURCE)?;
     put(&mut world, at(8, 70, 8), SOURCE)?;
-    let (standing, falling) = (placed(7, at(8, 64, 8)), placed(9, at(8, 70, 8)));
+    let (standing, falling) = (due(7, at(8, 64, 8)), due(9, at(8, 70, 8)));
     let found = made_by_both(alloc, &mut world, &kinds, standing, falling)?;
     let want = [
         made(7, 0, at(8, 64, 7)),

@@ -8,11 +8,11 @@ use Rattle.std.specs.List.{AllByRecursion, filter}
 use Rattle.std.proofs.lemmas.Int.{ints}
 use Rattle.std.proofs.lemmas.Bool.{and_parts, and_from, true≢false, false≢true, not-true, cond_both}
 use Rattle.av_ticks.proofs.Lookup.{are_apart-push}
-use Rattle.av_types.specs.Places.{chunk_of, is_block_of}
-use Rattle.av_types.specs.declared.place.Pos.{Pos}
-use Rattle.av_types.specs.declared.place.ChunkPos.{ChunkPos}
+use Rattle.av_types.specs.Positions.{chunk_of, is_block_of}
+use Rattle.av_types.specs.declared.position.Pos.{Pos}
+use Rattle.av_types.specs.declared.position.ChunkPos.{ChunkPos}
 use Rattle.av_types.specs.declared.tick.Entry.{Entry}
-use Rattle.av_types.proofs.SamePlaces.{same_pos-refl, same_chunk-refl, same_chunk_is, same_pos_is}
+use Rattle.av_types.proofs.SamePositions.{same_pos-refl, same_chunk-refl, same_chunk_is, same_pos_is}
 use Rattle.av_ticks.specs.Entries.{is_pending, are_apart, is_due}
 use Rattle.av_ticks.proofs.Kept.{are_apart-filter}
 use Rattle.av_cells.specs.declared.kind.Kind.{Kind}

@@ -2,7 +2,7 @@
 use Rattle.std.proofs.Common.{◌≡◌, ℕ, zero, suc, min, nat_lt, nat_eq, Bool, true, false, ◌&&◌, ◌||◌, cond, Some, None, refl, ap, sym}
 use Rattle.std.specs.Prelude.{option_map}
 use Rattle.av_water.proofs.Renumbered.{wet_is_first}
-use Rattle.av_types.specs.declared.place.Pos.{Pos}
+use Rattle.av_types.specs.declared.position.Pos.{Pos}
 use Rattle.av_types.specs.declared.water.Direction.{Direction}
 use Rattle.av_types.specs.declared.water.Direction.TheVariants.{North, South, West, East}
 use Rattle.av_types.specs.declared.water.Wet.{Wet}

@@ -1,7 +1,7 @@
 -- A tick, and a run of ticks.
 use Rattle.std.specs.Prelude.{ℕ, zero, suc, ◌+◌, not, if◌then◌else◌, nat_eq, List, [], ◌∷◌, length}
 use Rattle.std.specs.List.{flat_map, filter}
-use Rattle.av_types.specs.declared.place.Pos.{Pos}
+use Rattle.av_types.specs.declared.position.Pos.{Pos}
 use Rattle.av_types.specs.declared.tick.Entry.{Entry}
 use Rattle.av_ticks.specs.Entries.{is_due, due_order}
 use Rattle.av_types.specs.Order.{ordered}

@@ -3,11 +3,11 @@ use Rattle.std.proofs.Common.{◌≡◌, ℕ, not, filter, ◌<◌, ◌≤◌, �
 use Rattle.std.proofs.lemmas.Bool.{true≢false, cases_lt}
 use Rattle.std.proofs.lemmas.List.Elements.{All-head, All-tail}
 use Rattle.std.proofs.lemmas.Option.{get_or_from_slice_get}
-use Rattle.av_types.specs.Places.{chunk_of, chunk_of_section, section_of, place_of, is_block_of}
-use Rattle.av_types.specs.declared.place.Pos.{Pos}
-use Rattle.av_types.specs.declared.place.ChunkPos.{ChunkPos}
-use Rattle.av_types.specs.declared.place.SectionPos.{SectionPos}
-use Rattle.av_types.proofs.SamePlaces.{same_chunk_is}
+use Rattle.av_types.specs.Positions.{chunk_of, chunk_of_section, section_of, place_of, is_block_of}
+use Rattle.av_types.specs.declared.position.Pos.{Pos}
+use Rattle.av_types.specs.declared.position.ChunkPos.{ChunkPos}
+use Rattle.av_types.specs.declared.position.SectionPos.{SectionPos}
+use Rattle.av_types.proofs.SamePositions.{same_chunk_is}
 use Rattle.av_ticks.specs.Entries.{is_due}
 use Rattle.av_rules.specs.Kinds.{kind_count}
 use Rattle.av_cells.specs.Positions.{same_chunk}
@@ -72,7 +72,7 @@ abbrev pub IsNextIn : List ChunkPos → List (Option ℕ) → Group → Type 0
 IsNextIn ps stages g = All (λ t. stage_of ps stages t.chunk ≡ Some t.before) g.touches.items
 
 pub next_in : (p : Plan) → IsPlan p → (i : ℕ) (g : Group) → slice_get (groups_of p) i ≡ Some g → (stages : List (Option ℕ)) → IsNext stages g → IsNextIn (positions_of p.start.value) stages g
-next_in p is i g at stages next k d l = let t = get_or g.touches.items k d in ap (λ n. get_or stages n None) (slot_is p.start.value t.chunk t.index ((is.groups.cut.each i g at).placed k d l)) ∙ next k d l
+next_in p is i g at stages next k d l = let t = get_or g.touches.items k d in ap (λ n. get_or stages n None) (slot_is p.start.value t.chunk t.index ((is.groups.cut.each i g at).own_index k d l)) ∙ next k d l
 
 module _ (p : Plan) (is : IsPlan p) (i : ℕ) (g : Group) (at : slice_get (groups_of p) i ≡ Some g) (old new lent : World) (stages : List (Option ℕ)) (way : IsUnderWay p old stages) (next : IsNextIn (positions_of p.start.value) stages g)
     (l : IsLent old new lent) (has : (c : ChunkPos) → has_chunk (positions_of lent) c ≡ has_chunk (touched g) c) where

@@ -2,11 +2,11 @@
 use Rattle.std.proofs.Common.{◌≡◌, ℕ, zero, suc, ◌+◌, ◌<◌, ◌≤◌, ◌&&◌, ◌||◌, ◌∷◌, [], List, length, map, get_or, Bool, true, false, cond, Option, Some, None, All, refl, sym, ap, subst, ◌∙◌, arith, ◌⊎◌, inl, inr}
 use Rattle.std.proofs.lemmas.Bool.{true≢false, cases_lt, or_right}
 use Rattle.std.proofs.lemmas.Option.{slice_get-get_or}
-use Rattle.av_types.specs.Places.{chunk_of, chunk_of_section, section_of, place_of, is_block_of}
-use Rattle.av_types.specs.declared.place.Pos.{Pos}
-use Rattle.av_types.specs.declared.place.ChunkPos.{ChunkPos}
-use Rattle.av_types.specs.declared.place.SectionPos.{SectionPos}
-use Rattle.av_types.proofs.SamePlaces.{same_chunk_from}
+use Rattle.av_types.specs.Positions.{chunk_of, chunk_of_section, section_of, place_of, is_block_of}
+use Rattle.av_types.specs.declared.position.Pos.{Pos}
+use Rattle.av_types.specs.declared.position.ChunkPos.{ChunkPos}
+use Rattle.av_types.specs.declared.position.SectionPos.{SectionPos}
+use Rattle.av_types.proofs.SamePositions.{same_chunk_from}
 use Rattle.av_rules.specs.Kinds.{kind_count}
 use Rattle.av_cells.specs.Kinds.{kinds_of}
 use Rattle.av_cells.specs.Positions.{same_chunk}
@@ -153,7 +153,7 @@ module _ (p : Plan) (is : IsPlan p) (w : World) (stages : List (Option ℕ)) (wa
       lists = λ c. (at_end c).list j;
     };
     ready = record { whole = λ j q. ((at_end (chunk_of q)).loaded q refl ∙ same_loaded q) j; numbers = way.numbers };
-    place = record { site_is = λ j. record { height = Some (way.height_is j); chunks = way.positions_are j; broken = way.broken_is j }; loaded_is = loaded_is };
+    chunks = record { site_is = λ j. record { height = Some (way.height_is j); chunks = way.positions_are j; broken = way.broken_is j }; loaded_is = loaded_is };
   } where
     same_loaded : (q : Pos) → is_loaded (start_of p) q ≡ is_loaded (land_of w) q
     same_loaded q = sym (λ j. has_chunk (way.positions_are j) (chunk_of q) && is_block_of (way.height_is j) q.y)

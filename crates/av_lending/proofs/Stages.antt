@@ -2,8 +2,8 @@
 use Rattle.std.proofs.Common.{get_or-set_same, get_or-set_other, length-set, ◌≡◌, ◌≢◌, ℕ, zero, suc, ◌<◌, ◌≤◌, ◌||◌, ◌++◌, ◌∷◌, [], List, length, get_or, slice_get, slice_set, Bool, true, false, Option, Some, None, refl, sym, ap, subst, ◌∙◌, arith, ◌⊎◌, inl, inr}
 use Rattle.std.proofs.lemmas.Bool.{true≢false}
 use Rattle.std.proofs.lemmas.Option.{slice_get_within, get_or_from_slice_get}
-use Rattle.av_types.specs.declared.place.ChunkPos.{ChunkPos}
-use Rattle.av_types.proofs.SamePlaces.{same_chunk_is, same_chunk_from}
+use Rattle.av_types.specs.declared.position.ChunkPos.{ChunkPos}
+use Rattle.av_types.proofs.SamePositions.{same_chunk_is, same_chunk_from}
 use Rattle.av_cells.specs.Positions.{same_chunk}
 use Rattle.av_land.specs.Land.{has_chunk}
 use Rattle.av_world.specs.Index.{slot}

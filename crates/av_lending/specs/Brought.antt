@@ -1,13 +1,13 @@
 -- Stages of chunks, and how they change. Working definitions: no public clause cites them.
 use Rattle.std.specs.Prelude.{◌≡◌, ℕ, true, false, ◌⊎◌, List, length, map, slice_index_or, Option, Some, None}
 use Rattle.std.specs.List.{All}
-use Rattle.av_types.specs.declared.place.ChunkPos.{ChunkPos}
+use Rattle.av_types.specs.declared.position.ChunkPos.{ChunkPos}
 use Rattle.av_land.specs.Land.{has_chunk}
 use Rattle.av_world.specs.Views.{positions_of}
 use Rattle.av_world.specs.declared.worlds.World.{World}
 use Rattle.av_groups.specs.declared.groups.Group.{Group}
 use Rattle.av_groups.specs.declared.groups.Touch.{Touch}
-use Rattle.av_groups.specs.Groups.{IsPlaced}
+use Rattle.av_groups.specs.Groups.{HasOwnIndex}
 use Rattle.av_lending.specs.Plans.{stage_of}
 
 -- the chunk is as the groups before the touching one leave it
@@ -30,4 +30,4 @@ pub record IsBringing (ps cs : List ChunkPos) (stage : Option ℕ) (old new : Li
 
 -- so brought are the chunks of some touches, in a world where they stand at their indices
 abbrev pub AreBrought : List Touch → Option ℕ → List (Option ℕ) → List (Option ℕ) → Type 0
-AreBrought ts stage old new = (w : World) → All (IsPlaced (positions_of w)) ts → length old ≡ length (positions_of w) → IsBringing (positions_of w) (map (λ t. t.chunk) ts) stage old new
+AreBrought ts stage old new = (w : World) → All (HasOwnIndex (positions_of w)) ts → length old ≡ length (positions_of w) → IsBringing (positions_of w) (map (λ t. t.chunk) ts) stage old new

@@ -1,9 +1,9 @@
 -- A tick in groups, and the worlds that are lent for them.
 use Rattle.std.specs.Prelude.{◌≡◌, ℕ, false, List, length, take, slice_get, slice_index_or, Option, Some, None}
 use Rattle.std.specs.List.{flat_map}
-use Rattle.av_types.specs.Places.{chunk_of}
-use Rattle.av_types.specs.declared.place.Pos.{Pos}
-use Rattle.av_types.specs.declared.place.ChunkPos.{ChunkPos}
+use Rattle.av_types.specs.Positions.{chunk_of}
+use Rattle.av_types.specs.declared.position.Pos.{Pos}
+use Rattle.av_types.specs.declared.position.ChunkPos.{ChunkPos}
 use Rattle.av_rules.specs.Kinds.{kind_count}
 use Rattle.av_rules.specs.declared.kinds.Kinds.{Kinds}
 use Rattle.av_cells.specs.Kinds.{kinds_of}
@@ -14,7 +14,7 @@ use Rattle.av_world.specs.Index.{slot}
 use Rattle.av_world.specs.Lands.{land_of}
 use Rattle.av_world.specs.Views.{blocks, height_of, positions_of, is_broken}
 use Rattle.av_world.specs.declared.worlds.World.{World}
-use Rattle.av_serial.specs.Ready.{IsReady, IsSamePlace}
+use Rattle.av_serial.specs.Ready.{IsReady, HasSameChunks}
 use Rattle.av_types.specs.declared.tick.Entry.{Entry}
 use Rattle.av_groups.specs.declared.groups.Group.{Group}
 use Rattle.av_groups.specs.declared.groups.Groups.{Groups}
@@ -85,4 +85,4 @@ pub record IsUnderWay (p : Plan) (w : World) (stages : List (Option ℕ)) : Type
 pub record IsFinished (p : Plan) (w : World) : Type 0 where
   pub land_is : without_due p.tick (land_of w) ≡ after p (length (groups_of p))
   pub ready : IsReady (kind_count (kinds_in p)) w
-  pub place : IsSamePlace p.start.value w
+  pub chunks : HasSameChunks p.start.value w

@@ -1,9 +1,9 @@
 //! What of a tick's world is lent, and taking it back.
 ghost use Rattle.std.specs.Prelude.{◌≡◌, ◌<◌, ℕ, ◌+◌, ◌++◌, ◌∷◌, [], true, List, Option, Some, IfOk, OnOk, IfNone, IfSome, All, length, map, slice_get};
 ghost use Rattle.av_world.specs.Views.{positions_of};
-ghost use Rattle.av_types.specs.declared.place.ChunkPos.{ChunkPos};
+ghost use Rattle.av_types.specs.declared.position.ChunkPos.{ChunkPos};
 ghost use Rattle.av_world.specs.declared.worlds.World.{World};
-ghost use Rattle.av_groups.specs.Groups.{IsPlaced};
+ghost use Rattle.av_groups.specs.Groups.{HasOwnIndex};
 ghost use Rattle.av_groups.specs.declared.groups.Group.{Group};
 ghost use Rattle.av_lending.specs.Plans.{IsPlanOf, IsLentAfter, IsUnderWay, IsFinished, IsPlan};
 ghost use Rattle.av_lending.specs.Brought.{IsReadyAt, IsNext, IsBringing, AreBrought};
@@ -94,7 +94,7 @@ fn find(stages: &[Option<usize>], waiting: &mut Waiting, groups: &[Group]) -> Op
 /// A chunk comes to a stage.
 fn bring_one(stages: &mut Vec<Option<usize>>, touch: &Touch, stage: Option<usize>)
     ensures { (w : World) (chunks : List ChunkPos) (before : List (Option ℕ))
-        → IsPlaced (positions_of w) touch.now
+        → HasOwnIndex (positions_of w) touch.now
         → IsBringing (positions_of w) chunks stage before stages.old.items
         → IsBringing (positions_of w) (chunks ++ touch.now.chunk ∷ []) stage before stages.new.items }
 {

@@ -7,14 +7,14 @@ use Rattle.std.proofs.lemmas.List.{get_or-map, length-map, get_or_default}
 use Rattle.std.proofs.Math.ListN.{get_or-eq_default}
 use Rattle.std.proofs.lemmas.List.Folds.{list_any-from_Any}
 use Rattle.std.proofs.lemmas.Map.Views.{Contains-from_any}
-use Rattle.av_types.specs.Places.{chunk_of, section_of, same_pos}
-use Rattle.av_types.specs.declared.place.Pos.{Pos}
-use Rattle.av_types.specs.declared.place.ChunkPos.{ChunkPos}
-use Rattle.av_types.proofs.SamePlaces.{same_pos_is, same_pos-refl}
+use Rattle.av_types.specs.Positions.{chunk_of, section_of, same_pos}
+use Rattle.av_types.specs.declared.position.Pos.{Pos}
+use Rattle.av_types.specs.declared.position.ChunkPos.{ChunkPos}
+use Rattle.av_types.proofs.SamePositions.{same_pos_is, same_pos-refl}
 use Rattle.av_rules.specs.declared.kinds.Kinds.{Kinds}
 use Rattle.av_flood.specs.Blocks.{AreKnown, column_at}
 use Rattle.av_world.specs.Index.{slot}
-use Rattle.av_world.specs.Near.{has_place, slot_at}
+use Rattle.av_world.specs.Near.{is_world_section, slot_at}
 use Rattle.av_world.specs.Views.{positions_of, blocks}
 use Rattle.av_world.specs.declared.worlds.World.{World}
 use Rattle.av_section_light.specs.Light.{terrain_of}
@@ -46,9 +46,9 @@ pub AreLamps-all : (k : Kinds) (w : World) (lists : List (List Pos))
 AreLamps-all k w lists all =
     record {
       has = λ p l shines.
-          let place = has_place w.height w.positions.items w.chunks.items w.lawful.parallel (section_of p) l in
+          let of_world = is_world_section w.height w.positions.items w.chunks.items w.lawful.parallel (section_of p) l in
           let i = slot (positions_of w) (chunk_of p) in
-          found_in p (get_or lists i []) ((all i (chunk_of p) place.chunk).lit p (sym (slot_at (positions_of w) (chunk_of p) (chunk_of p) place.chunk)) l shines);
+          found_in p (get_or lists i []) ((all i (chunk_of p) of_world.chunk).lit p (sym (slot_at (positions_of w) (chunk_of p) (chunk_of p) of_world.chunk)) l shines);
     }
 
 pub AreKnown-all : (k : Kinds) (w : World) (lists : List (List Pos)) (c : ChunkPos) → AreLamps k w lists → AreKnown (terrain_of k (blocks w)) (lamps_at w lists) c
@@ -68,9 +68,9 @@ pub known_by : (k : Kinds) (w v : World) (ls ms : List (Vec Pos Global)) (c : Ch
     → AreKnown (terrain_of k (blocks v)) (λ d. lamps_at v (map (λ x. x.items) ms) d) c
 known_by k w v ls ms c e f h = known_as k w v ls ms c e f (AreKnown-all k w (map (λ x. x.items) ls) c h)
 
--- what holds of a place in one list of chunks holds in an equal one
-pub at_place : (P : ChunkPos → Type 0) (cs ps : List ChunkPos) (i : ℕ) (a : ChunkPos) → cs ≡ ps → i < length cs → P (get_or cs i a) → (d : ChunkPos) → P (get_or ps i d)
-at_place P cs ps i a e l h d = subst P (get_or_default cs i a d l ∙ ap (λ qs. get_or qs i d) e) h
+-- what holds of an index in one list of chunks holds in an equal one
+pub at_index : (P : ChunkPos → Type 0) (cs ps : List ChunkPos) (i : ℕ) (a : ChunkPos) → cs ≡ ps → i < length cs → P (get_or cs i a) → (d : ChunkPos) → P (get_or ps i d)
+at_index P cs ps i a e l h d = subst P (get_or_default cs i a d l ∙ ap (λ qs. get_or qs i d) e) h
 
 -- an answer for a chunk: its list, or a fault
 abbrev pub GoodAt : (E : Type 0) → (ChunkPos → Vec Pos Global → Type 0) → ChunkPos → Result (Vec Pos Global) E → Type 0
@@ -113,9 +113,9 @@ pub AreKnown-beside : (k : Kinds) (w : World) (lists : List (List Pos)) (c : Chu
 AreKnown-beside k w lists c all =
     record {
       known = λ n less p e l shines.
-          let place = has_place w.height w.positions.items w.chunks.items w.lawful.parallel (section_of p) l in
+          let of_world = is_world_section w.height w.positions.items w.chunks.items w.lawful.parallel (section_of p) l in
           let i = slot (positions_of w) (chunk_of p) in
-          let at : get_or (positions_of w) i (chunk_of p) ≡ chunk_of p = slot_at (positions_of w) (chunk_of p) (chunk_of p) place.chunk in
+          let at : get_or (positions_of w) i (chunk_of p) ≡ chunk_of p = slot_at (positions_of w) (chunk_of p) (chunk_of p) of_world.chunk in
           let beside = subst (IsBeside c) (sym (at ∙ e)) (beside_column c n less) in
-          subst (λ d. Contains (lamps_at w lists d) p) e ((all i (chunk_of p) place.chunk beside).lit p (sym at) l shines);
+          subst (λ d. Contains (lamps_at w lists d) p) e ((all i (chunk_of p) of_world.chunk beside).lit p (sym at) l shines);
     }

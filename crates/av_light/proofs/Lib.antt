@@ -2,4 +2,4 @@ pub mod Reading
 pub mod Lit
 pub mod Filling
 pub mod LampLists
-pub mod Placing
+pub mod InOrder

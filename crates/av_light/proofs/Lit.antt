@@ -3,15 +3,15 @@ use Rattle.std.proofs.Common.{◌≡◌, ℕ, zero, suc, arith, List, [], ◌∷
 use Rattle.std.specs.Prelude.{MatchOption, IsSomeAnd}
 use Rattle.std.specs.List.{All, AllZip}
 use Rattle.std.proofs.lemmas.Slice.Zip.{AllZip-right}
-use Rattle.av_types.specs.Places.{chunk_of, section_of}
+use Rattle.av_types.specs.Positions.{chunk_of, section_of}
 use Rattle.av_rules.specs.declared.kinds.Kinds.{Kinds}
-use Rattle.av_types.specs.declared.place.ChunkPos.{ChunkPos}
-use Rattle.av_types.specs.declared.place.Height.{Height}
+use Rattle.av_types.specs.declared.position.ChunkPos.{ChunkPos}
+use Rattle.av_types.specs.declared.position.Height.{Height}
 use Rattle.av_chunk.specs.Light.{section_count}
 use Rattle.av_chunk.specs.declared.light.ChunkLight.{ChunkLight}
 use Rattle.av_cells.specs.World as cells
 use Rattle.av_world.specs.Index.{slot}
-use Rattle.av_world.specs.Near.{has_place}
+use Rattle.av_world.specs.Near.{is_world_section}
 use Rattle.av_world.specs.Views.{height_of, positions_of, blocks}
 use Rattle.av_world.specs.declared.worlds.World.{World}
 use Rattle.av_world.proofs.ChunkReads.{slot_there}
@@ -32,8 +32,8 @@ zip_at Q xs ys i x y zip left right =
 -- the light of a loaded block is in that of its chunk
 pub lit : (k : Kinds) (w : World) (ls : List ChunkLight) → AllZip (IsChunkLight k (blocks w) (height_of w)) (positions_of w) ls → AreLit k w ls
 lit k w ls zip = λ p l loaded at.
-    let place = has_place w.height w.positions.items w.chunks.items w.lawful.parallel (section_of p) loaded in
-    (zip_at (IsChunkLight k (blocks w) (height_of w)) (positions_of w) ls (slot (positions_of w) (chunk_of p)) (chunk_of p) l zip (slot_there (positions_of w) (chunk_of p) place.chunk) at).blocks p refl place.high
+    let of_world = is_world_section w.height w.positions.items w.chunks.items w.lawful.parallel (section_of p) loaded in
+    (zip_at (IsChunkLight k (blocks w) (height_of w)) (positions_of w) ls (slot (positions_of w) (chunk_of p)) (chunk_of p) l zip (slot_there (positions_of w) (chunk_of p) of_world.chunk) at).blocks p refl of_world.high
 
 -- each has as many sections as the height
 pub all_sections : (k : Kinds) (w : cells.World) (h : Height) (cs : List ChunkPos) (ls : List ChunkLight) → AllZip (IsChunkLight k w h) cs ls → All (λ l. section_count l ≡ h.sections) ls

@@ -1,8 +1,8 @@
 -- What a world's sections are, by where their chunks stand.
 use Rattle.std.proofs.Common.{◌≡◌, ◌≤◌, length, slice_get, Option, None, sym, ap, ◌∙◌, arith}
 use Rattle.std.proofs.lemmas.Option.{slice_get_past}
-use Rattle.av_types.specs.Places.{chunk_of_section}
-use Rattle.av_types.specs.declared.place.SectionPos.{SectionPos}
+use Rattle.av_types.specs.Positions.{chunk_of_section}
+use Rattle.av_types.specs.declared.position.SectionPos.{SectionPos}
 use Rattle.av_section.specs.declared.section.Section.{Section}
 use Rattle.av_chunk.specs.declared.chunk.Chunk.{Chunk}
 use Rattle.av_world.specs.Index.{slot}

@@ -1,6 +1,6 @@
 -- The nine chunks around one. Working definitions: no public clause cites them.
 use Rattle.std.specs.Prelude.{ℕ, ◌%◌, ◌/◌, pos, negsuc, ◌+ℤ◌, ◌≤ℤ◌}
-use Rattle.av_types.specs.declared.place.ChunkPos.{ChunkPos}
+use Rattle.av_types.specs.declared.position.ChunkPos.{ChunkPos}
 
 -- one of them, from the corner of the least coordinates on, x within z
 abbrev pub column : ChunkPos → ℕ → ChunkPos

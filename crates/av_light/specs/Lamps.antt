@@ -1,9 +1,9 @@
 -- The blocks of a world's chunks that give light, a list for each chunk in the order of its positions.
 use Rattle.std.specs.Prelude.{◌≡◌, ◌<◌, ◌≤ℤ◌, ◌-ℤ◌, ℤ, pos, negsuc, List, [], true, IsTrue, slice_index_or}
 use Rattle.std.specs.List.{list_any}
-use Rattle.av_types.specs.Places.{chunk_of, same_pos}
-use Rattle.av_types.specs.declared.place.Pos.{Pos}
-use Rattle.av_types.specs.declared.place.ChunkPos.{ChunkPos}
+use Rattle.av_types.specs.Positions.{chunk_of, same_pos}
+use Rattle.av_types.specs.declared.position.Pos.{Pos}
+use Rattle.av_types.specs.declared.position.ChunkPos.{ChunkPos}
 use Rattle.av_rules.specs.declared.kinds.Kinds.{Kinds}
 use Rattle.av_world.specs.Index.{slot}
 use Rattle.av_world.specs.Views.{positions_of, blocks}

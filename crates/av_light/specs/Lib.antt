@@ -2,4 +2,4 @@ pub mod Columns
 pub mod Near
 pub mod Lamps
 pub mod Lights
-pub mod Placed
+pub mod AtIndex

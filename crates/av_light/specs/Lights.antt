@@ -1,7 +1,7 @@
 -- The light of all chunks of a world.
 use Rattle.std.specs.Prelude.{◌≡◌, List, Some, slice_get, IsTrue}
-use Rattle.av_types.specs.Places.{chunk_of}
-use Rattle.av_types.specs.declared.place.Pos.{Pos}
+use Rattle.av_types.specs.Positions.{chunk_of}
+use Rattle.av_types.specs.declared.position.Pos.{Pos}
 use Rattle.av_chunk.specs.declared.light.ChunkLight.{ChunkLight}
 use Rattle.av_rules.specs.declared.kinds.Kinds.{Kinds}
 use Rattle.av_flood.specs.Light.{IsLight}

@@ -6,7 +6,7 @@ ghost use Rattle.av_chunk.specs.Light.{section_count};
 ghost use Rattle.av_world.specs.Views.{height_of, positions_of, blocks, is_broken};
 ghost use Rattle.av_section_light.specs.Light.{IsChunkLight};
 ghost use Rattle.av_dealt.specs.Dealt.{IsTaken};
-ghost use Rattle.av_light.specs.Placed.{IsChunkLightAt};
+ghost use Rattle.av_light.specs.AtIndex.{IsChunkLightAt};
 ghost use Rattle.av_light.specs.Lights.{AreLit};
 
 use crate::dealt::in_order;

@@ -1,7 +1,7 @@
 //! The light of one chunk of a world.
 ghost use Rattle.std.specs.Prelude.{◌≡◌, false, OnOk, IfOk, IfErr, if◌then◌else◌};
-ghost use Rattle.av_types.specs.Places.{chunk_of};
-ghost use Rattle.av_types.specs.declared.place.Pos.{Pos};
+ghost use Rattle.av_types.specs.Positions.{chunk_of};
+ghost use Rattle.av_types.specs.declared.position.Pos.{Pos};
 ghost use Rattle.av_types.specs.declared.fault.Fault.TheVariants.{OutOfMemory, Broken};
 ghost use Rattle.av_flood.specs.Light.{IsLight};
 ghost use Rattle.av_flood.specs.Board.{light_of};

@@ -1,10 +1,10 @@
 //! Chunks that several threads light, each the next that none has taken.
 ghost use Rattle.std.specs.Prelude.{◌≡◌, length, IfOk, IfSome};
 ghost use Rattle.std.specs.List.{AllZip};
-ghost use Rattle.av_dealt.specs.Dealt.{AreInPlace};
+ghost use Rattle.av_dealt.specs.Dealt.{AreAtIndices};
 ghost use Rattle.av_world.specs.Views.{height_of, positions_of, blocks};
 ghost use Rattle.av_section_light.specs.Light.{IsChunkLight};
-ghost use Rattle.av_light.specs.Placed.{IsChunkLightAt};
+ghost use Rattle.av_light.specs.AtIndex.{IsChunkLightAt};
 
 use crate::chunk_light::light_at;
 use crate::lamps::Lamps;
@@ -20,11 +20,11 @@ impl<'a> Maker for Lamps<'a> {
 
     type Bench = Option<Flood>;
 
-    ghost places = { λ l. length (positions_of l.world.now) };
+    ghost count = { λ l. length (positions_of l.world.now) };
 
     ghost is_of = { λ l. IsChunkLightAt l.kinds.now l.world.now };
 
-    fn places(&self) -> usize {
+    fn count(&self) -> usize {
         self.world.positions().len()
     }
 
@@ -35,11 +35,11 @@ impl<'a> Maker for Lamps<'a> {
     fn make(
         &self,
         alloc: Global,
-        place: usize,
+        index: usize,
         board: &mut Option<Flood>,
     ) -> Result<Option<ChunkLight>, AllocError> {
         let positions = self.world.positions();
-        let light = light_at(alloc, self, positions[place], board)?;
+        let light = light_at(alloc, self, positions[index], board)?;
         Ok(Some(light))
     }
 }
@@ -69,7 +69,7 @@ pub(crate) fn in_order(
     mut slots: Vec<Option<ChunkLight>>,
 ) -> Result<Vec<ChunkLight>, AllocError>
     requires long { length slots.items ≡ length (positions_of lamps.now.world.now) }
-    requires placed { AreInPlace (IsChunkLightAt lamps.now.kinds.now lamps.now.world.now)
+    requires own { AreAtIndices (IsChunkLightAt lamps.now.kinds.now lamps.now.world.now)
         slots.items }
     ensures { IfOk result (λ lights. AllZip (IsChunkLight lamps.now.kinds.now
         (blocks lamps.now.world.now) (height_of lamps.now.world.now))

@@ -1,6 +1,6 @@
 //! Where a world's chunks and sections are found.
 ghost use Rattle.std.specs.Prelude.{◌≡◌, length, map, slice_index_or, [], option_copied};
-ghost use Rattle.av_types.specs.Places.{chunk_of_section};
+ghost use Rattle.av_types.specs.Positions.{chunk_of_section};
 ghost use Rattle.av_world.specs.Index.{slot};
 ghost use Rattle.av_world.specs.Sections.{layer_at};
 ghost use Rattle.av_world.specs.Views.{positions_of, grid};

@@ -2,9 +2,9 @@
 use Rattle.std.proofs.Common.{◌≡◌, ℕ, zero, suc, ◌++◌, List, [], ◌∷◌, length, get_or, Bool, true, false, cond, Option, Some, None, refl, subst, sym, arith, ap, ◌∙◌}
 use Rattle.std.specs.List.{All}
 use Rattle.av_types.specs.Division.{divided}
-use Rattle.av_types.specs.Places.{place_of, is_section_of, section_index}
-use Rattle.av_types.specs.declared.place.ChunkPos.{ChunkPos}
-use Rattle.av_types.specs.declared.place.Height.{Height}
+use Rattle.av_types.specs.Positions.{place_of, is_section_of, section_index}
+use Rattle.av_types.specs.declared.position.ChunkPos.{ChunkPos}
+use Rattle.av_types.specs.declared.position.Height.{Height}
 use Rattle.av_section.specs.Section.{IsFilled}
 use Rattle.av_section.specs.declared.section.Section.{Section}
 use Rattle.av_ticks.specs.Entries.{is_pending}

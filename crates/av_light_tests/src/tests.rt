@@ -44,7 +44,7 @@ fn in_origin(place: u32) -> Pos {
     )
 }
 
-/// A world with a chunk of air at each place, but for these blocks.
+/// A world with a chunk of air at each position, but for these blocks.
 fn with_blocks(
     alloc: Global,
     height: Height,

@@ -1,6 +1,6 @@
 //! Worlds whose blocks are set one by one.
 ghost use Rattle.std.specs.Prelude.{IfOk};
-ghost use Rattle.av_types.specs.declared.place.ChunkPos.{ChunkPos};
+ghost use Rattle.av_types.specs.declared.position.ChunkPos.{ChunkPos};
 ghost use Rattle.av_world.specs.Inserted.{IsNewChunk};
 
 use av_cells::Cells;
@@ -26,7 +26,7 @@ fn air_chunk(alloc: Global, height: Height) -> Result<Chunk, Fault>
     })
 }
 
-/// Puts a chunk of air at a place within the limits, unless one is there.
+/// Puts a chunk of air at a position within the limits, unless one is there.
 fn add_air(alloc: Global, world: &mut World, at: ChunkPos) -> Result<(), Fault> {
     if !at.region().is_in_limits() {
         return Ok(());
@@ -39,7 +39,7 @@ fn add_air(alloc: Global, world: &mut World, at: ChunkPos) -> Result<(), Fault> 
     world.insert(at, chunk)
 }
 
-/// A world with a chunk of air at each place.
+/// A world with a chunk of air at each position.
 pub fn air(alloc: Global, height: Height, chunks: &[(i32, i32)]) -> Result<World, Fault> {
     let mut world = World::new(alloc, height);
     for (x, z) in chunks {

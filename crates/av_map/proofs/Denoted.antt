@@ -1,8 +1,8 @@
 -- From a document to what stands at an index of a file.
 use Rattle.std.proofs.Common.{ℕ, List, map, Option, Some, subst}
 use Rattle.std.specs.List.{range_with_len}
-use Rattle.av_types.specs.declared.place.ChunkPos.{ChunkPos}
-use Rattle.av_types.specs.declared.place.Height.{Height}
+use Rattle.av_types.specs.declared.position.ChunkPos.{ChunkPos}
+use Rattle.av_types.specs.declared.position.Height.{Height}
 use Rattle.av_tags.specs.Nbt.{Document}
 use Rattle.av_region.specs.Region.{Holds}
 use Rattle.av_state.specs.BlockState.{BlockState}

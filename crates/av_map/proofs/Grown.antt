@@ -3,7 +3,7 @@ use Rattle.std.proofs.Common.{◌≡◌, ◌∙◌, ℕ, ◌+◌, ◌<◌, ◌�
 use Rattle.std.specs.List.{All}
 use Rattle.std.proofs.lemmas.List.{get_or-map, length-map, length_push}
 use Rattle.av_region_files.specs.declared.files.RegionFile.{RegionFile}
-use Rattle.av_types.specs.declared.place.Height.{Height}
+use Rattle.av_types.specs.declared.position.Height.{Height}
 use Rattle.av_map.specs.Colours.{NamedColour}
 use Rattle.av_map.specs.Maps.{ArePatches, IsPatchRow, Shows, index_at, region_at}
 use Rattle.av_map.specs.Rows.{patches_of}

@@ -1,8 +1,8 @@
 -- The block light that a chunk's document has.
 use Rattle.std.specs.Prelude.{ℕ, ◌+◌, ◌*◌, ◌/◌, ◌%◌, ◌==◌, ℤ, pos, ◌+ℤ◌, List, [], Option, Some, None, codes, length, nat_lt, if◌then◌else◌}
-use Rattle.av_types.specs.declared.place.Height.{Height}
+use Rattle.av_types.specs.declared.position.Height.{Height}
 use Rattle.av_tags.specs.Nbt.{Nbt, NamedTag, byte_array}
-use Rattle.av_tags.specs.Place.{tag_of}
+use Rattle.av_tags.specs.ByName.{tag_of}
 use Rattle.av_types.specs.Options.{◌>>=◌}
 use Rattle.av_tags.specs.Shape.{items_of_list, or_else}
 use Rattle.av_pack.specs.Nibbles.{nibble_at}

@@ -1,10 +1,10 @@
 -- The picture of a world from above.
 use Rattle.std.specs.Prelude.{◌≡◌, ◌≢◌, ℕ, ◌+◌, ◌*◌, ◌/◌, ◌%◌, ◌<◌, ◌≤◌, ℤ, pos, ◌+ℤ◌, ◌-ℤ◌, List, [], ◌∷◌, length, Option, Some, None, Bool, get_or, if◌then◌else◌, nat_abs, nat_le, ◌&&◌, int_lt, fold}
 use Rattle.std.specs.List.{sum_by}
-use Rattle.av_types.specs.Places.{chunk_at}
+use Rattle.av_types.specs.Positions.{chunk_at}
 use Rattle.av_types.specs.declared.fault.Fault.TheVariants.{OutOfMemory}
-use Rattle.av_types.specs.declared.place.Height.{Height}
-use Rattle.av_types.specs.declared.place.RegionPos.{RegionPos}
+use Rattle.av_types.specs.declared.position.Height.{Height}
+use Rattle.av_types.specs.declared.position.RegionPos.{RegionPos}
 use Rattle.av_region.specs.Region.{IsShort}
 use Rattle.av_region_files.specs.Regions.{same_region}
 use Rattle.av_region_files.specs.declared.files.RegionFile.{RegionFile}

@@ -1,7 +1,7 @@
 //! The rectangle that regions fill.
 ghost use Rattle.std.specs.Prelude.{◌≡◌, ◌<◌, ◌/◌, IsTrue, ◌↔◌, pos};
 ghost use Rattle.std.specs.List.{All};
-ghost use Rattle.av_types.specs.Places.{IsInLimits};
+ghost use Rattle.av_types.specs.Positions.{IsInLimits};
 ghost use Rattle.av_map.specs.Maps.{greater, lesser};
 
 use av_region_files::RegionFile;

@@ -1,7 +1,7 @@
 //! The picture of a world from above.
 ghost use Rattle.std.specs.Prelude.{◌≡◌, ◌*◌, IfOk, IfErr};
 ghost use Rattle.std.specs.List.{All, sum_by};
-ghost use Rattle.av_types.specs.Places.{IsInLimits};
+ghost use Rattle.av_types.specs.Positions.{IsInLimits};
 ghost use Rattle.av_map.specs.Maps.{IsDrawable, IsMap, IsMapOf, IsRefused, is_short, short_in};
 ghost use Rattle.av_map.specs.Views.{colours_of};
 ghost use Rattle.av_map.specs.Within.{AreWithin};

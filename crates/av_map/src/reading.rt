@@ -3,7 +3,7 @@ ghost use Rattle.std.specs.Prelude.{◌≡◌, ◌≢◌, ◌≤◌, ◌<◌, If
 ghost use Rattle.std.specs.List.{range_with_len};
 ghost use Rattle.av_types.specs.declared.fault.Fault.TheVariants.{OutOfMemory};
 ghost use Rattle.av_types.specs.Faults.{fault_number};
-ghost use Rattle.av_types.specs.Places.{IsInLimits, chunk_at};
+ghost use Rattle.av_types.specs.Positions.{IsInLimits, chunk_at};
 ghost use Rattle.av_tags.specs.View.{document};
 ghost use Rattle.av_document.specs.Chunk.{first_fault, root_tags};
 ghost use Rattle.av_document.specs.Stored.{IsStored};

@@ -2,7 +2,7 @@
 ghost use Rattle.std.specs.Prelude.{◌≡◌, ◌≤◌, ◌<◌, ◌*◌, IfOk, IfSome, map};
 ghost use Rattle.std.specs.List.{All};
 ghost use Rattle.std.specs.Option.{option_copied};
-ghost use Rattle.av_types.specs.Places.{IsInLimits};
+ghost use Rattle.av_types.specs.Positions.{IsInLimits};
 ghost use Rattle.av_map.specs.Maps.{ArePatches, IsPatchRow, Shows, file_of, region_at};
 ghost use Rattle.av_map.specs.Views.{colours_of};
 ghost use Rattle.av_map.specs.Within.{AreWithin};

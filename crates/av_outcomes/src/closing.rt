@@ -29,7 +29,7 @@ pub fn report_folder<S: OutputFolder, E: Write>(
 }
 
 /// Notes that all is told of a run, and answers its status, unless that can't be noted. Of a run that failed it notes nothing: where its
-/// files have their places and that could not be told, the next command tells it, and no tick is run twice.
+/// files have their names and that could not be told, the next command tells it, and no tick is run twice.
 pub fn close<S: OutputFolder, E: Write>(
     alloc: Global,
     folder: &str,

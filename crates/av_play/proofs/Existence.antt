@@ -4,7 +4,7 @@ use Rattle.std.proofs.lemmas.List.{append-nil}
 use Rattle.std.proofs.lemmas.Bool.{cases_lt}
 use Rattle.av_cells.specs.declared.kind.Kind.{Kind}
 use Rattle.av_cells.specs.World.{World, Lists}
-use Rattle.av_play.specs.declared.event.Placed.{Placed}
+use Rattle.av_play.specs.declared.event.DueEntry.{DueEntry}
 use Rattle.av_play.specs.declared.event.Stage.{Stage}
 use Rattle.av_play.specs.declared.event.Stage.TheVariants.{Waits, Held, Ended}
 use Rattle.av_play.specs.declared.event.Event.{Event}
@@ -25,15 +25,15 @@ set_other {X} xs n m old new e f = by (at_set xs n m old new e) where
   by (inl h) = absurd (f h.0)
   by (inr h) = h.1
 
-next_of : (front : List Placed) (x : Placed) (rest : List Placed) → slice_get (front ++ x ∷ rest) (length front) ≡ Some x
+next_of : (front : List DueEntry) (x : DueEntry) (rest : List DueEntry) → slice_get (front ++ x ∷ rest) (length front) ≡ Some x
 next_of [] x rest = refl
 next_of (y ∷ ys) x rest = next_of ys x rest
 
-length_one_more : (front : List Placed) (x : Placed) → length (front ++ x ∷ []) ≡ suc (length front)
+length_one_more : (front : List DueEntry) (x : DueEntry) → length (front ++ x ∷ []) ≡ suc (length front)
 length_one_more [] x = refl
 length_one_more (y ∷ ys) x = ap suc (length_one_more ys x)
 
-module _ (k : ℕ → Kind) (now : ℕ) (parts : List (List Placed)) where
+module _ (k : ℕ → Kind) (now : ℕ) (parts : List (List DueEntry)) where
   one_event : (s : State) (e : Event) → IsLawfulEvent parts s e → CanEnd k now parts (after k now parts s e) → CanEnd k now parts s
   one_event s e h c = record { events = e ∷ c.events; lawful = (h, c.lawful); back = c.back }
 
@@ -42,10 +42,10 @@ module _ (k : ℕ → Kind) (now : ℕ) (parts : List (List Placed)) where
     ended : slice_get t.stages n ≡ Some Ended
     others : (m : ℕ) → ¬ (m ≡ n) → slice_get t.stages m ≡ slice_get s.stages m
 
-  finish : (n : ℕ) (rest front : List Placed) (s : State) → part_at parts n ≡ front ++ rest → slice_get s.stages n ≡ Some (Held 0 (length front)) → ((t : State) → IsEnded n s t → CanEnd k now parts t) → CanEnd k now parts s
+  finish : (n : ℕ) (rest front : List DueEntry) (s : State) → part_at parts n ≡ front ++ rest → slice_get s.stages n ≡ Some (Held 0 (length front)) → ((t : State) → IsEnded n s t → CanEnd k now parts t) → CanEnd k now parts s
   finish n [] front s p h go =
       let all : part_at parts n ≡ front = p ∙ append-nil front in
-      one_event s (Back 0 n) (h ∙ ap (λ (l : List Placed). Some (Held 0 (length l))) (sym all))
+      one_event s (Back 0 n) (h ∙ ap (λ (l : List DueEntry). Some (Held 0 (length l))) (sym all))
       (go (moved s n Ended) (record { ended = set_same s.stages n _ Ended h; others = λ m f. set_other s.stages n m _ Ended h f }))
   finish n (x ∷ rest) front s p h go =
       let e : HoldsEntry parts s 0 n = record { done = length front; next = x; held = h; left = ap (λ l. slice_get l (length front)) p ∙ next_of front x rest } in
@@ -85,17 +85,17 @@ module _ (k : ℕ → Kind) (now : ℕ) (parts : List (List Placed)) where
           by m h (inl l) = i.others m (λ e. omega arith) ∙ set_other s.stages first m Waits (Held 0 0) w (λ e. omega arith) ∙ a.past m l
           by m h (inr l) = let e : m ≡ first = omega arith in ap (slice_get t.stages) e ∙ i.ended
 
-wait_at : (ps : List (List Placed)) (m : ℕ) → m < count_of ps → slice_get (all_wait ps) m ≡ Some Waits
+wait_at : (ps : List (List DueEntry)) (m : ℕ) → m < count_of ps → slice_get (all_wait ps) m ≡ Some Waits
 wait_at [] m h = absurd (omega arith)
 wait_at (p ∷ ps) zero h = refl
 wait_at (p ∷ ps) (suc m) h = wait_at ps m (omega arith)
 
-wait_past : (ps : List (List Placed)) (m : ℕ) → count_of ps ≤ m → slice_get (all_wait ps) m ≡ None
+wait_past : (ps : List (List DueEntry)) (m : ℕ) → count_of ps ≤ m → slice_get (all_wait ps) m ≡ None
 wait_past [] m h = refl
 wait_past (p ∷ ps) zero h = absurd (omega arith)
 wait_past (p ∷ ps) (suc m) h = wait_past ps m (omega arith)
 
-pub can_end : (k : ℕ → Kind) (now : ℕ) (parts : List (List Placed)) (w : World) (lists : Lists) → CanEnd k now parts (start w lists parts)
+pub can_end : (k : ℕ → Kind) (now : ℕ) (parts : List (List DueEntry)) (w : World) (lists : Lists) → CanEnd k now parts (start w lists parts)
 can_end k now parts w lists =
     all_end k now parts (count_of parts) 0 (start w lists parts)
     (record { past = λ m h. absurd (omega arith); ahead = λ m h l. wait_at parts m (omega arith); none = λ m h. wait_past parts m (omega arith) })

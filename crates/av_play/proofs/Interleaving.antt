@@ -6,9 +6,9 @@ use Rattle.std.specs.List.Sorted.{ties}
 use Rattle.std.proofs.lemmas.Bool.{true≢false, eqb-true, eq-eqb}
 use Rattle.std.proofs.lemmas.List.Elements.{All-contains, All-from_recursion}
 use Rattle.std.proofs.Math.Seq.{take-length}
-use Rattle.av_types.specs.declared.place.Pos.{Pos}
-use Rattle.av_types.specs.declared.place.SectionPos.{SectionPos}
-use Rattle.av_types.specs.Places.{section_of}
+use Rattle.av_types.specs.declared.position.Pos.{Pos}
+use Rattle.av_types.specs.declared.position.SectionPos.{SectionPos}
+use Rattle.av_types.specs.Positions.{section_of}
 use Rattle.av_types.specs.declared.tick.Entry.{Entry}
 use Rattle.av_types.specs.declared.tick.Made.{Made}
 use Rattle.av_cells.specs.declared.kind.Kind.{Kind}
@@ -21,7 +21,7 @@ use Rattle.av_water.specs.Frame.{Agree, InLoadedReach, AreApart, Commute, SameCe
 use Rattle.av_water.proofs.Apart.{apart_commute, loaded_reach_or}
 use Rattle.av_land.specs.Land.{Land, cells_of}
 use Rattle.av_land.specs.Tick.{Set, ticked}
-use Rattle.av_play.specs.declared.event.Placed.{Placed}
+use Rattle.av_play.specs.declared.event.DueEntry.{DueEntry}
 use Rattle.av_play.specs.declared.event.Stage.{Stage}
 use Rattle.av_play.specs.declared.event.Event.{Event}
 use Rattle.av_play.specs.declared.event.Stage.TheVariants.{Ended}
@@ -43,13 +43,13 @@ unshared_apart division w p q h r i j l =
 same_world : (v w : World) → SameCells v w → v ≡ w
 same_world v w s = λ i. record { loaded = λ q. s.same_loaded q tt i; number = λ q. s.same_number q tt i; pending = λ q. s.same_pending q tt i }
 
-pub unshared_commute : {S : Type 0} (division : Pos → S) (k : ℕ → Kind) (now : ℕ) (x y : Placed) (w : World) → ¬ ShareSection division w x.entry.pos y.entry.pos → EntriesCommute k now x y w
+pub unshared_commute : {S : Type 0} (division : Pos → S) (k : ℕ → Kind) (now : ℕ) (x y : DueEntry) (w : World) → ¬ ShareSection division w x.entry.pos y.entry.pos → EntriesCommute k now x y w
 unshared_commute division k now x y w h =
     let c : Commute k now x.entry.pos y.entry.pos w = apart_commute k now x.entry.pos y.entry.pos w (unshared_apart division w x.entry.pos y.entry.pos h) in
     record {
       same_world = same_world _ _ c.same_cells;
-      same_first = ap (labelled x.place 0) c.same_first;
-      same_second = ap (labelled y.place 0) c.same_second;
+      same_first = ap (labelled x.index 0) c.same_first;
+      same_second = ap (labelled y.index 0) c.same_second;
     }
 
 stable_number : (a b : ℕ) → (¬ (a ≡ b) → ⊥) → a ≡ b
@@ -64,21 +64,21 @@ stable_test true false h = absurd (h true≢false)
 stable_test false true h = absurd (h (λ e. true≢false (sym e)))
 stable_test false false h = refl
 
-module _ {S : Type 0} (division : Pos → S) (w : World) (entries : List Entry) (parts : List (List Placed)) (plan : IsPlan division w entries parts) where
-  abbrev all : List Placed
+module _ {S : Type 0} (division : Pos → S) (w : World) (entries : List Entry) (parts : List (List DueEntry)) (plan : IsPlan division w entries parts) where
+  abbrev all : List DueEntry
   all = numbered 0 entries
 
   abbrev own : ℕ → ℕ → Bool
   own n i = nat_eq (plan.part_of i) n
 
-  of_part_is : (n : ℕ) (x : Placed) → Contains (part_at parts n) x → (nat_eq (plan.part_of x.place) n ≡ true) × Contains all x
+  of_part_is : (n : ℕ) (x : DueEntry) → Contains (part_at parts n) x → (nat_eq (plan.part_of x.index) n ≡ true) × Contains all x
   of_part_is n x c =
-      All-contains (λ y. (nat_eq (plan.part_of y.place) n ≡ true) × Contains all y) (of_part plan.part_of n all) x
-      (All-from_recursion _ _ (each_chosen (Contains all) (λ y. nat_eq (plan.part_of y.place) n) all (known_all all)))
+      All-contains (λ y. (nat_eq (plan.part_of y.index) n ≡ true) × Contains all y) (of_part plan.part_of n all) x
+      (All-from_recursion _ _ (each_chosen (Contains all) (λ y. nat_eq (plan.part_of y.index) n) all (known_all all)))
       (subst (λ l. Contains l x) (plan.each n) c)
 
   -- entries of two parts share no section
-  unshared : (x y : Placed) → Contains all x → Contains all y → ¬ (plan.part_of x.place ≡ plan.part_of y.place) → ¬ ShareSection division w x.entry.pos y.entry.pos
+  unshared : (x y : DueEntry) → Contains all x → Contains all y → ¬ (plan.part_of x.index ≡ plan.part_of y.index) → ¬ ShareSection division w x.entry.pos y.entry.pos
   unshared x y cx cy f s = f ((plan.together x y cx cy).1 (record { between = []; links = s }))
 
   parts_apart : (n : ℕ) → SetsApart w all (own n)
@@ -102,21 +102,21 @@ module _ {S : Type 0} (division : Pos → S) (w : World) (entries : List Entry) 
             (record { section = division q; first = o.territory; second = record { block = q; in_reach = i.0; loaded = i.1; lies = refl } });
       }
 
-  in_own_part : (y : Placed) → Contains all y → Contains (part_at parts (plan.part_of y.place)) y
-  in_own_part y c = subst (λ l. Contains l y) (sym (plan.each (plan.part_of y.place))) (kept (λ x. nat_eq (plan.part_of x.place) (plan.part_of y.place)) all y (eq-eqb (plan.part_of y.place) (plan.part_of y.place) refl) c)
+  in_own_part : (y : DueEntry) → Contains all y → Contains (part_at parts (plan.part_of y.index)) y
+  in_own_part y c = subst (λ l. Contains l y) (sym (plan.each (plan.part_of y.index))) (kept (λ x. nat_eq (plan.part_of x.index) (plan.part_of y.index)) all y (eq-eqb (plan.part_of y.index) (plan.part_of y.index) refl) c)
 
   free_elsewhere : (q : Pos) → ((n : ℕ) → ¬ IsOfPart division w (part_at parts n) (division q)) → IsFree w all (λ i. false) q
   free_elsewhere q f =
-      record { free = λ y cy hy i. f (plan.part_of y.place) (record { owner = y; there = in_own_part y cy; territory = record { block = q; in_reach = i.0; loaded = i.1; lies = refl } }) }
+      record { free = λ y cy hy i. f (plan.part_of y.index) (record { owner = y; there = in_own_part y cy; territory = record { block = q; in_reach = i.0; loaded = i.1; lies = refl } }) }
 
   agree_itself : (R : Pos → Type 0) → Agree R w w
   agree_itself R = record { same_loaded = λ q r. refl; same_number = λ q r. refl; same_pending = λ q r. refl }
 
-  projected : (k : ℕ → Kind) (now : ℕ) (n : ℕ) (es : List Placed) → AllByRecursion (Contains all) es → Projects k now (own n) (IsFree w all (own n)) w w es (chosen (own n) es)
+  projected : (k : ℕ → Kind) (now : ℕ) (n : ℕ) (es : List DueEntry) → AllByRecursion (Contains all) es → Projects k now (own n) (IsFree w all (own n)) w w es (chosen (own n) es)
   projected k now n es among = project k now w all (own n) (parts_apart n) es among w w refl refl (agree_itself (IsFree w all (own n)))
 
   -- what each block is where no entry writes it
-  untouched : (k : ℕ → Kind) (now : ℕ) (q : Pos) → IsFree w all (λ i. false) q → (es : List Placed) → AllByRecursion (Contains all) es → Agree (λ r. r ≡ q) (world_after k now es w) w
+  untouched : (k : ℕ → Kind) (now : ℕ) (q : Pos) → IsFree w all (λ i. false) q → (es : List DueEntry) → AllByRecursion (Contains all) es → Agree (λ r. r ≡ q) (world_after k now es w) w
   untouched k now q f es among =
       let o : Projects k now (λ i. false) (IsFree w all (λ i. false)) w w es (chosen (λ i. false) es) = project k now w all (λ i. false) none_apart es among w w refl refl (agree_itself (IsFree w all (λ i. false))) in
       let at : (r : Pos) → r ≡ q → IsFree w all (λ i. false) r = λ r e. subst (IsFree w all (λ i. false)) (sym e) f in
@@ -127,8 +127,8 @@ module _ {S : Type 0} (division : Pos → S) (w : World) (entries : List Entry) 
       }
 
   among_part : (n : ℕ) → AllByRecursion (Contains all) (part_at parts n)
-  among_part n = subst (AllByRecursion (Contains all)) (sym (plan.each n)) (seconds (of_part plan.part_of n all) (each_chosen (Contains all) (λ y. nat_eq (plan.part_of y.place) n) all (known_all all))) where
-    seconds : (xs : List Placed) → AllByRecursion (λ y. (nat_eq (plan.part_of y.place) n ≡ true) × Contains all y) xs → AllByRecursion (Contains all) xs
+  among_part n = subst (AllByRecursion (Contains all)) (sym (plan.each n)) (seconds (of_part plan.part_of n all) (each_chosen (Contains all) (λ y. nat_eq (plan.part_of y.index) n) all (known_all all))) where
+    seconds : (xs : List DueEntry) → AllByRecursion (λ y. (nat_eq (plan.part_of y.index) n ≡ true) × Contains all y) xs → AllByRecursion (Contains all) xs
     seconds [] h = tt
     seconds (x ∷ xs) h = (h.0.1, seconds xs h.1)
 
@@ -138,9 +138,9 @@ module _ {S : Type 0} (division : Pos → S) (w : World) (entries : List Entry) 
     same_read : {A : Type 0} (read : World → Pos → A) → ((R : Pos → Type 0) (a b : World) → Agree R a b → (q : Pos) → R q → read a q ≡ read b q)
         → ((a b : A) → (¬ (a ≡ b) → ⊥) → a ≡ b) → (q : Pos) → read v q ≡ read (world_after k now all w) q
     same_read {A} read same stable q = by (search_each (Contains all) (λ x. InLoadedReach w x.entry.pos q) (λ x. loaded_reach_or w x.entry.pos q) all (known_all all)) where
-      by : ((x : Placed) × Contains all x × InLoadedReach w x.entry.pos q) ⊎ AllByRecursion (λ x. ¬ InLoadedReach w x.entry.pos q) all → read v q ≡ read (world_after k now all w) q
+      by : ((x : DueEntry) × Contains all x × InLoadedReach w x.entry.pos q) ⊎ AllByRecursion (λ x. ¬ InLoadedReach w x.entry.pos q) all → read v q ≡ read (world_after k now all w) q
       by (inl g) =
-          let n : ℕ = plan.part_of g.0.place in
+          let n : ℕ = plan.part_of g.0.index in
           let o : IsOfPart division w (part_at parts n) (division q) = record { owner = g.0; there = in_own_part g.0 g.1; territory = record { block = q; in_reach = g.2.0; loaded = g.2.1; lies = refl } } in
           same _ v (world_after k now (part_at parts n) w) (h.sections n) q o
           ∙ ap (λ l. read (world_after k now l w) q) (plan.each n)
@@ -175,7 +175,7 @@ module _ {S : Type 0} (division : Pos → S) (w : World) (entries : List Entry) 
     gathers_whole lists = (λ i. record { world = whole_world i; lists = listed_all lists (entries_of (merged i)) }) ∙ sym (in_order_is k now 0 entries w lists)
 
   -- turns in which each part's own stand in the part's order
-  alone_of : (k : ℕ → Kind) (now : ℕ) (es : List Placed) → AllByRecursion (Contains all) es → (done : ℕ → List Placed) → ((n : ℕ) → of_part plan.part_of n es ≡ done n) → IsAsAlone division k now w parts plan.part_of done (world_after k now es w) (made_after k now es w)
+  alone_of : (k : ℕ → Kind) (now : ℕ) (es : List DueEntry) → AllByRecursion (Contains all) es → (done : ℕ → List DueEntry) → ((n : ℕ) → of_part plan.part_of n es ≡ done n) → IsAsAlone division k now w parts plan.part_of done (world_after k now es w) (made_after k now es w)
   alone_of k now es among done progress =
       let p : (n : ℕ) → Projects k now (own n) (IsFree w all (own n)) w w es (chosen (own n) es) = λ n. projected k now n es among in
       let o : Projects k now (λ i. false) (IsFree w all (λ i. false)) w w es (chosen (λ i. false) es) = project k now w all (λ i. false) none_apart es among w w refl refl (agree_itself (IsFree w all (λ i. false))) in
@@ -194,13 +194,13 @@ module _ {S : Type 0} (division : Pos → S) (w : World) (entries : List Entry) 
         };
       }
 
-  alone : (k : ℕ → Kind) (now : ℕ) (lists : Lists) (s : State) (es : List Placed) → IsTraced k now w lists all parts plan.part_of s es → IsAsAlone division k now w parts plan.part_of (done_in parts s) s.world s.made
+  alone : (k : ℕ → Kind) (now : ℕ) (lists : Lists) (s : State) (es : List DueEntry) → IsTraced k now w lists all parts plan.part_of s es → IsAsAlone division k now w parts plan.part_of (done_in parts s) s.world s.made
   alone k now lists s es t =
       subst (λ v. IsAsAlone division k now w parts plan.part_of (done_in parts s) v s.made) (sym t.world)
       (subst (λ l. IsAsAlone division k now w parts plan.part_of (done_in parts s) (world_after k now es w) l) (sym t.made)
       (alone_of k now es t.among (done_in parts s) t.progress))
 
-  whole : (part : List Placed) (g : Option Stage) → ((x : Stage) → g ≡ Some x → x ≡ Ended) → take (done_of part g) part ≡ part
+  whole : (part : List DueEntry) (g : Option Stage) → ((x : Stage) → g ≡ Some x → x ≡ Ended) → take (done_of part g) part ≡ part
   whole part None h = take-length part
   whole part (Some x) h = ap (λ y. take (done_of part (Some y)) part) (h x refl) ∙ take-length part
 
@@ -209,7 +209,7 @@ module _ {S : Type 0} (division : Pos → S) (w : World) (entries : List Entry) 
   alone_after k now = alone_of k now all (known_all all) (part_at parts) (λ n. sym (plan.each n))
 
   -- what is of a part is so from the start, since no event loads a block
-  from_start : (part : List Placed) (x : S) (v : World) → v.loaded ≡ w.loaded → IsOfPart division v part x → IsOfPart division w part x
+  from_start : (part : List DueEntry) (x : S) (v : World) → v.loaded ≡ w.loaded → IsOfPart division v part x → IsOfPart division w part x
   from_start part x v e o =
       let t : InTerritory division v o.owner.entry.pos x = o.territory in
       record { owner = o.owner; there = o.there; territory = record { block = t.block; in_reach = t.in_reach; loaded = subst (λ f. IsTrue (f t.block)) e t.loaded; lies = t.lies } }
@@ -238,12 +238,12 @@ module _ {S : Type 0} (division : Pos → S) (w : World) (entries : List Entry) 
   gives_whole k now lists events lawful back = ended k now lists (play k now parts (start w lists parts) events) (as_alone k now lists events lawful) back
 
 -- no section of a chunk lies in two parts' territories
-pub parts_share_nothing : (w : World) (entries : List Entry) (parts : List (List Placed)) → IsPlan section_of w entries parts → (m n : ℕ) (s : SectionPos) → ¬ (m ≡ n)
+pub parts_share_nothing : (w : World) (entries : List Entry) (parts : List (List DueEntry)) → IsPlan section_of w entries parts → (m n : ℕ) (s : SectionPos) → ¬ (m ≡ n)
     → IsOfPart section_of w (part_at parts m) s → IsOfPart section_of w (part_at parts n) s → ⊥
 parts_share_nothing = share_nothing section_of
 
 -- from the opened tick of a land, that is the tick
-pub gives_tick : {S : Type 0} (division : Pos → S) (k : ℕ → Kind) (now : ℕ) (edits : List (Set ℕ)) (w : Land ℕ) (parts : List (List Placed)) → IsPlan division (cells_of (opened k now edits w)) (due_in k now edits w) parts → (events : List Event)
+pub gives_tick : {S : Type 0} (division : Pos → S) (k : ℕ → Kind) (now : ℕ) (edits : List (Set ℕ)) (w : Land ℕ) (parts : List (List DueEntry)) → IsPlan division (cells_of (opened k now edits w)) (due_in k now edits w) parts → (events : List Event)
     → AreLawful k now parts (start (cells_of (opened k now edits w)) (opened k now edits w).lists parts) events
     → AllBack (play k now parts (start (cells_of (opened k now edits w)) (opened k now edits w).lists parts) events)
     → outcome (play k now parts (start (cells_of (opened k now edits w)) (opened k now edits w).lists parts) events) ≡ outcome_of (ticked k now edits w)

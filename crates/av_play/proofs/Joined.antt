@@ -2,13 +2,13 @@
 use Rattle.std.proofs.Common.{◌≡◌, ℕ, zero, suc, Bool, true, false, cond, List, [], ◌∷◌, slice_get, slice_set, Option, Some, None, ◌⊎◌, inl, inr, refl, sym, ap, ◌∙◌, subst, arith, IsTrue}
 use Rattle.std.specs.List.{Contains}
 use Rattle.std.proofs.lemmas.Bool.{true≢false, cases_Bool, false_from_ne_true}
-use Rattle.av_types.specs.declared.place.SectionPos.{SectionPos}
+use Rattle.av_types.specs.declared.position.SectionPos.{SectionPos}
 use Rattle.av_cells.specs.declared.kind.Kind.{Kind}
 use Rattle.av_cells.specs.Grid.{Filling, Grid, is_here, cells_of, only, without, over}
-use Rattle.av_types.specs.Places.{section_of}
+use Rattle.av_types.specs.Positions.{section_of}
 use Rattle.av_water.specs.Frame.{Same}
 use Rattle.std.proofs.lemmas.List.Elements.{Contains-push_cases}
-use Rattle.av_play.specs.declared.event.Placed.{Placed}
+use Rattle.av_play.specs.declared.event.DueEntry.{DueEntry}
 use Rattle.av_play.specs.Parts.{InTerritory}
 use Rattle.av_play.specs.Play.{turn_of, world_after}
 use Rattle.av_play.specs.Laws.{IsOfPart}
@@ -95,7 +95,7 @@ module _ (ps : List Grid) (rest : Grid) (carved : AreCarved ps rest) (n : ℕ) (
       by s (inr h) = set_off ps rest n p t s there h (same s ∙ h) ∙ sym (ap (λ b. cond b (t s) (cond (is_here (p s)) None (joined ps rest s))) (same s ∙ h) ∙ ap (λ b. cond b None (joined ps rest s)) h)
 
     -- turns in the parcel are turns in the whole
-    pub parcel_turned : (k : ℕ → Kind) (now : ℕ) (x : Placed) → ((s : SectionPos) → InTerritory (cells_of (joined ps rest)) x.entry.pos s → IsTrue (is_here (p s))) → cells_of t ≡ (turn_of k now x (cells_of p)).world
+    pub parcel_turned : (k : ℕ → Kind) (now : ℕ) (x : DueEntry) → ((s : SectionPos) → InTerritory (cells_of (joined ps rest)) x.entry.pos s → IsTrue (is_here (p s))) → cells_of t ≡ (turn_of k now x (cells_of p)).world
         → IsTurned k now x (joined ps rest) p (joined (slice_set ps n t) rest)
     parcel_turned k now x inside e =
         let e' : cells_of t ≡ world_after k now (x ∷ []) (cells_of (only picked (joined ps rest))) = e ∙ ap (λ (u : Grid). (turn_of k now x (cells_of u)).world) (sym parcel_is) in
@@ -109,7 +109,7 @@ module _ (ps : List Grid) (rest : Grid) (carved : AreCarved ps rest) (n : ℕ) (
         owned s o = from (Contains-push_cases [] x o.owner o.there) where
           from : Contains [] o.owner ⊎ (x ≡ o.owner) → InTerritory (cells_of (joined ps rest)) x.entry.pos s
           from (inl c) = absurd (none_contained o.owner c)
-          from (inr g) = subst (λ (y : Placed). InTerritory (cells_of (joined ps rest)) y.entry.pos s) (sym g) o.territory
+          from (inr g) = subst (λ (y : DueEntry). InTerritory (cells_of (joined ps rest)) y.entry.pos s) (sym g) o.territory
 
   -- the parcel put back
   pub parcel_back : joined (slice_set ps n empty) (over p rest) ≡ joined ps rest

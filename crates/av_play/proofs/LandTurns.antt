@@ -3,15 +3,15 @@ use Rattle.std.proofs.Common.{◌≡◌, ◌∙◌, ℕ, ◌&&◌, List, [], ◌
 use Rattle.std.proofs.lemmas.Bool.{true≢false}
 use Rattle.std.proofs.lemmas.Bool.Decides.{Decides-int_eq}
 use Rattle.std.specs.List.{AllByRecursion}
-use Rattle.av_types.specs.Places.{chunk_of}
-use Rattle.av_types.specs.declared.place.Pos.{Pos}
+use Rattle.av_types.specs.Positions.{chunk_of}
+use Rattle.av_types.specs.declared.position.Pos.{Pos}
 use Rattle.av_types.specs.declared.tick.Entry.{Entry}
 use Rattle.av_ticks.specs.Entries.{is_pending}
 use Rattle.av_cells.specs.declared.kind.Kind.{Kind}
 use Rattle.av_cells.specs.Positions.{same_pos, same_chunk}
 use Rattle.av_cells.specs.World.{World, Lists, listed_if, listed_all}
 use Rattle.av_cells.specs.Turn.{Change, entry_of, turn}
-use Rattle.av_types.proofs.SamePlaces.{same_pos_is}
+use Rattle.av_types.proofs.SamePositions.{same_pos_is}
 use Rattle.av_water.proofs.Inside.{turn_kept}
 use Rattle.av_land.specs.Land.{Land, is_loaded, cells_of}
 use Rattle.av_land.specs.Tick.{turned, turned_all}

@@ -3,17 +3,17 @@ use Rattle.std.proofs.Common.{◌≡◌, ℕ, Bool, true, false, cond, List, [],
 use Rattle.std.specs.List.{AllByRecursion, Contains}
 use Rattle.std.proofs.lemmas.Bool.{true≢false}
 use Rattle.av_types.proofs.Each.{each_then}
-use Rattle.av_types.specs.declared.place.Pos.{Pos}
-use Rattle.av_types.specs.declared.place.SectionPos.{SectionPos}
+use Rattle.av_types.specs.declared.position.Pos.{Pos}
+use Rattle.av_types.specs.declared.position.SectionPos.{SectionPos}
 use Rattle.av_types.specs.declared.tick.Entry.{Entry}
 use Rattle.av_types.specs.declared.tick.Made.{Made}
-use Rattle.av_types.specs.Places.{section_of, place_of}
+use Rattle.av_types.specs.Positions.{section_of, place_of}
 use Rattle.av_cells.specs.declared.kind.Kind.{Kind}
 use Rattle.av_cells.specs.Positions.{InReach}
 use Rattle.av_cells.specs.World.{World, Lists}
 use Rattle.av_cells.specs.Grid.{Filling, Grid, is_here, number_in, pending_in, cells_of, only, without, over}
 use Rattle.av_water.specs.Frame.{Agree, Same}
-use Rattle.av_play.specs.declared.event.Placed.{Placed}
+use Rattle.av_play.specs.declared.event.DueEntry.{DueEntry}
 use Rattle.av_play.specs.Parts.{IsPlan, part_at}
 use Rattle.av_play.specs.Play.{labelled, turn_of, world_after, made_after, gathered, in_order}
 use Rattle.av_play.specs.Laws.{IsOfPart, IsAsAlone}
@@ -24,18 +24,18 @@ use Rattle.av_play.proofs.Projection.{IsFree, project, after_loaded}
 use Rattle.av_play.proofs.Trace.{known_all}
 use Rattle.av_play.proofs.Interleaving.{stable_test, gathers_whole}
 
-pub record SameTurns (k : ℕ → Kind) (now : ℕ) (R : Pos → Type 0) (v w : World) (es : List Placed) : Type 0 where
+pub record SameTurns (k : ℕ → Kind) (now : ℕ) (R : Pos → Type 0) (v w : World) (es : List DueEntry) : Type 0 where
   pub cells : Agree R (world_after k now es v) (world_after k now es w)
   pub made : made_after k now es v ≡ made_after k now es w
 
 -- worlds that agree on the reaches of all entries go on to do so
-pub turns_within : (k : ℕ → Kind) (now : ℕ) (R : Pos → Type 0) (es : List Placed) → AllByRecursion (λ x. (q : Pos) → InReach x.entry.pos q → R q) es → (v w : World) → Agree R v w → SameTurns k now R v w es
+pub turns_within : (k : ℕ → Kind) (now : ℕ) (R : Pos → Type 0) (es : List DueEntry) → AllByRecursion (λ x. (q : Pos) → InReach x.entry.pos q → R q) es → (v w : World) → Agree R v w → SameTurns k now R v w es
 turns_within k now R [] h v w a = record { cells = a; made = refl }
 turns_within k now R (x ∷ xs) h v w a =
     let s : Same R (turn_of k now x v) (turn_of k now x w) = turn_within k now x.entry.pos R v w h.0 a in
     let t : SameTurns k now R (turn_of k now x v).world (turn_of k now x w).world xs =
     turns_within k now R xs h.1 (turn_of k now x v).world (turn_of k now x w).world s.agree in
-    record { cells = t.cells; made = λ i. labelled x.place 0 (s.same_made i) ++ t.made i }
+    record { cells = t.cells; made = λ i. labelled x.index 0 (s.same_made i) ++ t.made i }
 
 picked : (o : Option Filling) (c : Bool) → (IsTrue (is_here o) → IsTrue c) → cond c o None ≡ o
 picked None true h = refl
@@ -56,7 +56,7 @@ agree_picked b g =
     }
 
 -- a part's turns on its own sections alone are those in the whole
-pub part_turns : (k : ℕ → Kind) (now : ℕ) (g : Grid) (part : List Placed) (b : SectionPos → Bool) → ((s : SectionPos) → IsOfPart (cells_of g) part s → IsTrue (b s))
+pub part_turns : (k : ℕ → Kind) (now : ℕ) (g : Grid) (part : List DueEntry) (b : SectionPos → Bool) → ((s : SectionPos) → IsOfPart (cells_of g) part s → IsTrue (b s))
     → SameTurns k now (IsSeen b g) (cells_of (only b g)) (cells_of g) part
 part_turns k now g part b h =
     turns_within k now (IsSeen b g) part
@@ -74,12 +74,12 @@ over_picked t b g s c = ap (λ d. cond (is_here (t s)) (t s) (cond d None (g s))
 over_other : (t : Grid) (b : SectionPos → Bool) (g : Grid) (s : SectionPos) → b s ≡ false → is_here (t s) ≡ false → over t (without b g) s ≡ g s
 over_other t b g s c e = (λ i. cond (e i) (t s) (cond (c i) None (g s)))
 
-no_entry_writes : (g : Grid) (part : List Placed) (b : SectionPos → Bool) → ((s : SectionPos) → IsOfPart (cells_of g) part s → IsTrue (b s)) → (q : Pos) → b (section_of q) ≡ false → IsFree (cells_of g) part (λ i. false) q
+no_entry_writes : (g : Grid) (part : List DueEntry) (b : SectionPos → Bool) → ((s : SectionPos) → IsOfPart (cells_of g) part s → IsTrue (b s)) → (q : Pos) → b (section_of q) ≡ false → IsFree (cells_of g) part (λ i. false) q
 no_entry_writes g part b h q e =
     record { free = λ y c f i. true≢false (sym (h (section_of q) (record { owner = y; there = c; territory = record { block = q; in_reach = i.0; loaded = i.1; lies = refl } })) ∙ e) }
 
 -- a part turned on its own sections alone and put back is the part turned in the whole
-module _ (k : ℕ → Kind) (now : ℕ) (g : Grid) (part : List Placed) (b : SectionPos → Bool) (h : (s : SectionPos) → IsOfPart (cells_of g) part s → IsTrue (b s)) (t : Grid) (e : cells_of t ≡ world_after k now part (cells_of (only b g))) where
+module _ (k : ℕ → Kind) (now : ℕ) (g : Grid) (part : List DueEntry) (b : SectionPos → Bool) (h : (s : SectionPos) → IsOfPart (cells_of g) part s → IsTrue (b s)) (t : Grid) (e : cells_of t ≡ world_after k now part (cells_of (only b g))) where
   put_back : {A : Type 0} (read : Option Filling → Pos → A) (seen : World → Pos → A) → ((u : Grid) (q : Pos) → seen (cells_of u) q ≡ read (u (section_of q)) q) → ((R : Pos → Type 0) (v w : World) → Agree R v w → (q : Pos) → R q → seen v q ≡ seen w q)
       → (q : Pos) → seen (cells_of (over t (without b g))) q ≡ seen (world_after k now part (cells_of g)) q
   put_back {A} read seen is same q = by (b (section_of q)) refl where
@@ -107,11 +107,11 @@ module _ (k : ℕ → Kind) (now : ℕ) (g : Grid) (part : List Placed) (b : Sec
         pending = λ q. put_back (λ o q. pending_in o (place_of q)) (λ v q. v.pending q) (λ u q. refl) (λ R v w a q r. a.same_pending q r) q i;
       }
 
-pub part_is_whole : (k : ℕ → Kind) (now : ℕ) (g : Grid) (part : List Placed) (b : SectionPos → Bool) → ((s : SectionPos) → IsOfPart (cells_of g) part s → IsTrue (b s)) → (t : Grid) → cells_of t ≡ world_after k now part (cells_of (only b g))
+pub part_is_whole : (k : ℕ → Kind) (now : ℕ) (g : Grid) (part : List DueEntry) (b : SectionPos → Bool) → ((s : SectionPos) → IsOfPart (cells_of g) part s → IsTrue (b s)) → (t : Grid) → cells_of t ≡ world_after k now part (cells_of (only b g))
     → IsPutBack k now g part b t
 part_is_whole k now g part b h t e = record { cells = put_back_is k now g part b h t e; made = (part_turns k now g part b h).made }
 
-module _ (k : ℕ → Kind) (now : ℕ) (g : Grid) (parts : List (List Placed)) (part_of : ℕ → ℕ) (picks : ℕ → SectionPos → Bool) (parcels : ℕ → Grid) (h : Grid) (made : List Made) (m : AreMended k now g parts part_of picks parcels h made) where
+module _ (k : ℕ → Kind) (now : ℕ) (g : Grid) (parts : List (List DueEntry)) (part_of : ℕ → ℕ) (picks : ℕ → SectionPos → Bool) (parcels : ℕ → Grid) (h : Grid) (made : List Made) (m : AreMended k now g parts part_of picks parcels h made) where
   turns : (n : ℕ) → SameTurns k now (IsSeen (picks n) g) (cells_of (only (picks n) g)) (cells_of g) (part_at parts n)
   turns n = part_turns k now g (part_at parts n) (picks n) (λ s. (m.exact n s).1)
 
@@ -138,7 +138,7 @@ module _ (k : ℕ → Kind) (now : ℕ) (g : Grid) (parts : List (List Placed)) 
         put_aside = λ n. m.put_aside n ∙ (turns n).made;
       }
 
-pub mended_whole : (g : Grid) (entries : List Entry) (parts : List (List Placed)) (plan : IsPlan (cells_of g) entries parts) (k : ℕ → Kind) (now : ℕ) (picks : ℕ → SectionPos → Bool) (parcels : ℕ → Grid) (h : Grid) (made : List Made)
+pub mended_whole : (g : Grid) (entries : List Entry) (parts : List (List DueEntry)) (plan : IsPlan (cells_of g) entries parts) (k : ℕ → Kind) (now : ℕ) (picks : ℕ → SectionPos → Bool) (parcels : ℕ → Grid) (h : Grid) (made : List Made)
     → AreMended k now g parts plan.part_of picks parcels h made → (lists : Lists) → gathered (cells_of h) lists made ≡ in_order k now entries (cells_of g) lists
 mended_whole g entries parts plan k now picks parcels h made m =
     gathers_whole section_of (cells_of g) entries parts plan k now (cells_of h) made (mended_alone k now g parts plan.part_of picks parcels h made m)

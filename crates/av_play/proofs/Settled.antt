@@ -1,18 +1,18 @@
 -- Parts turned on their own sections, put back without what they put aside, which is then appended.
 use Rattle.std.proofs.Common.{◌≡◌, ℕ, Bool, true, false, cond, List, [], ◌∷◌, refl, sym, ap, ◌∙◌, IsTrue, subst}
 use Rattle.std.specs.Ordering.{is_lt}
-use Rattle.av_types.specs.declared.place.Pos.{Pos}
-use Rattle.av_types.specs.declared.place.SectionPos.{SectionPos}
+use Rattle.av_types.specs.declared.position.Pos.{Pos}
+use Rattle.av_types.specs.declared.position.SectionPos.{SectionPos}
 use Rattle.av_types.specs.declared.tick.Entry.{Entry}
 use Rattle.av_types.specs.declared.tick.Made.{Made}
-use Rattle.av_types.specs.Places.{section_of}
+use Rattle.av_types.specs.Positions.{section_of}
 use Rattle.av_cells.specs.declared.kind.Kind.{Kind}
 use Rattle.av_cells.specs.Positions.{same_pos}
 use Rattle.av_cells.specs.World.{World, Lists, listed_all}
 use Rattle.av_cells.specs.Grid.{Grid, cells_of, only}
 use Rattle.av_ticks.specs.Entries.{made_order}
 use Rattle.av_types.specs.Order.{inserted, ordered}
-use Rattle.av_play.specs.declared.event.Placed.{Placed}
+use Rattle.av_play.specs.declared.event.DueEntry.{DueEntry}
 use Rattle.av_play.specs.Parts.{numbered, IsPlan, part_at}
 use Rattle.av_play.specs.Play.{in_order, world_after, made_after, entries_of}
 use Rattle.av_play.specs.Laws.{IsAsAlone}
@@ -46,11 +46,11 @@ new_where : (v w : World) (es : List Entry) → ((q : Pos) → v.pending q ≡ w
 new_where v w [] same n = tt
 new_where v w (e ∷ es) same n = (same e.pos ∙ n.0, n.1, new_where v w es same n.2)
 
-module _ (g : Grid) (entries : List Entry) (parts : List (List Placed)) (plan : IsPlan (cells_of g) entries parts) (k : ℕ → Kind) (now : ℕ) (picks : ℕ → SectionPos → Bool) (h : World) (made : List Made) (m : AreSettled k now g parts plan.part_of picks h made) where
+module _ (g : Grid) (entries : List Entry) (parts : List (List DueEntry)) (plan : IsPlan (cells_of g) entries parts) (k : ℕ → Kind) (now : ℕ) (picks : ℕ → SectionPos → Bool) (h : World) (made : List Made) (m : AreSettled k now g parts plan.part_of picks h made) where
   abbrev w : World
   w = cells_of g
 
-  abbrev all : List Placed
+  abbrev all : List DueEntry
   all = numbered 0 entries
 
   -- the numbers of h, and what waits after the tick

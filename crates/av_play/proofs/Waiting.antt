@@ -2,15 +2,15 @@
 use Rattle.std.proofs.Common.{◌≡◌, ℕ, Bool, true, false, not, cond, List, [], ◌∷◌, ◌++◌, Option, Some, None, refl, sym, ap, ◌∙◌}
 use Rattle.std.proofs.lemmas.Bool.{not-true, and_parts}
 use Rattle.av_ticks.proofs.Lookup.{cond_neither}
-use Rattle.av_types.specs.declared.place.Pos.{Pos}
+use Rattle.av_types.specs.declared.position.Pos.{Pos}
 use Rattle.av_types.specs.declared.tick.Entry.{Entry}
 use Rattle.av_types.specs.declared.water.Direction.TheVariants.{North, South, West, East}
-use Rattle.av_types.proofs.SamePlaces.{same_pos_back}
+use Rattle.av_types.proofs.SamePositions.{same_pos_back}
 use Rattle.av_cells.specs.declared.kind.Kind.{Kind}
 use Rattle.av_cells.specs.Positions.{step, around, same_pos}
 use Rattle.av_cells.specs.World.{World, with_number, with_entry_if}
 use Rattle.av_cells.specs.Turn.{Change, change, entry_of, wakes, woken, woken_all, set_awake, set_planned, spread, onward, renewed, turn}
-use Rattle.av_play.specs.declared.event.Placed.{Placed}
+use Rattle.av_play.specs.declared.event.DueEntry.{DueEntry}
 use Rattle.av_play.specs.Play.{labelled, turn_of, world_after, made_after, entries_of}
 use Rattle.av_play.specs.Waiting.{is_among, AreNew}
 
@@ -88,13 +88,13 @@ entries_labelled : (maker n : ℕ) (es : List Entry) (ms : List Rattle.av_types.
 entries_labelled maker n [] ms = refl
 entries_labelled maker n (e ∷ es) ms = ap (λ l. e ∷ l) (entries_labelled maker (Rattle.std.proofs.Common.suc n) es ms)
 
-pub turns_wait : (k : ℕ → Kind) (now : ℕ) (xs : List Placed) (w : World) (q : Pos) → (world_after k now xs w).pending q ≡ cond (is_among q (entries_of (made_after k now xs w))) true (w.pending q)
+pub turns_wait : (k : ℕ → Kind) (now : ℕ) (xs : List DueEntry) (w : World) (q : Pos) → (world_after k now xs w).pending q ≡ cond (is_among q (entries_of (made_after k now xs w))) true (w.pending q)
 turns_wait k now [] w q = refl
 turns_wait k now (x ∷ xs) w q =
     turns_wait k now xs (turn_of k now x w).world q
     ∙ ap (λ (b : Bool). cond (is_among q (entries_of (made_after k now xs (turn_of k now x w).world))) true b) (turn_waits k now x.entry.pos w q)
     ∙ sym (among_append q (turn_of k now x w).made (entries_of (made_after k now xs (turn_of k now x w).world)) (w.pending q))
-    ∙ ap (λ (l : List Entry). cond (is_among q l) true (w.pending q)) (sym (entries_labelled x.place 0 (turn_of k now x w).made (made_after k now xs (turn_of k now x w).world)))
+    ∙ ap (λ (l : List Entry). cond (is_among q l) true (w.pending q)) (sym (entries_labelled x.index 0 (turn_of k now x w).made (made_after k now xs (turn_of k now x w).world)))
 
 -- what a turn makes entries of did not wait before, and is made once
 not_among : (q : Pos) (es : List Entry) (e : Entry) → is_among q es ≡ false → same_pos q e.pos ≡ false → is_among q (es ++ e ∷ []) ≡ false
@@ -183,8 +183,8 @@ new_after w v es fs h c g = join es h (λ q n. (cond_neither (is_among q es) (w.
       (h.0, among_or x.pos xs fs h.1 (outside x fs (λ q n. (cond_neither (same_pos q x.pos) (is_among q xs) (o q n)).0) g), join xs h.2 (λ q n. (cond_neither (same_pos q x.pos) (is_among q xs) (o q n)).1))
 
 -- what turns make one after the other is new
-pub turns_fresh : (k : ℕ → Kind) (now : ℕ) (xs : List Placed) (w : World) → AreNew w (entries_of (made_after k now xs w))
+pub turns_fresh : (k : ℕ → Kind) (now : ℕ) (xs : List DueEntry) (w : World) → AreNew w (entries_of (made_after k now xs w))
 turns_fresh k now [] w = tt
 turns_fresh k now (x ∷ xs) w =
-    Rattle.std.proofs.Common.subst (AreNew w) (sym (entries_labelled x.place 0 (turn_of k now x w).made (made_after k now xs (turn_of k now x w).world)))
+    Rattle.std.proofs.Common.subst (AreNew w) (sym (entries_labelled x.index 0 (turn_of k now x w).made (made_after k now xs (turn_of k now x w).world)))
     (new_after w (turn_of k now x w).world (turn_of k now x w).made (entries_of (made_after k now xs (turn_of k now x w).world)) (turn_fresh k w now x.entry.pos) (turn_waits k now x.entry.pos w) (turns_fresh k now xs (turn_of k now x w).world))

@@ -1,10 +1,10 @@
 -- Parcels over the rest of a grid.
 use Rattle.std.specs.Prelude.{◌≡◌, ℕ, IsTrue, List, [], ◌∷◌, Some, None}
 use Rattle.std.specs.List.{slice_get}
-use Rattle.av_types.specs.declared.place.SectionPos.{SectionPos}
+use Rattle.av_types.specs.declared.position.SectionPos.{SectionPos}
 use Rattle.av_cells.specs.Grid.{Grid, is_here, cells_of, over}
 use Rattle.av_cells.specs.declared.kind.Kind.{Kind}
-use Rattle.av_play.specs.declared.event.Placed.{Placed}
+use Rattle.av_play.specs.declared.event.DueEntry.{DueEntry}
 use Rattle.av_play.specs.Play.{turn_of}
 
 -- all parcels over the rest
@@ -22,7 +22,7 @@ pub record AreCarved (parcels : List Grid) (rest : Grid) : Type 0 where
   pub out : (n : ℕ) (p : Grid) (s : SectionPos) → slice_get parcels n ≡ Some p → IsTrue (is_here (p s)) → rest s ≡ None
 
 -- the turn of x, seen in the whole g and made in its parcel p, leaves h
-pub record IsTurned (k : ℕ → Kind) (now : ℕ) (x : Placed) (g p h : Grid) : Type 0 where
+pub record IsTurned (k : ℕ → Kind) (now : ℕ) (x : DueEntry) (g p h : Grid) : Type 0 where
   pub world : cells_of h ≡ (turn_of k now x (cells_of g)).world
   pub made : (turn_of k now x (cells_of p)).made ≡ (turn_of k now x (cells_of g)).made
 

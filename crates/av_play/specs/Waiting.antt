@@ -1,6 +1,6 @@
 -- Which blocks wait after turns: those that waited before, and those of which an entry was made.
 use Rattle.std.specs.Prelude.{◌≡◌, Bool, true, false, if◌then◌else◌, List, [], ◌∷◌}
-use Rattle.av_types.specs.declared.place.Pos.{Pos}
+use Rattle.av_types.specs.declared.position.Pos.{Pos}
 use Rattle.av_types.specs.declared.tick.Entry.{Entry}
 use Rattle.av_cells.specs.Positions.{same_pos}
 use Rattle.av_cells.specs.World.{World, Lists, listed_all}

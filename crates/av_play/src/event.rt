@@ -1,11 +1,11 @@
 //! What happens in a tick whose parts are turned by several workers.
 use av_types::Entry;
 
-/// A due entry, with its place in the order of the tick.
+/// A due entry, with its index in the order of the tick.
 #[derive(Clone, Copy, Debug, Default, PartialEq, Eq)]
-pub struct Placed {
-    /// Its place, counted from 0.
-    pub place: u64,
+pub struct DueEntry {
+    /// Its index, counted from 0.
+    pub index: u64,
     /// The entry itself.
     pub entry: Entry,
 }

@@ -5,5 +5,5 @@ pub mod event;
 pub mod laws;
 pub mod turning;
 
-pub use event::{Event, Placed, Stage};
+pub use event::{DueEntry, Event, Stage};
 pub use turning::turn_one;

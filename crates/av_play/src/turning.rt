@@ -6,7 +6,7 @@ ghost use Rattle.av_cells.specs.Rule.{HasKinds};
 ghost use Rattle.av_cells.specs.World.{listed_all};
 ghost use Rattle.av_play.specs.Play.{turn_of, made_by, labelled};
 
-use crate::event::Placed;
+use crate::event::DueEntry;
 use arrayvec::ArrayVec;
 use av_cells::Cells;
 use av_rules::Kinds;
@@ -14,7 +14,7 @@ use av_types::{Entry, Made};
 use av_water::turn_onto;
 use std::alloc::AllocError;
 
-/// Puts what a turn made, with its maker's place and numbered from 0, behind what was put aside before.
+/// Puts what a turn made, with its maker's index and numbered from 0, behind what was put aside before.
 #[tactic(auto, using(crate::proofs::Labelling::labelled_push))]
 fn put_aside(made: &mut Vec<Made>, maker: u64, entries: &[Entry])
     requires few { length entries.now ≤ 42 }
@@ -32,7 +32,7 @@ fn put_aside(made: &mut Vec<Made>, maker: u64, entries: &[Entry])
     }
 }
 
-/// Turns a loaded entry in tick `now`, and puts what that makes behind `made`, with the entry's place and numbered from 0. `added` is
+/// Turns a loaded entry in tick `now`, and puts what that makes behind `made`, with the entry's index and numbered from 0. `added` is
 /// room for it that can be used again: what it has is forgotten.
 ///
 /// # Errors
@@ -41,7 +41,7 @@ pub fn turn_one<C: Cells>(
     cells: &mut C,
     kinds: &Kinds,
     now: u32,
-    entry: Placed,
+    entry: DueEntry,
     added: &mut ArrayVec<Entry, 42>,
     made: &mut Vec<Made>,
 ) -> Result<(), AllocError>
@@ -66,6 +66,6 @@ pub fn turn_one<C: Cells>(
     }
     added.clear();
     turn_onto(cells, kinds, now, entry.entry.pos, added);
-    put_aside(made, entry.place, added.as_slice());
+    put_aside(made, entry.index, added.as_slice());
     Ok(())
 }

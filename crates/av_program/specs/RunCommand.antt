@@ -1,7 +1,7 @@
 -- What `run` reads, writes and prints.
 use Rattle.std.specs.Prelude.{◌≡◌, ℕ, List, Option, map, Result, Ok, Err}
 use Rattle.av_types.specs.declared.fault.Fault.{Fault}
-use Rattle.av_sink.specs.Account.{Account, with_files, with_places}
+use Rattle.av_sink.specs.Account.{Account, with_files, with_commit}
 use Rattle.av_sink.specs.Saving.{named_file}
 use Rattle.av_files.specs.Files.{file_in}
 use Rattle.av_reports.specs.declared.failure.Failure.{Failure}
@@ -34,7 +34,7 @@ pub data HasRunOver (q : Request) (old new : Account) : Result Ran Failure → T
 -- What the command leaves in that account and on its output, and its status: the counts, or nothing and 1. A run that asks for a row for
 -- each state is done only where each has one. Which bytes the table, the edits and the files have, no clause can say.
 pub data HasRunRegions (q : Request) (old new : Account) (before after : Option (List ℕ)) (status : ℕ) : Type 0 where
-  ran_all : (i : Inputs) (o : Outcome) (without_row : ℕ) → IsRunOf q i (Ok (Done o without_row)) → new ≡ with_places (with_files old (map named_file o.files.items))
+  ran_all : (i : Inputs) (o : Outcome) (without_row : ℕ) → IsRunOf q i (Ok (Done o without_row)) → new ≡ with_commit (with_files old (map named_file o.files.items))
       → HasCounts o.chunks o.turns before after status → HasRunRegions q old new before after status
   not_run : new ≡ old → after ≡ before → status ≡ 1 → HasRunRegions q old new before after status
   not_written : (i : Inputs) (o : Outcome) (without_row : ℕ) (e : Fault) → IsRunOf q i (Ok (Done o without_row))

@@ -1,7 +1,7 @@
 -- What `block` prints. Which bytes the table and the file have, no clause can say.
 use Rattle.std.specs.Prelude.{◌≡◌, ◌⊎◌, ℕ, List, Option}
-use Rattle.av_types.specs.declared.place.Pos.{Pos}
-use Rattle.av_types.specs.declared.place.Height.{Height}
+use Rattle.av_types.specs.declared.position.Pos.{Pos}
+use Rattle.av_types.specs.declared.position.Height.{Height}
 use Rattle.av_types.specs.declared.fault.Fault.{Fault}
 use Rattle.av_sink.specs.Account.{IsDevice}
 use Rattle.av_commands.specs.BlockCommand.{HasAnswered}

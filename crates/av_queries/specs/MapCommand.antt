@@ -2,7 +2,7 @@
 use Rattle.std.specs.Prelude.{◌≡◌, ◌⊎◌, ℕ, List, [], ◌∷◌, Option, Some, None, Bool, if◌then◌else◌}
 use Rattle.av_types.specs.declared.fault.Fault.{Fault}
 use Rattle.av_types.specs.declared.fault.Fault.TheVariants.{OutOfMemory}
-use Rattle.av_types.specs.declared.place.Height.{Height}
+use Rattle.av_types.specs.declared.position.Height.{Height}
 use Rattle.av_sink.specs.Account.{Account, IsDevice, file_named, in_folder, with_failure, with_files}
 use Rattle.av_region_files.specs.declared.files.RegionFile.{RegionFile}
 use Rattle.av_png.specs.Png.{png_of}

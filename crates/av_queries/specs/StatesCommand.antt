@@ -1,7 +1,7 @@
 -- What `states` prints. Which bytes the table and the files have, no clause can say.
 use Rattle.std.specs.Prelude.{◌≡◌, ℕ, zero, suc, List, Option}
 use Rattle.std.specs.Io.KnownBytes.{Appends}
-use Rattle.av_types.specs.declared.place.Height.{Height}
+use Rattle.av_types.specs.declared.position.Height.{Height}
 use Rattle.av_rules.specs.Rows.{BlockTable}
 use Rattle.av_region_files.specs.declared.files.RegionFile.{RegionFile}
 use Rattle.av_census.specs.Census.{IsCensus}

@@ -1,6 +1,6 @@
 //! Writing a region file.
 ghost use Rattle.std.specs.Prelude.{◌≡◌, ◌+◌, ◌*◌, ◌<◌, ◌≤◌, ◌^◌, ◌++◌, false, [], List, Some, None, Err, OnOk, IfOk, IfErr, MatchOption, length, map, option_map};
-ghost use Rattle.av_types.specs.Places.{IsInLimits, chunk_at};
+ghost use Rattle.av_types.specs.Positions.{IsInLimits, chunk_at};
 ghost use Rattle.av_types.specs.declared.fault.Fault.TheVariants.{OutOfMemory, ChunkTooLarge};
 ghost use Rattle.std.specs.Int.{w32, to_be_bytes};
 ghost use Rattle.std.specs.List.{flat_map, sum_by};

@@ -1,7 +1,7 @@
 -- The names of region files (minecraft.wiki, Region file format).
 use Rattle.std.specs.Prelude.{ℕ, List, ◌++◌, codes}
 use Rattle.std.specs.Fmt.{signed_decimal}
-use Rattle.av_types.specs.declared.place.RegionPos.{RegionPos}
+use Rattle.av_types.specs.declared.position.RegionPos.{RegionPos}
 
 -- the texts between the dots of a name
 abbrev pub name_with : List ℕ → List ℕ → List ℕ

@@ -1,7 +1,7 @@
 //! Region files.
 ghost use Rattle.std.specs.Prelude.{IsTrue, ◌↔◌};
 ghost use Rattle.std.specs.List.{All};
-ghost use Rattle.av_types.specs.Places.{IsInLimits};
+ghost use Rattle.av_types.specs.Positions.{IsInLimits};
 
 use av_types::RegionPos;
 

@@ -1,7 +1,7 @@
 -- Names of files, and which numbers those of region files have.
 use Rattle.std.specs.Prelude.{◌≡◌, ◌≢◌, ◌⊎◌, ◌<◌, ℕ, List, ◌++◌, codes, length, slice_index, FitsSigned}
 use Rattle.std.specs.Int.{w32}
-use Rattle.av_types.specs.declared.place.RegionPos.{RegionPos}
+use Rattle.av_types.specs.declared.position.RegionPos.{RegionPos}
 
 -- no byte of the text is a dot
 abbrev pub HasNoDot : List ℕ → Type 0

@@ -80,7 +80,7 @@ impl EditTrouble {
     }
 
     /// Where it is.
-    fn place(&self, alloc: Global) -> Result<String, AllocError> {
+    fn whereabouts(&self, alloc: Global) -> Result<String, AllocError> {
         let EditTrouble { path, line, .. } = self;
         match &self.text {
             Some(text) => format!(in alloc; "{path}, line {line}: {text}"),
@@ -112,7 +112,7 @@ impl EditTrouble {
     /// What is said of it.
     pub(crate) fn lines(&self, alloc: Global) -> Result<Vec<String>, AllocError> {
         let mut lines = Vec::new(alloc);
-        lines.push(self.place(alloc)?)?;
+        lines.push(self.whereabouts(alloc)?)?;
         lines.push(self.advice(alloc)?)?;
         Ok(lines)
     }

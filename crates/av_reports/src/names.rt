@@ -4,7 +4,7 @@ ghost use Rattle.std.specs.Int.{w32};
 ghost use Rattle.std.specs.Fmt.{signed_decimal};
 ghost use Rattle.av_region_files.specs.Names.{name_with, region_name_of};
 ghost use Rattle.av_reports.specs.Names.{FitsRegion, HasNoDot, IsFileIn, IsFileNameOf};
-ghost use Rattle.av_types.specs.declared.place.RegionPos.{RegionPos};
+ghost use Rattle.av_types.specs.declared.position.RegionPos.{RegionPos};
 
 use av_region_files::region_name;
 use av_types::RegionPos;

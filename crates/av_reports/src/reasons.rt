@@ -61,12 +61,12 @@ fn chunk_lines(
     chunk: Option<ChunkPos>,
 ) -> Result<Vec<String>, AllocError> {
     let RegionPos { x, z } = region;
-    let place = match chunk {
+    let whereabouts = match chunk {
         Some(ChunkPos { x: cx, z: cz }) => format!(in alloc; "r.{x}.{z}.mca, chunk {cx} {cz}")?,
         None => format!(in alloc; "r.{x}.{z}.mca")?,
     };
     let mut lines = Vec::new(alloc);
-    lines.push(place)?;
+    lines.push(whereabouts)?;
     lines.push(String::from_str(
         alloc,
         "`anvilwater check --in DIR` lists each file and chunk that has a fault",

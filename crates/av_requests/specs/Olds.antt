@@ -1,8 +1,8 @@
--- The files of a folder beside those that would take their places.
+-- The files of a folder beside those that would take their names.
 use Rattle.std.specs.Prelude.{◌≡◌, ◌⊎◌, List, Contains}
 use Rattle.av_types.specs.declared.fault.Fault.{Fault}
 use Rattle.av_types.specs.declared.fault.Fault.TheVariants.{OutOfMemory}
-use Rattle.av_types.specs.declared.place.RegionPos.{RegionPos}
+use Rattle.av_types.specs.declared.position.RegionPos.{RegionPos}
 use Rattle.av_sink.specs.Account.{IsDevice}
 use Rattle.av_region_files.specs.Names.{region_name_of}
 use Rattle.av_region_files.specs.declared.files.RegionFile.{RegionFile}
@@ -11,7 +11,7 @@ use Rattle.av_region_files.specs.declared.files.RegionFile.{RegionFile}
 abbrev pub IsUnreadOld : RegionPos → Fault → Type 0
 IsUnreadOld region e = (e ≡ OutOfMemory) ⊎ IsDevice (region_name_of region) e
 
--- why those in the places of files were not read: one of them wasn't
+-- why those of the same names were not read: one of them wasn't
 pub data AreUnreadOlds (files : List RegionFile) (e : Fault) : Type 0 where
   memory : e ≡ OutOfMemory → AreUnreadOlds files e
   unread : (file : RegionFile) → Contains files file → IsUnreadOld file.pos e → AreUnreadOlds files e

@@ -3,7 +3,7 @@ use Rattle.std.specs.Prelude.{◌≡◌, ◌<◌, ℕ, List, ◌++◌, ◌∷◌
 use Rattle.std.specs.Borrow.{Bor}
 use Rattle.std.specs.List.{list_any}
 use Rattle.std.specs.Str.{bytes_eq}
-use Rattle.av_types.specs.declared.place.RegionPos.{RegionPos}
+use Rattle.av_types.specs.declared.position.RegionPos.{RegionPos}
 use Rattle.av_region_files.specs.Names.{region_name_of}
 use Rattle.av_reports.specs.Names.{FitsRegion}
 use Rattle.av_region_files.specs.declared.files.RegionFile.{RegionFile}

@@ -1,4 +1,4 @@
-//! The files of a folder beside those that would take their places.
+//! The files of a folder beside those that would take their names.
 ghost use Rattle.std.specs.Prelude.{IfErr, IfOk, List, Option, ℕ};
 ghost use Rattle.av_changes.specs.Changes.{AreChangesOf};
 ghost use Rattle.av_folders.specs.Folders.{IsFolderFault};

@@ -1,7 +1,7 @@
 -- What was read of each chunk, while the table of states grows.
 use Rattle.std.proofs.Common.{◌≡◌, ◌++◌, ◌∷◌, ◌+◌, [], List, ℕ, sym, subst, ap, ◌∙◌}
 use Rattle.std.proofs.lemmas.List.{length_push}
-use Rattle.av_types.specs.declared.place.Height.{Height}
+use Rattle.av_types.specs.declared.position.Height.{Height}
 use Rattle.av_state.specs.BlockState.{BlockState}
 use Rattle.av_section.specs.Reading.{OnlyGrows}
 use Rattle.av_section.proofs.Numbers.{OnlyGrows-trans}

@@ -1,9 +1,9 @@
 -- A chunk that was read, and written again with no tick run.
 use Rattle.std.proofs.Common.{◌≡◌, ◌++◌, ◌∷◌, ◌∙◌, [], List, Option, Some, None, ℕ, zero, suc, ℤ, pos, ◌-ℤ◌, true, map, refl, sym, subst, ap, ap₂, arith, IsSome, slice_get}
 use Rattle.std.proofs.lemmas.Int.{ints}
-use Rattle.av_types.specs.declared.place.Pos.{Pos}
-use Rattle.av_types.specs.declared.place.ChunkPos.{ChunkPos}
-use Rattle.av_types.specs.declared.place.Height.{Height}
+use Rattle.av_types.specs.declared.position.Pos.{Pos}
+use Rattle.av_types.specs.declared.position.ChunkPos.{ChunkPos}
+use Rattle.av_types.specs.declared.position.Height.{Height}
 use Rattle.av_types.specs.declared.tick.Entry.{Entry}
 use Rattle.av_tags.specs.Nbt.{Document}
 use Rattle.av_types.specs.Options.{◌>>=◌}
@@ -20,7 +20,7 @@ use Rattle.av_chunk.specs.Reading.{IsLoaded}
 use Rattle.av_chunk.specs.declared.chunk.Chunk.{Chunk}
 use Rattle.av_chunk.specs.declared.rest.ChunkRest.{ChunkRest}
 use Rattle.av_rewrite.specs.Regions.{IsMadeOf}
-use Rattle.av_rewrite.specs.Rewriting.{IsReadAt, IsRewritten, loaded, place_at}
+use Rattle.av_rewrite.specs.Rewriting.{IsReadAt, IsRewritten, loaded, at_index}
 
 -- entries that are sooner by no tick
 
@@ -49,11 +49,11 @@ cells_same c h old more chunk numbered p inside = ap (or_else air) (found_same (
 -- what is written denotes the cells of the table that the chunk was read with
 same_chunk : (c : ChunkPos) (h : Height) (d written : Document) (old new table : List BlockState) (chunk : Chunk) (rest : ChunkRest)
     → IsLoaded c h d old new chunk rest → (more : List BlockState) → table ≡ new ++ more
-    → DenotesChunk rest.place rest.height written (cells_of table rest.height chunk) (map (sooner 0) (entries chunk.ticks)) (rest_of rest)
+    → DenotesChunk rest.pos rest.height written (cells_of table rest.height chunk) (map (sooner 0) (entries chunk.ticks)) (rest_of rest)
     → DenotesChunk c h written (cells_of new h chunk) (entries chunk.ticks) (rest_of rest)
 same_chunk c h d written old new table chunk rest l more grown x =
-    let at_place = subst (λ (k : ChunkPos). DenotesChunk k rest.height written (cells_of table rest.height chunk) (map (sooner 0) (entries chunk.ticks)) (rest_of rest)) l.place_is x in
-    let of_height = subst (λ (k : Height). DenotesChunk c k written (cells_of table k chunk) (map (sooner 0) (entries chunk.ticks)) (rest_of rest)) l.height_is at_place in
+    let at_own = subst (λ (k : ChunkPos). DenotesChunk k rest.height written (cells_of table rest.height chunk) (map (sooner 0) (entries chunk.ticks)) (rest_of rest)) l.pos_is x in
+    let of_height = subst (λ (k : Height). DenotesChunk c k written (cells_of table k chunk) (map (sooner 0) (entries chunk.ticks)) (rest_of rest)) l.height_is at_own in
     let of_table = subst (λ (t : List BlockState). DenotesChunk c h written (cells_of t h chunk) (map (sooner 0) (entries chunk.ticks)) (rest_of rest)) grown of_height in
     let of_entries = subst (λ (es : List Entry). DenotesChunk c h written (cells_of (new ++ more) h chunk) es (rest_of rest)) (sooner_none (entries chunk.ticks)) of_table in
     record {
@@ -70,21 +70,21 @@ same_chunk c h d written old new table chunk rest l more grown x =
 
 pub rewritten : (h : Height) (region : List ℕ) (table : List BlockState) (index : ℕ) (chunk : Chunk) (rest : ChunkRest) (written : Document) (bytes : List ℕ)
     → IsReadAt h region table index chunk rest → IsWellFormed written
-    → DenotesChunk rest.place rest.height written (cells_of table rest.height chunk) (map (sooner 0) (entries chunk.ticks)) (rest_of rest)
+    → DenotesChunk rest.pos rest.height written (cells_of table rest.height chunk) (map (sooner 0) (entries chunk.ticks)) (rest_of rest)
     → bytes ≡ written_document written → IsMadeOf (IsRewritten h) region index (Some bytes)
 rewritten h region table index chunk rest written bytes s good denotes is =
-    let before : SpellsChunk (place_at index) h s.payload (cells_of s.new h chunk) (entries chunk.ticks) (rest_of rest) = record {
+    let before : SpellsChunk (at_index index) h s.payload (cells_of s.new h chunk) (entries chunk.ticks) (rest_of rest) = record {
       read = s.document;
       spelled = s.spelled;
       denotes = s.loaded.denotes;
     } in
-    let after : SpellsChunk (place_at index) h (written_document written) (cells_of s.new h chunk) (entries chunk.ticks) (rest_of rest) = record {
+    let after : SpellsChunk (at_index index) h (written_document written) (cells_of s.new h chunk) (entries chunk.ticks) (rest_of rest) = record {
       read = written;
       spelled = written_document_spells written good;
-      denotes = same_chunk (place_at index) h s.document written s.old s.new table chunk rest s.loaded s.grown.more s.grown.grown denotes;
+      denotes = same_chunk (at_index index) h s.document written s.old s.new table chunk rest s.loaded s.grown.more s.grown.grown denotes;
     } in (
       s.payload,
       s.held,
       loaded (cells_of s.new h chunk) (entries chunk.ticks) (rest_of rest) before
-          (subst (λ (b : List ℕ). SpellsChunk (place_at index) h b (cells_of s.new h chunk) (entries chunk.ticks) (rest_of rest)) (sym is) after),
+          (subst (λ (b : List ℕ). SpellsChunk (at_index index) h b (cells_of s.new h chunk) (entries chunk.ticks) (rest_of rest)) (sym is) after),
     )

@@ -2,7 +2,7 @@
 use Rattle.std.proofs.Common.{◌≡◌, ◌++◌, ◌∷◌, ◌+◌, ◌∙◌, [], List, Option, Some, ℕ, arith, length, map, refl, sym, subst, ap}
 use Rattle.std.specs.List.{slice_get}
 use Rattle.std.proofs.lemmas.List.{length-append}
-use Rattle.av_types.specs.declared.place.Height.{Height}
+use Rattle.av_types.specs.declared.position.Height.{Height}
 use Rattle.av_state.specs.BlockState.{BlockState}
 use Rattle.av_rewrite.specs.declared.rewriting.Slot.{Slot}
 use Rattle.av_rewrite.specs.Regions.{AreMadeOf, IsMadeOf}

@@ -1,10 +1,10 @@
 -- A region whose chunks were read and written again.
 use Rattle.std.specs.Prelude.{◌≡◌, ℕ, pos, List, Some, false, length}
 use Rattle.std.specs.List.{slice_get}
-use Rattle.av_types.specs.Places.{chunk_at}
-use Rattle.av_types.specs.declared.place.Pos.{Pos}
-use Rattle.av_types.specs.declared.place.ChunkPos.{ChunkPos}
-use Rattle.av_types.specs.declared.place.Height.{Height}
+use Rattle.av_types.specs.Positions.{chunk_at}
+use Rattle.av_types.specs.declared.position.Pos.{Pos}
+use Rattle.av_types.specs.declared.position.ChunkPos.{ChunkPos}
+use Rattle.av_types.specs.declared.position.Height.{Height}
 use Rattle.av_types.specs.declared.tick.Entry.{Entry}
 use Rattle.av_tags.specs.Nbt.{Document}
 use Rattle.av_nbt.specs.Spelling.{SpellsDocument}
@@ -20,13 +20,13 @@ use Rattle.av_rewrite.specs.declared.rewriting.Slot.{Slot}
 use Rattle.av_rewrite.specs.declared.rewriting.Slot.TheVariants.{Absent, Kept, Full}
 
 -- the chunk at an index of the region at 0, 0
-abbrev pub place_at : ℕ → ChunkPos
-place_at index = chunk_at (record { x = pos 0; z = pos 0 }) index
+abbrev pub at_index : ℕ → ChunkPos
+at_index index = chunk_at (record { x = pos 0; z = pos 0 }) index
 
 -- bytes for a chunk: of one that is not full the payload itself, and of a loaded one bytes that spell the same blocks, water entries and rest
 pub data IsRewritten (h : Height) (index : ℕ) (payload bytes : List ℕ) : Type 0 where
   kept : (d : Document) → SpellsDocument d payload → is_full (root_tags d) ≡ false → bytes ≡ payload → IsRewritten h index payload bytes
-  loaded : (cells : Pos → BlockState) (water : List Entry) (rest : RestOfChunk) → SpellsChunk (place_at index) h payload cells water rest → SpellsChunk (place_at index) h bytes cells water rest → IsRewritten h index payload bytes
+  loaded : (cells : Pos → BlockState) (water : List Entry) (rest : RestOfChunk) → SpellsChunk (at_index index) h payload cells water rest → SpellsChunk (at_index index) h bytes cells water rest → IsRewritten h index payload bytes
 
 -- Working definitions from here on.
 
@@ -45,7 +45,7 @@ pub record IsReadAt (h : Height) (region : List ℕ) (table : List BlockState) (
   pub spelled : SpellsDocument document payload
   pub old : List BlockState
   pub new : List BlockState
-  pub loaded : IsLoaded (place_at index) h document old new chunk rest
+  pub loaded : IsLoaded (at_index index) h document old new chunk rest
   pub grown : OnlyGrows new table
 
 -- what was read at an index

@@ -1,6 +1,6 @@
 //! Reading every chunk of a region, and writing a region of what was read.
 ghost use Rattle.std.specs.Prelude.{◌≤◌, IfOk, List, length, map, option_map, ℕ};
-ghost use Rattle.av_types.specs.declared.place.Height.{Height};
+ghost use Rattle.av_types.specs.declared.position.Height.{Height};
 ghost use Rattle.av_state.specs.Table.{states};
 ghost use Rattle.av_section.specs.Reading.{OnlyGrows};
 ghost use Rattle.av_region.specs.Region.{Holds};

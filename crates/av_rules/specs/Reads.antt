@@ -3,7 +3,7 @@
 use Rattle.std.specs.Prelude.{◌≡◌, ◌≢◌, Option, Some, None, Result, MatchResult}
 use Rattle.av_types.specs.declared.fault.Fault.{Fault}
 use Rattle.av_types.specs.declared.fault.Fault.TheVariants.{OutOfMemory, BadTable}
-use Rattle.av_types.specs.declared.place.Height.{Height}
+use Rattle.av_types.specs.declared.position.Height.{Height}
 use Rattle.av_rules.specs.Document.{Span}
 
 -- a refusal: the part is ill-formed, or memory ran out

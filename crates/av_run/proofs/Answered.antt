@@ -1,6 +1,6 @@
 -- What a run answers, from what its steps answer.
 use Rattle.std.proofs.Common.{◌≡◌, ◌≢◌, ◌∙◌, ◌⊎◌, inl, inr, Result, Ok, Err, IfOk, IfErr, ℕ, List, length, map, false, refl, ap, sym, subst}
-use Rattle.av_types.specs.declared.place.Height.{Height}
+use Rattle.av_types.specs.declared.position.Height.{Height}
 use Rattle.av_types.specs.declared.fault.Fault.{Fault}
 use Rattle.av_types.specs.declared.fault.Fault.TheVariants.{OutOfMemory}
 use Rattle.av_state.specs.Table.{states}
@@ -18,7 +18,7 @@ use Rattle.av_world.specs.Lands.{land_of}
 use Rattle.av_world.specs.Views.{height_of, positions_of, is_broken}
 use Rattle.av_world.specs.declared.worlds.World.{World}
 use Rattle.av_world.proofs.Whole.{height_of as same_height}
-use Rattle.av_serial.specs.Ready.{IsSamePlace}
+use Rattle.av_serial.specs.Ready.{HasSameChunks}
 use Rattle.av_files.specs.Files.{File}
 use Rattle.av_files.specs.FirstFault.{AreCountsGood}
 use Rattle.av_files.specs.Headline.{Headline, IsRunRefused, output}
@@ -42,13 +42,13 @@ pub good_after : (n : ℕ) (i : Input) → CanRun n i → Good (kind_count i.kin
 good_after n i can =
     run_keeps (kinds_of i.kinds) (kind_count i.kinds) (number_sets i.edits.items) n (land_of i.world) (are_kinds i.kinds).at_least_ten can.few_ticks can.ints can.edits can.good
 
-pub same_positions : (old new : World) → IsSamePlace old new → positions_of new ≡ positions_of old
+pub same_positions : (old new : World) → HasSameChunks old new → positions_of new ≡ positions_of old
 same_positions old new s = ap (λ (x : Site). x.chunks) s.site_is
 
-pub sound_after : (old new : World) → IsSamePlace old new → is_broken old ≡ false → is_broken new ≡ false
+pub sound_after : (old new : World) → HasSameChunks old new → is_broken old ≡ false → is_broken new ≡ false
 sound_after old new s sound = ap (λ (x : Site). x.broken) s.site_is ∙ sound
 
-pub rest_after : (old new : World) (r : Rest) → IsSamePlace old new → IsRestOf (height_of old) (positions_of old) r → IsRestOf (height_of new) (positions_of new) r
+pub rest_after : (old new : World) (r : Rest) → HasSameChunks old new → IsRestOf (height_of old) (positions_of old) r → IsRestOf (height_of new) (positions_of new) r
 rest_after old new r s own = subst (λ (h : Height). IsRestOf h (positions_of new) r) (sym (same_height old new s.site_is)) (subst (λ cs. IsRestOf (height_of old) cs r) (sym (same_positions old new s)) own)
 
 -- ---- the answer

@@ -1,9 +1,9 @@
 -- `BadCount` is answered for counts alone.
 use Rattle.std.proofs.Common.{◌≡◌, ◌≢◌, ℕ, suc, List, [], ◌∷◌, length, Bool, true, false, ◌&&◌, nat_le, nat_lt, if◌then◌else◌, Option, Some, None, Result, Ok, Err, IfOk, IfErr, inl, inr, refl, subst, arith}
-use Rattle.av_types.specs.Places.{chunk_at}
-use Rattle.av_types.specs.declared.place.Height.{Height}
-use Rattle.av_types.specs.declared.place.ChunkPos.{ChunkPos}
-use Rattle.av_types.specs.declared.place.Pos.{Pos}
+use Rattle.av_types.specs.Positions.{chunk_at}
+use Rattle.av_types.specs.declared.position.Height.{Height}
+use Rattle.av_types.specs.declared.position.ChunkPos.{ChunkPos}
+use Rattle.av_types.specs.declared.position.Pos.{Pos}
 use Rattle.av_types.specs.declared.fault.Fault.{Fault}
 use Rattle.av_types.specs.declared.fault.Fault.TheVariants.{OutOfMemory, BadCount, EditTick, EditOutside, TooManyStates}
 use Rattle.av_state.specs.BlockState.{BlockState}
@@ -15,26 +15,26 @@ use Rattle.av_edits.specs.Lines.{line_edit}
 use Rattle.av_edits.specs.Edits.{line_fault, or_later, fault_of, is_skipped, table_of, first_in_lines, lines_of}
 use Rattle.av_files.specs.Files.{File, in_order}
 use Rattle.av_files.specs.Layout.{indices}
-use Rattle.av_files.specs.FirstFault.{AreCountsGood, IsPlaceFault, sectors, spelling, document, IsFirstOfPlaces, IsFirstOfFile, header, place, IsFirstOfFiles, IsFilesFaultAfter, range, repeated, region, IsFirstFault, counts, rules, file, edit}
+use Rattle.av_files.specs.FirstFault.{AreCountsGood, IsFaultAt, sectors, spelling, document, IsFirstOfIndices, IsFirstOfFile, header, at_index, IsFirstOfFiles, IsFilesFaultAfter, range, repeated, region, IsFirstFault, counts, rules, file, edit}
 use Rattle.av_files.proofs.OneFault.{first_between}
 use Rattle.av_run.specs.Input.{IsInput, IsInputFault, AreFew, IsInputAnswer}
 use Rattle.av_run.specs.declared.input.Input.{Input}
 
 -- ---- files
 
-no_place : (h : Height) (t : List BlockState) (f : List ℕ) (c : ChunkPos) (i : ℕ) → ¬ IsPlaceFault h t f c i BadCount
-no_place h t f c i (sectors a) = a
-no_place h t f c i (spelling p held none is) = cc
-no_place h t f c i (document p d held spelled is) = let most = (first_between h c t (root_tags d) 23 is).to in omega arith
+no_index : (h : Height) (t : List BlockState) (f : List ℕ) (c : ChunkPos) (i : ℕ) → ¬ IsFaultAt h t f c i BadCount
+no_index h t f c i (sectors a) = a
+no_index h t f c i (spelling p held none is) = cc
+no_index h t f c i (document p d held spelled is) = let most = (first_between h c t (root_tags d) 23 is).to in omega arith
 
-no_places : (h : Height) (t : List BlockState) (f : File) (is : List ℕ) → ¬ IsFirstOfPlaces h t f is BadCount
-no_places h t f [] a = a
-no_places h t f (i ∷ is) (inl a) = no_place h t f.bytes (chunk_at f.pos i) i a
-no_places h t f (i ∷ is) (inr a) = no_places h a.0 f is a.2
+no_indices : (h : Height) (t : List BlockState) (f : File) (is : List ℕ) → ¬ IsFirstOfIndices h t f is BadCount
+no_indices h t f [] a = a
+no_indices h t f (i ∷ is) (inl a) = no_index h t f.bytes (chunk_at f.pos i) i a
+no_indices h t f (i ∷ is) (inr a) = no_indices h a.0 f is a.2
 
 no_file : (h : Height) (t : List BlockState) (f : File) → ¬ IsFirstOfFile h t f BadCount
 no_file h t f (header short is) = cc
-no_file h t f (place whole a) = no_places h t f indices a
+no_file h t f (at_index whole a) = no_indices h t f indices a
 
 no_files : (h : Height) (t : List BlockState) (fs : List File) → ¬ IsFirstOfFiles h t fs BadCount
 no_files h t [] a = a

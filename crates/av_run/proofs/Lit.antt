@@ -7,12 +7,12 @@ use Rattle.std.proofs.lemmas.List.{get_or-map, length-replicate, length-take-le}
 use Rattle.std.proofs.lemmas.List.Elements.{All-from_recursion}
 use Rattle.std.proofs.lemmas.Slice.Zip.{AllZip-long}
 use Rattle.av_types.specs.Division.{divided}
-use Rattle.av_types.specs.Places.{chunk_of, place_of, is_block_of, is_section_of, section_index}
-use Rattle.av_types.specs.declared.place.Pos.{Pos}
-use Rattle.av_types.specs.declared.place.ChunkPos.{ChunkPos}
-use Rattle.av_types.specs.declared.place.Height.{Height}
+use Rattle.av_types.specs.Positions.{chunk_of, place_of, is_block_of, is_section_of, section_index}
+use Rattle.av_types.specs.declared.position.Pos.{Pos}
+use Rattle.av_types.specs.declared.position.ChunkPos.{ChunkPos}
+use Rattle.av_types.specs.declared.position.Height.{Height}
 use Rattle.av_types.specs.declared.fault.Fault.{Fault}
-use Rattle.av_types.proofs.SamePlaces.{same_chunk_is}
+use Rattle.av_types.proofs.SamePositions.{same_chunk_is}
 use Rattle.av_pack.specs.Nibbles.{nibble_at}
 use Rattle.av_state.specs.BlockState.{air}
 use Rattle.av_state.specs.Table.{states}
@@ -66,7 +66,7 @@ counted h [] i y all inside = dark_length
 counted h (l ∷ ls) zero y all inside = light_length l h y all.0 inside
 counted h (l ∷ ls) (suc i) y all inside = counted h ls i y all.1 inside
 
--- ---- the light at a chunk's place
+-- ---- the light at a chunk's position
 
 record IsAt (R : ChunkPos → ChunkLight → Type 0) (ls : List ChunkLight) (i : ℕ) (c : ChunkPos) : Type 0 where
   light : ChunkLight

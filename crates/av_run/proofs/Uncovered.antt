@@ -14,7 +14,7 @@ use Rattle.av_answers.specs.Checked.{IsUncovered}
 use Rattle.av_run.specs.Counted.{IsCountedInput}
 use Rattle.av_run.specs.declared.checked.CountedInput.{CountedInput}
 
--- what a list has at a place
+-- what a list has at an index
 got : (xs : List BlockState) (n : ℕ) (s : BlockState) → slice_get xs n ≡ Some s → (n < length xs) × (get_or xs n s ≡ s)
 got [] n s h = absurd (no_state n s h)
   where

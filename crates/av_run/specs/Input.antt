@@ -1,7 +1,7 @@
 -- What a run begins with: its world, the rest, the kinds of states, and its edits.
 use Rattle.std.specs.Prelude.{◌≡◌, ◌≢◌, ◌↔◌, ℕ, ◌≤◌, List, map, false, Result, Err, IfOk, IfErr, OnOk}
 use Rattle.std.specs.List.{AllByRecursion}
-use Rattle.av_types.specs.declared.place.Height.{Height}
+use Rattle.av_types.specs.declared.position.Height.{Height}
 use Rattle.av_types.specs.declared.fault.Fault.{Fault}
 use Rattle.av_types.specs.declared.fault.Fault.TheVariants.{OutOfMemory, BadCount}
 use Rattle.av_state.specs.BlockState.{BlockState}

@@ -1,6 +1,6 @@
 -- Files that a world is written as, with its light. Working definitions: no public clause cites them.
 use Rattle.std.specs.Prelude.{◌≡◌, ℕ, List, Some, None}
-use Rattle.av_types.specs.declared.place.ChunkPos.{ChunkPos}
+use Rattle.av_types.specs.declared.position.ChunkPos.{ChunkPos}
 use Rattle.av_types.specs.declared.fault.Fault.{Fault}
 use Rattle.av_types.specs.declared.fault.Fault.TheVariants.{ChunkTooLarge}
 use Rattle.av_state.specs.BlockState.{BlockState}

@@ -6,7 +6,7 @@ use Rattle.av_pack.specs.Packing.{bits_for, longs_for, packed_at, unpacked}
 use Rattle.av_pack.specs.Packing as pack
 use Rattle.av_pack.proofs.Laws.{bits_for-low, bits_for-high, bits_for-enough, length-unpacked, get_or-unpacked}
 use Rattle.av_section.specs.BlockStates.{packed_indices, indices_if, are_below}
-use Rattle.av_section.specs.Distinct.{AreEachOnce, ArePlaces}
+use Rattle.av_section.specs.Distinct.{AreEachOnce, AreRanks}
 use Rattle.av_section.specs.Packed.{IsPackedSection}
 use Rattle.av_section.proofs.PackedLemmas.{none_is_not_many}
 
@@ -62,18 +62,18 @@ packed_as_is numbers palette indices longs bits a same few needed f =
           omega (arith, at, index, same));
     }
 
--- the place of each index is one of the palette
-pub placed_below : (palette numbers places indices : List ℕ) → ArePlaces palette numbers places → All (λ i. i < length numbers) indices → All (λ v. v < length palette) (map (λ i. get_or places i 0) indices)
-placed_below palette numbers places indices p below k d low =
-    let within : k < length indices = omega (arith, length-map indices (λ i. get_or places i 0)) in
+-- the rank of each index is one of the palette
+pub ranked_below : (palette numbers ranks indices : List ℕ) → AreRanks palette numbers ranks → All (λ i. i < length numbers) indices → All (λ v. v < length palette) (map (λ i. get_or ranks i 0) indices)
+ranked_below palette numbers ranks indices p below k d low =
+    let within : k < length indices = omega (arith, length-map indices (λ i. get_or ranks i 0)) in
     let index = below k 0 within in
-    let there : get_or indices k 0 < length places = omega (arith, p.count, index) in
-    subst (λ v. v < length palette) (sym (get_or-map (λ i. get_or places i 0) indices k 0 d within)) (p.below (get_or indices k 0) 0 there)
+    let there : get_or indices k 0 < length ranks = omega (arith, p.count, index) in
+    subst (λ v. v < length palette) (sym (get_or-map (λ i. get_or ranks i 0) indices k 0 d within)) (p.below (get_or indices k 0) 0 there)
 
--- the places packed, of a palette that has each number
-pub packed_places : (numbers palette places indices : List ℕ) (longs : List ℤ) (bits : ℕ) → AreEachOnce numbers palette → length numbers ≤ 4096 → bits ≡ bits_for (length palette)
-    → ArePlaces palette numbers places → length indices ≡ 4096 → All (λ i. i < length numbers) indices → pack.IsPacked bits (map (λ i. get_or places i 0) indices) longs → IsPackedSection palette longs bits
-packed_places numbers palette places indices longs bits a few needed p long below q =
+-- the ranks packed, of a palette that has each number
+pub packed_ranks : (numbers palette ranks indices : List ℕ) (longs : List ℤ) (bits : ℕ) → AreEachOnce numbers palette → length numbers ≤ 4096 → bits ≡ bits_for (length palette)
+    → AreRanks palette numbers ranks → length indices ≡ 4096 → All (λ i. i < length numbers) indices → pack.IsPacked bits (map (λ i. get_or ranks i 0) indices) longs → IsPackedSection palette longs bits
+packed_ranks numbers palette ranks indices longs bits a few needed p long below q =
     let short : length palette ≤ 65536 = omega (arith, a.short) in
     record {
       distinct = a.distinct;
@@ -86,13 +86,13 @@ packed_places numbers palette places indices longs bits a few needed p long belo
       count = λ some. q.count;
       one = λ none. absurd (none_is_not_many longs bits (subst (λ w. 4 ≤ w) (sym needed) (bits_for-low (length palette))) (subst (λ w. w ≤ 16) (sym needed) (bits_for-high (length palette))) q.count none);
       below = λ i low. (
-          let within : i < length (map (λ i. get_or places i 0) indices) = omega (arith, length-map indices (λ i. get_or places i 0), long) in
-          subst (λ v. v < length palette) (sym (q.entries i low)) (placed_below palette numbers places indices p below i 0 within));
+          let within : i < length (map (λ i. get_or ranks i 0) indices) = omega (arith, length-map indices (λ i. get_or ranks i 0), long) in
+          subst (λ v. v < length palette) (sym (q.entries i low)) (ranked_below palette numbers ranks indices p below i 0 within));
     }
 
 -- the number at a place then
-pub number_placed : (numbers palette places indices : List ℕ) (longs : List ℤ) (bits : ℕ) → ArePlaces palette numbers places → length indices ≡ 4096 → All (λ i. i < length numbers) indices
-    → pack.IsPacked bits (map (λ i. get_or places i 0) indices) longs → (i : ℕ) → i < 4096 → get_or palette (packed_at bits longs i) 0 ≡ get_or numbers (get_or indices i 0) 0
-number_placed numbers palette places indices longs bits p long below q i low =
+pub number_ranked : (numbers palette ranks indices : List ℕ) (longs : List ℤ) (bits : ℕ) → AreRanks palette numbers ranks → length indices ≡ 4096 → All (λ i. i < length numbers) indices
+    → pack.IsPacked bits (map (λ i. get_or ranks i 0) indices) longs → (i : ℕ) → i < 4096 → get_or palette (packed_at bits longs i) 0 ≡ get_or numbers (get_or indices i 0) 0
+number_ranked numbers palette ranks indices longs bits p long below q i low =
     let within : i < length indices = omega (arith, long) in
-    ap (λ v. get_or palette v 0) (q.entries i low ∙ get_or-map (λ i. get_or places i 0) indices i 0 0 within) ∙ p.numbers_are (get_or indices i 0) (below i 0 within)
+    ap (λ v. get_or palette v 0) (q.entries i low ∙ get_or-map (λ i. get_or ranks i 0) indices i 0 0 within) ∙ p.numbers_are (get_or indices i 0) (below i 0 within)

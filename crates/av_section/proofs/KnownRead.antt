@@ -38,13 +38,13 @@ packed_there count ls some h =
 pub indices_there : (count : ℕ) (ls : List ℤ) → (length ls == 0) ≡ false → is_some (indices_in count ls) ≡ true → indices_in count ls ≡ Some (unpacked (bits_for count) ls)
 indices_there count ls some h = rw some (packed_there count ls some h)
 
-pub record HasPlaces (o : Option (List ℕ)) : Type 0 where
-  pub places : List ℕ
-  pub are : o ≡ Some places
+pub record HasIndices (o : Option (List ℕ)) : Type 0 where
+  pub found : List ℕ
+  pub are : o ≡ Some found
 
-has_places : (o : Option (List ℕ)) → is_some o ≡ true → HasPlaces o
-has_places None h = absurd (true≢false (sym h))
-has_places (Some places) h = record { places = places; are = refl }
+has_indices : (o : Option (List ℕ)) → is_some o ≡ true → HasIndices o
+has_indices None h = absurd (true≢false (sym h))
+has_indices (Some found) h = record { found = found; are = refl }
 
 -- ---- the whole
 
@@ -57,10 +57,10 @@ module _ (palette longs : Option Nbt) (old : List BlockState) where
   palette_read new ls numbers s a d p few =
       let same = as_many old new (palette_of palette) numbers a in
       record {
-        no_fault = rw (a.told_are, d, same, p.places_are, a.numbered.forms_are) refl;
+        no_fault = rw (a.told_are, d, same, p.found_are, a.numbered.forms_are) refl;
         states = rw (a.told_are, a.numbered.forms_are) a.numbered.states;
         few = few;
-        numbers = λ i low. rw (p.numbers_are i low, a.told_are, a.numbered.forms_are, d, same, p.places_are) (a.numbered.each_is (get_or p.places i 0) (p.within i low));
+        numbers = λ i low. rw (p.numbers_are i low, a.told_are, a.numbered.forms_are, d, same, p.found_are) (a.numbered.each_is (get_or p.found i 0) (p.within i low));
         pending = p.pending;
       }
 
@@ -87,10 +87,10 @@ module _ (palette longs : Option Nbt) (old : List BlockState) where
   unnumbered_refused ls count OutOfMemory many p h = tt
   unnumbered_refused ls count BadPalette many p h = bad_palette h
   unnumbered_refused ls count BadWaterLevel many p h =
-      let fit = has_places (indices_in count ls) p.fit in
+      let fit = has_indices (indices_in count ls) p.fit in
       rw (h.told_are, p.longs_are, many h.told h.told_are, fit.are, h.because) refl
   unnumbered_refused ls count TooManyStates many p h =
-      let fit = has_places (indices_in count ls) p.fit in
+      let fit = has_indices (indices_in count ls) p.fit in
       let w = h.because in
       rw (h.told_are, p.longs_are, many h.told h.told_are, fit.are, w.forms_are) (refl, w.too_many)
   unnumbered_refused ls count _ many p h = absurd h

@@ -12,6 +12,6 @@ pub mod WrittenStates
 pub mod WrittenOne
 pub mod FirstUse
 pub mod Rising
-pub mod Placing
+pub mod Ranking
 pub mod KnownEntries
 pub mod KnownRead

@@ -13,7 +13,7 @@ use Rattle.std.proofs.lemmas.List.Sorted.{Contains-permutation, IsPermutation-sy
 use Rattle.std.proofs.lemmas.Map.Keys.{IsDistinct-IsPermutation, IsDistinct-from_apart, IsStrictlyIncreasing-dedup}
 use Rattle.std.proofs.lemmas.Map.Made.{AllPairs-from_IsDistinct}
 use Rattle.std.proofs.lemmas.Bool.Decides.{Decides-eqb}
-use Rattle.av_section.specs.Distinct.{AreEachOnce, AreOwnPlaces, ArePlaces, IsRisingOf}
+use Rattle.av_section.specs.Distinct.{AreEachOnce, AreOwnRanks, AreRanks, IsRisingOf}
 
 -- ---- what is left of a list where numbers beside each other are taken once
 
@@ -66,10 +66,10 @@ rising_of numbers sorted rising moved order is =
 pub once_itself : (numbers rising : List ℕ) → IsRisingOf numbers rising → All (λ x. x < 65536) numbers → length rising ≡ length numbers → AreEachOnce numbers numbers
 once_itself numbers rising r small e = record { distinct = r.apart e; small = small; there = Contains-get_or numbers; short = omega arith; same = λ q. refl }
 
-pub own_are_places : (numbers places : List ℕ) → AreOwnPlaces (length numbers) places → ArePlaces numbers numbers places
-own_are_places numbers places o = record {
+pub own_are_ranks : (numbers ranks : List ℕ) → AreOwnRanks (length numbers) ranks → AreRanks numbers numbers ranks
+own_are_ranks numbers ranks o = record {
   count = o.many;
-  below = λ k d low. (let within : k < length numbers = omega (arith, low, o.many) in omega (arith, within, get_or_default places k d 0 low, o.own k within));
+  below = λ k d low. (let within : k < length numbers = omega (arith, low, o.many) in omega (arith, within, get_or_default ranks k d 0 low, o.own k within));
   numbers_are = λ j low. ap (λ i. get_or numbers i 0) (o.own j low);
 }
 

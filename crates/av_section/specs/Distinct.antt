@@ -20,16 +20,16 @@ pub record AreEachOnce (numbers once : List ℕ) : Type 0 where
   pub short : length once ≤ length numbers
   pub same : length once ≡ length numbers → once ≡ numbers
 
--- the palette has each of the numbers at its place
-pub record ArePlaces (palette numbers places : List ℕ) : Type 0 where
-  pub count : length places ≡ length numbers
-  pub below : All (λ place. place < length palette) places
-  pub numbers_are : (j : ℕ) → j < length numbers → slice_index palette (slice_index places j) ≡ slice_index numbers j
+-- the rank of each of the numbers in the palette: how many stand before it there
+pub record AreRanks (palette numbers ranks : List ℕ) : Type 0 where
+  pub count : length ranks ≡ length numbers
+  pub below : All (λ rank. rank < length palette) ranks
+  pub numbers_are : (j : ℕ) → j < length numbers → slice_index palette (slice_index ranks j) ≡ slice_index numbers j
 
--- so many places, each its own
-pub record AreOwnPlaces (count : ℕ) (places : List ℕ) : Type 0 where
-  pub many : length places ≡ count
-  pub own : (j : ℕ) → j < count → slice_index places j ≡ j
+-- so many ranks, each its own index
+pub record AreOwnRanks (count : ℕ) (ranks : List ℕ) : Type 0 where
+  pub many : length ranks ≡ count
+  pub own : (j : ℕ) → j < count → slice_index ranks j ≡ j
 
 -- they rise, they are those of the list, and where they are as many none of it is there twice
 pub record IsRisingOf (numbers rising : List ℕ) : Type 0 where

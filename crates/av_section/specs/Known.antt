@@ -38,10 +38,10 @@ AreUnfit entries tag _ = ⊥
 
 -- there are indices, each place has the number of its index, and none is pending
 pub record IsPlaced (numbers : List ℕ) (indices : Option (List ℕ)) (s : Section) : Type 0 where
-  pub places : List ℕ
-  pub places_are : indices ≡ Some places
-  pub within : (i : ℕ) → i < 4096 → slice_index places i < length numbers
-  pub numbers_are : (i : ℕ) → i < 4096 → number_at s i ≡ slice_index numbers (slice_index places i)
+  pub found : List ℕ
+  pub found_are : indices ≡ Some found
+  pub within : (i : ℕ) → i < 4096 → slice_index found i < length numbers
+  pub numbers_are : (i : ℕ) → i < 4096 → number_at s i ≡ slice_index numbers (slice_index found i)
   pub pending : (i : ℕ) → is_pending s i ≡ false
 
 -- why entries were not numbered

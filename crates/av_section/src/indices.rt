@@ -6,7 +6,7 @@ ghost use Rattle.av_tags.specs.Shape.{each};
 ghost use Rattle.av_tags.specs.View.{view, views};
 ghost use Rattle.av_pack.specs.Packing.{bits_for, longs_for, packed_at, unpacked};
 ghost use Rattle.av_section.specs.BlockStates.{data_of, indices_in, indices_of, are_below};
-ghost use Rattle.av_section.specs.Distinct.{AreEachOnce, AreOwnPlaces, ArePlaces, IsRisingOf, with_number};
+ghost use Rattle.av_section.specs.Distinct.{AreEachOnce, AreOwnRanks, AreRanks, IsRisingOf, with_number};
 ghost use Rattle.av_section.specs.Known.{ArePacked, AreUnfit};
 ghost use Rattle.av_section.specs.Palette.{state_in};
 ghost use Rattle.av_section.specs.Packed.{HasAllBelow, IsRepacked};
@@ -128,47 +128,47 @@ pub(crate) fn repacked(
     Ok(longs)
 }
 
-/// The numbers of a list, each once, and where each of the list stands among them. Where none is twice they are the list.
+/// The numbers of a list, each once, and the rank of each of the list among them, which is how many stand before it. Where none is twice they are the list.
 #[derive(Drop)]
 pub(crate) struct Once {
     pub numbers: Vec<u16>,
-    pub places: Vec<u16>,
+    pub ranks: Vec<u16>,
 }
 
-/// The place of a number in a list, at whose end it is put where it is not there yet.
-fn place_in(once: &mut Vec<u16>, number: u16) -> Result<usize, AllocError>
+/// The rank of a number in a list: how many stand before it. Where it is not there yet, it is put at the end.
+fn rank_in(once: &mut Vec<u16>, number: u16) -> Result<usize, AllocError>
     ensures items { OnOk result (once.new.items ≡ with_number once.old.items number) }
-    ensures bound { IfOk result (λ place. place < length once.new.items) }
-    ensures value { IfOk result (λ place. slice_index once.new.items place ≡ number) }
+    ensures bound { IfOk result (λ rank. rank < length once.new.items) }
+    ensures value { IfOk result (λ rank. slice_index once.new.items rank ≡ number) }
 {
     if once.contains(&number) {
         return Ok(index_of(once.as_slice(), number));
     }
-    let place = once.len();
+    let rank = once.len();
     once.push(number)?;
-    Ok(place)
+    Ok(rank)
 }
 
 /// What `distinct` answers, by comparing each number with those before it.
 fn distinct_by_pairs(alloc: Global, numbers: Vec<u16>) -> Result<Once, AllocError>
     requires few { length numbers.items ≤ 65536 }
     ensures numbers { IfOk result (λ once. AreEachOnce numbers.items once.numbers.items) }
-    ensures places { IfOk result (λ once. ArePlaces once.numbers.items numbers.items
-        once.places.items) }
+    ensures ranks { IfOk result (λ once. AreRanks once.numbers.items numbers.items
+        once.ranks.items) }
 {
     let mut once = Vec::with_capacity(alloc, numbers.len())?;
-    let mut places = numbers;
-    for index in 0..places.len() {
-        places[index] = place_in(&mut once, places[index])? as u16;
+    let mut ranks = numbers;
+    for index in 0..ranks.len() {
+        ranks[index] = rank_in(&mut once, ranks[index])? as u16;
     }
     Ok(Once {
         numbers: once,
-        places,
+        ranks,
     })
 }
 
-/// The place of a number in a list that rises.
-fn place_among(rising: &[u16], number: u16) -> u16
+/// The rank of a number in a list that rises.
+fn rank_among(rising: &[u16], number: u16) -> u16
     requires rising { IsStrictlyIncreasing rising.now }
     requires there { Contains rising.now number }
     requires few { length rising.now ≤ 65536 }
@@ -179,29 +179,29 @@ fn place_among(rising: &[u16], number: u16) -> u16
 }
 
 /// Where each of a list stands in one that rises.
-fn places_among(rising: &[u16], numbers: Vec<u16>) -> Vec<u16>
+fn ranks_among(rising: &[u16], numbers: Vec<u16>) -> Vec<u16>
     requires rising { IsStrictlyIncreasing rising.now }
     requires there { All (Contains rising.now) numbers.items }
     requires few { length rising.now ≤ 65536 }
-    ensures { ArePlaces rising.now numbers.items result.items }
+    ensures { AreRanks rising.now numbers.items result.items }
 {
-    let mut places = numbers;
-    for index in 0..places.len() {
-        places[index] = place_among(rising, places[index]);
+    let mut ranks = numbers;
+    for index in 0..ranks.len() {
+        ranks[index] = rank_among(rising, ranks[index]);
     }
-    places
+    ranks
 }
 
 /// Where each of a list stands in itself, written over a list as long.
-fn own_places(list: Vec<u16>) -> Vec<u16>
+fn own_ranks(list: Vec<u16>) -> Vec<u16>
     requires few { length list.items ≤ 65536 }
-    ensures { AreOwnPlaces (length list.items) result.items }
+    ensures { AreOwnRanks (length list.items) result.items }
 {
-    let mut places = list;
-    for index in 0..places.len() {
-        places[index] = index as u16;
+    let mut ranks = list;
+    for index in 0..ranks.len() {
+        ranks[index] = index as u16;
     }
-    places
+    ranks
 }
 
 /// The numbers of a list from the least up, each once. A sort costs the same whichever numbers a file has.
@@ -218,20 +218,20 @@ fn in_order(alloc: Global, numbers: &[u16]) -> Result<Vec<u16>, AllocError>
 fn distinct_by_order(alloc: Global, numbers: Vec<u16>) -> Result<Once, AllocError>
     requires few { length numbers.items ≤ 65536 }
     ensures numbers { IfOk result (λ once. AreEachOnce numbers.items once.numbers.items) }
-    ensures places { IfOk result (λ once. ArePlaces once.numbers.items numbers.items
-        once.places.items) }
+    ensures ranks { IfOk result (λ once. AreRanks once.numbers.items numbers.items
+        once.ranks.items) }
 {
     let rising = in_order(alloc, numbers.as_slice())?;
     if rising.len() == numbers.len() {
         return Ok(Once {
             numbers,
-            places: own_places(rising),
+            ranks: own_ranks(rising),
         });
     }
-    let places = places_among(rising.as_slice(), numbers);
+    let ranks = ranks_among(rising.as_slice(), numbers);
     Ok(Once {
         numbers: rising,
-        places,
+        ranks,
     })
 }
 
@@ -240,8 +240,8 @@ fn distinct_by_order(alloc: Global, numbers: Vec<u16>) -> Result<Once, AllocErro
 pub(crate) fn distinct(alloc: Global, numbers: Vec<u16>) -> Result<Once, AllocError>
     requires few { length numbers.items ≤ 65536 }
     ensures numbers { IfOk result (λ once. AreEachOnce numbers.items once.numbers.items) }
-    ensures places { IfOk result (λ once. ArePlaces once.numbers.items numbers.items
-        once.places.items) }
+    ensures ranks { IfOk result (λ once. AreRanks once.numbers.items numbers.items
+        once.ranks.items) }
 {
     if numbers.len() <= FEW {
         return distinct_by_pairs(alloc, numbers);
@@ -306,14 +306,14 @@ pub(crate) fn first_missing(palette: &[u16]) -> u16
     16
 }
 
-/// The place of each index, in the list of the indices.
-pub(crate) fn mapped(indices: Vec<u16>, places: &[u16]) -> Vec<u16>
-    requires { All (λ index. index < length places.now) indices.items }
-    ensures { result.items ≡ map (slice_index places.now) indices.items }
+/// The rank of each index.
+pub(crate) fn mapped(indices: Vec<u16>, ranks: &[u16]) -> Vec<u16>
+    requires { All (λ index. index < length ranks.now) indices.items }
+    ensures { result.items ≡ map (slice_index ranks.now) indices.items }
 {
     let mut found = indices;
     for at in 0..found.len() {
-        found[at] = places[usize::from(found[at])];
+        found[at] = ranks[usize::from(found[at])];
     }
     found
 }

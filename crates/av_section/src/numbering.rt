@@ -1,6 +1,7 @@
 //! The states of a palette, numbered.
-ghost use Rattle.std.specs.Prelude.{◌≡◌, Bool, true, false, map, length, is_some, IfOk, IfErr};
+ghost use Rattle.std.specs.Prelude.{◌≡◌, ◌≢◌, Bool, true, false, map, length, is_some, IfOk, IfErr};
 ghost use Rattle.std.specs.List.{list_all};
+ghost use Rattle.av_types.specs.declared.fault.Fault.TheVariants.{TooManyStates};
 ghost use Rattle.av_state.specs.BlockState.{meant};
 ghost use Rattle.av_state.specs.States.{state_of};
 ghost use Rattle.av_state.specs.Table.{states};
@@ -25,7 +26,8 @@ pub trait Numbering {
     /// The table in which they have them.
     ghost table: { Self → StateTable };
 
-    /// Whether states that are new to the table are added to it. Where they are not, a refusal may mean that there is one.
+    /// Whether states that are new to the table are added to it. Where they are not, `TooManyStates` says only that not all of
+    /// them are known.
     ghost takes: { Bool };
 
     /// The numbers of a palette's entries in the forms that they take.
@@ -36,8 +38,8 @@ pub trait Numbering {
         ensures ok { IfOk result (λ numbers. AreOfPalette (states (table self.old))
             (states (table self.new)) (each state_in (views entries.now)) numbers.items) }
         ensures many { IfOk result (λ numbers. length numbers.items ≡ length entries.now) }
-        ensures err { IfErr result (λ e. takes ≡ true → AreNotOfPalette
-            (each state_in (views entries.now)) (states (table self.old)) e) }
+        ensures err { IfErr result (λ e. (takes ≡ false → e ≢ TooManyStates)
+            → AreNotOfPalette (each state_in (views entries.now)) (states (table self.old)) e) }
         ensures table { OnlyGrows (states (table self.old)) (states (table self.new)) }
         ensures same { takes ≡ false → states (table self.new) ≡ states (table self.old) };
 }

@@ -1,6 +1,6 @@
 //! A section in memory: numbers of block states by place.
 ghost use Rattle.std.specs.Prelude.{◌≡◌, ◌≢◌, ◌<◌, ◌≤◌, ◌↔◌, IsTrue, IfOk, IfErr, length};
-ghost use Rattle.av_types.specs.declared.fault.Fault.TheVariants.{OutOfMemory};
+ghost use Rattle.av_types.specs.declared.fault.Fault.TheVariants.{OutOfMemory, TooManyStates};
 ghost use Rattle.av_pack.specs.Packing.{bits_for, unpacked};
 ghost use Rattle.av_pack.specs.Order.{AreInOrder};
 ghost use Rattle.av_section.specs.Packed.{HasAllBelow, IsPackedSection};
@@ -50,7 +50,7 @@ impl Section {
     /// The section of a palette tag and a data tag. The palette's states have the numbers that are given them.
     ///
     /// Refuses a palette of another shape with `BadPalette`, indices that do not fit it with `BadPacked`, and what `Numbering::number`
-    /// refuses: where it takes new states, the first fault that holds, and `TooManyStates` where none does.
+    /// refuses: the first fault that holds, but where it takes no new states, `TooManyStates` says only that not all are known.
     pub fn read<N: Numbering>(
         alloc: Global,
         palette: Option<&Tag>,
@@ -60,7 +60,7 @@ impl Section {
         ensures ok { IfOk result (IsRead (option_map view (option_copied palette.entry))
             (option_map view (option_copied longs.entry)) (states (N.table numbering.old))
             (states (N.table numbering.new))) }
-        ensures err { IfErr result (λ e. N.takes ≡ true → IsStatesRefusal
+        ensures err { IfErr result (λ e. (N.takes ≡ false → e ≢ TooManyStates) → IsStatesRefusal
             (option_map view (option_copied palette.entry))
             (option_map view (option_copied longs.entry)) (states (N.table numbering.old)) e) }
         ensures table { OnlyGrows (states (N.table numbering.old))
@@ -104,7 +104,7 @@ impl Section {
             (unpacked (bits_for (length numbers.items)) longs.now)) }
     {
         let once = distinct(alloc, numbers)?;
-        if once.numbers.len() != once.places.len() {
+        if once.numbers.len() != once.ranks.len() {
             return Section::repeated(alloc, once, longs);
         }
         Ok(Section {
@@ -118,17 +118,17 @@ impl Section {
 
     /// The same where a number is there twice: each index is that of its number among the distinct ones.
     fn repeated(alloc: Global, once: Once, longs: &[i64]) -> Result<Self, AllocError>
-        requires palette { AreEachOnce (numbers_of once.numbers.items once.places.items)
+        requires palette { AreEachOnce (numbers_of once.numbers.items once.ranks.items)
             once.numbers.items }
-        requires places { All (λ place. place < length once.numbers.items) once.places.items }
-        requires few { length once.places.items ≤ 4096 }
-        requires indices { packed_indices (length once.places.items) longs.now
-            ≡ Some (unpacked (bits_for (length once.places.items)) longs.now) }
-        ensures ok { IfOk result (HasNumbers (numbers_of once.numbers.items once.places.items)
-            (unpacked (bits_for (length once.places.items)) longs.now)) }
+        requires ranks { All (λ rank. rank < length once.numbers.items) once.ranks.items }
+        requires few { length once.ranks.items ≤ 4096 }
+        requires indices { packed_indices (length once.ranks.items) longs.now
+            ≡ Some (unpacked (bits_for (length once.ranks.items)) longs.now) }
+        ensures ok { IfOk result (HasNumbers (numbers_of once.numbers.items once.ranks.items)
+            (unpacked (bits_for (length once.ranks.items)) longs.now)) }
     {
-        let indices = unpacked(alloc, longs, bits_for(once.places.len()))?;
-        let indices = mapped(indices, once.places.as_slice());
+        let indices = unpacked(alloc, longs, bits_for(once.ranks.len()))?;
+        let indices = mapped(indices, once.ranks.as_slice());
         let bits = bits_for(once.numbers.len());
         let Ok(longs) = pack(alloc, indices.as_slice(), bits) else {
             return Err(AllocError);

@@ -5,10 +5,10 @@ use Rattle.std.proofs.lemmas.Int.{ints}
 use Rattle.std.proofs.lemmas.List.{get_or-take, get_or-drop}
 use Rattle.av_document.proofs.Numbers.{le_and_lt_from}
 use Rattle.av_types.specs.Division.{divided, remainder}
-use Rattle.av_types.specs.Places.{chunk_of, place_of, is_block_of, section_index}
-use Rattle.av_types.specs.declared.place.Pos.{Pos}
-use Rattle.av_types.specs.declared.place.ChunkPos.{ChunkPos}
-use Rattle.av_types.specs.declared.place.Height.{Height}
+use Rattle.av_types.specs.Positions.{chunk_of, place_of, is_block_of, section_index}
+use Rattle.av_types.specs.declared.position.Pos.{Pos}
+use Rattle.av_types.specs.declared.position.ChunkPos.{ChunkPos}
+use Rattle.av_types.specs.declared.position.Height.{Height}
 use Rattle.av_pack.specs.Nibbles.{nibble_at}
 use Rattle.av_document.proofs.Positions.{coordinate-of, remainder-lt, place_of-lt}
 use Rattle.av_flood.specs.Board.{light_of, light_at, own_block, HasLightSoFar}

@@ -5,11 +5,11 @@ use Rattle.av_pack.specs.Packing.{packed_at, unpacked}
 use Rattle.av_pack.proofs.Laws.{get_or-unpacked}
 use Rattle.std.proofs.lemmas.Int.{ints}
 use Rattle.av_types.specs.Division.{divided}
-use Rattle.av_types.specs.Places.{chunk_of, section_of, place_of, block_at}
-use Rattle.av_types.specs.declared.place.Pos.{Pos}
-use Rattle.av_types.specs.declared.place.ChunkPos.{ChunkPos}
-use Rattle.av_types.specs.declared.place.SectionPos.{SectionPos}
-use Rattle.av_types.specs.declared.place.Height.{Height}
+use Rattle.av_types.specs.Positions.{chunk_of, section_of, place_of, block_at}
+use Rattle.av_types.specs.declared.position.Pos.{Pos}
+use Rattle.av_types.specs.declared.position.ChunkPos.{ChunkPos}
+use Rattle.av_types.specs.declared.position.SectionPos.{SectionPos}
+use Rattle.av_types.specs.declared.position.Height.{Height}
 use Rattle.av_types.proofs.Coordinates.{block_back}
 use Rattle.av_document.proofs.Positions.{place_of-lt}
 use Rattle.av_section.specs.declared.section.Section.{Section}

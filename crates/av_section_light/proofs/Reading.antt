@@ -1,9 +1,9 @@
 -- What a section says of the blocks in it.
 use Rattle.std.proofs.Common.{◌≡◌, ℕ, max, true, false, Some, None, sym, ap, ◌∙◌}
 use Rattle.std.specs.Prelude.{IsTrue}
-use Rattle.av_types.specs.Places.{section_of, place_of}
-use Rattle.av_types.specs.declared.place.Pos.{Pos}
-use Rattle.av_types.specs.declared.place.SectionPos.{SectionPos}
+use Rattle.av_types.specs.Positions.{section_of, place_of}
+use Rattle.av_types.specs.declared.position.Pos.{Pos}
+use Rattle.av_types.specs.declared.position.SectionPos.{SectionPos}
 use Rattle.av_section.specs.declared.section.Section.{Section}
 use Rattle.av_section.specs.Section.{number_at}
 use Rattle.av_rules.specs.declared.kinds.Kinds.{Kinds}

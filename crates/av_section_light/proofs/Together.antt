@@ -2,7 +2,7 @@
 use Rattle.std.proofs.Common.{◌≡◌, ℕ, ◌<◌, suc, zero, List, [], ◌∷◌, length, get_or, sym, subst, arith, Result, Ok, Err}
 use Rattle.std.specs.Prelude.{MatchResult, IfOk, IfErr, Contains, map}
 use Rattle.std.specs.List.{AllZip}
-use Rattle.av_types.specs.declared.place.ChunkPos.{ChunkPos}
+use Rattle.av_types.specs.declared.position.ChunkPos.{ChunkPos}
 use Rattle.av_types.specs.declared.fault.Fault.{Fault}
 use Rattle.av_types.specs.declared.fault.Fault.TheVariants.{OutOfMemory}
 use Rattle.av_chunk.specs.declared.light.ChunkLight.{ChunkLight}

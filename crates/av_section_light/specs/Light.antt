@@ -1,9 +1,9 @@
 -- Block light over a world of blocks: which of them are loaded, and what the rows of their states say.
 use Rattle.std.specs.Prelude.{◌≡◌, true}
-use Rattle.av_types.specs.Places.{chunk_of, is_block_of}
-use Rattle.av_types.specs.declared.place.Pos.{Pos}
-use Rattle.av_types.specs.declared.place.ChunkPos.{ChunkPos}
-use Rattle.av_types.specs.declared.place.Height.{Height}
+use Rattle.av_types.specs.Positions.{chunk_of, is_block_of}
+use Rattle.av_types.specs.declared.position.Pos.{Pos}
+use Rattle.av_types.specs.declared.position.ChunkPos.{ChunkPos}
+use Rattle.av_types.specs.declared.position.Height.{Height}
 use Rattle.av_rules.specs.declared.kinds.Kinds.{Kinds}
 use Rattle.av_rules.specs.Kinds.{row_at}
 use Rattle.av_chunk.specs.Light.{section_count}

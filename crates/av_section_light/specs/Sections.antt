@@ -1,9 +1,9 @@
 -- A section as part of a world's grid, and where the light of a block stands.
 use Rattle.std.specs.Prelude.{ℕ, Option, Some, None}
 use Rattle.av_types.specs.Division.{divided}
-use Rattle.av_types.specs.Places.{place_of, section_index}
-use Rattle.av_types.specs.declared.place.Pos.{Pos}
-use Rattle.av_types.specs.declared.place.Height.{Height}
+use Rattle.av_types.specs.Positions.{place_of, section_index}
+use Rattle.av_types.specs.declared.position.Pos.{Pos}
+use Rattle.av_types.specs.declared.position.Height.{Height}
 use Rattle.av_pack.specs.Nibbles.{nibble_at}
 use Rattle.av_section.specs.Section.{number_at, is_pending}
 use Rattle.av_section.specs.declared.section.Section.{Section}

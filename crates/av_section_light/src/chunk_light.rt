@@ -1,7 +1,7 @@
 //! The light of one chunk.
 ghost use Rattle.std.specs.Prelude.{◌≡◌, IfOk, IfErr};
-ghost use Rattle.av_types.specs.Places.{chunk_of};
-ghost use Rattle.av_types.specs.declared.place.Pos.{Pos};
+ghost use Rattle.av_types.specs.Positions.{chunk_of};
+ghost use Rattle.av_types.specs.declared.position.Pos.{Pos};
 ghost use Rattle.av_types.specs.declared.fault.Fault.TheVariants.{OutOfMemory};
 ghost use Rattle.av_cells.specs.Grid.{cells_of};
 ghost use Rattle.av_flood.specs.Light.{IsLight};

@@ -1,7 +1,7 @@
 //! The blocks of a chunk that give light.
 ghost use Rattle.std.specs.Prelude.{◌≡◌, ◌<◌, ◌≤◌, ℕ, true, false, IsTrue, IfOk, OnOk, Contains, length, slice_index_or};
-ghost use Rattle.av_types.specs.Places.{section_of, block_at};
-ghost use Rattle.av_types.specs.declared.place.Pos.{Pos};
+ghost use Rattle.av_types.specs.Positions.{section_of, block_at};
+ghost use Rattle.av_types.specs.declared.position.Pos.{Pos};
 ghost use Rattle.av_pack.specs.Packing.{packed_at, longs_for};
 ghost use Rattle.av_rules.specs.Kinds.{row_at};
 ghost use Rattle.av_section.specs.Section.{number_at};

@@ -10,9 +10,9 @@ use av_types::{ChunkPos, Height, Pos, SectionPos};
 
 /// The sections of a world.
 pub trait Sections {
-    ghost use Rattle.av_types.specs.declared.place.Pos.{Pos};
-    ghost use Rattle.av_types.specs.declared.place.ChunkPos.{ChunkPos};
-    ghost use Rattle.av_types.specs.declared.place.Height.{Height};
+    ghost use Rattle.av_types.specs.declared.position.Pos.{Pos};
+    ghost use Rattle.av_types.specs.declared.position.ChunkPos.{ChunkPos};
+    ghost use Rattle.av_types.specs.declared.position.Height.{Height};
 
     ghost grid: { Self → Grid };
 

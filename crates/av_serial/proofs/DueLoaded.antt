@@ -9,12 +9,12 @@ use Rattle.std.proofs.lemmas.List.Elements.{All-head, All-tail}
 use Rattle.std.proofs.lemmas.Bool.{and_parts, and_from}
 use Rattle.std.proofs.Math.Bool.{or-true}
 use Rattle.av_types.specs.Division.{divided}
-use Rattle.av_types.specs.Places.{chunk_of, is_block_of}
-use Rattle.av_types.specs.declared.place.Pos.{Pos}
-use Rattle.av_types.specs.declared.place.ChunkPos.{ChunkPos}
-use Rattle.av_types.specs.declared.place.Height.{Height}
+use Rattle.av_types.specs.Positions.{chunk_of, is_block_of}
+use Rattle.av_types.specs.declared.position.Pos.{Pos}
+use Rattle.av_types.specs.declared.position.ChunkPos.{ChunkPos}
+use Rattle.av_types.specs.declared.position.Height.{Height}
 use Rattle.av_types.specs.declared.tick.Entry.{Entry}
-use Rattle.av_types.proofs.SamePlaces.{same_chunk_is, same_chunk-refl}
+use Rattle.av_types.proofs.SamePositions.{same_chunk_is, same_chunk-refl}
 use Rattle.av_ticks.specs.Entries.{is_due, due_order}
 use Rattle.av_types.specs.Order.{inserted, ordered}
 use Rattle.av_document.specs.Ticks.{lies_in}

@@ -24,13 +24,13 @@ none_at t (e ∷ es) h =
     ap (λ b. cond b (number_set e ∷ edits_at t (number_sets es)) (edits_at t (number_sets es))) (h 0 e (omega arith))
     ∙ none_at t es (λ i d l. h (suc i) d (omega arith))
 
--- none of tick t from place b on
+-- none of tick t from index b on
 at_front : (t b : ℕ) (es : List Edit) → ((i : ℕ) (d : Edit) → b ≤ i → i < length es → nat_eq (tick_of (get_or es i d)) t ≡ false) → edits_at t (number_sets (take b es)) ≡ edits_at t (number_sets es)
 at_front t zero es h = sym (none_at t es (λ i d l. h i d (omega arith) l))
 at_front t (suc b) [] h = refl
 at_front t (suc b) (e ∷ es) h = ap (λ xs. cond (nat_eq e.tick t) (number_set e ∷ xs) xs) (at_front t b es (λ i d le l. h (suc i) d (omega arith) (omega arith)))
 
--- nor before place a
+-- nor before index a
 between : (t a b : ℕ) (es : List Edit) → a ≤ b → ((i : ℕ) (d : Edit) → i < a → i < length es → nat_eq (tick_of (get_or es i d)) t ≡ false)
     → ((i : ℕ) (d : Edit) → b ≤ i → i < length es → nat_eq (tick_of (get_or es i d)) t ≡ false) → edits_at t (number_sets (take (b - a) (drop a es))) ≡ edits_at t (number_sets es)
 between t zero b es le p q = let e : b - 0 ≡ b = omega arith in ap (λ m. edits_at t (number_sets (take m es))) e ∙ at_front t b es q

@@ -2,10 +2,10 @@
 use Rattle.std.proofs.Common.{◌≡◌, ℕ, zero, suc, ◌<◌, ◌≤◌, ◌+◌, pos, IsTrue, Bool, true, false, cond, nat_eq, List, [], ◌∷◌, length, get_or, drop, Result, Ok, Err, OnOk, is_err, true≢false, refl, sym, ap, subst, ◌∙◌, arith}
 use Rattle.std.specs.List.{list_all}
 use Rattle.std.proofs.lemmas.Bool.{and_parts}
-use Rattle.av_types.specs.declared.place.Pos.{Pos}
-use Rattle.av_types.specs.declared.place.ChunkPos.{ChunkPos}
-use Rattle.av_types.specs.declared.place.SectionPos.{SectionPos}
-use Rattle.av_types.specs.Places.{chunk_of, section_of, chunk_of_section, block_at}
+use Rattle.av_types.specs.declared.position.Pos.{Pos}
+use Rattle.av_types.specs.declared.position.ChunkPos.{ChunkPos}
+use Rattle.av_types.specs.declared.position.SectionPos.{SectionPos}
+use Rattle.av_types.specs.Positions.{chunk_of, section_of, chunk_of_section, block_at}
 use Rattle.av_types.proofs.Coordinates.{section_back}
 use Rattle.av_types.specs.declared.tick.Entry.{Entry}
 use Rattle.av_cells.specs.World as cells
@@ -20,7 +20,7 @@ use Rattle.av_world.proofs.Whole.{whole_kept}
 use Rattle.av_world.specs.declared.worlds.World.{World}
 use Rattle.av_edits.specs.declared.edit.Edit.{Edit}
 use Rattle.av_edits.specs.Numbered.{number_sets}
-use Rattle.av_serial.specs.Ready.{IsReady, IsSamePlace, IsStillPrepared, CanApply}
+use Rattle.av_serial.specs.Ready.{IsReady, HasSameChunks, IsStillPrepared, CanApply}
 
 pub ready_on : (n : ℕ) (old new : World) → site new ≡ site old → (blocks new).loaded ≡ (blocks old).loaded → HasKinds n (blocks new) → IsReady n old → IsReady n new
 ready_on n old new s l h r = record { whole = whole_kept old new s l r.whole; numbers = h }
@@ -35,16 +35,16 @@ ready_same n old new s b r = ready_on n old new s (ap (λ (v : cells.World). v.l
 pub ready_left : (n now : ℕ) (old new : World) → site new ≡ site old → (blocks new).loaded ≡ (blocks old).loaded → land_of new ≡ without_due now (land_of old) → IsReady n old → IsReady n new
 ready_left n now old new s l left r = ready_on n old new s l (HasKinds-same n (blocks old) (blocks new) (record { loaded = l; number = ap (λ (w : Land ℕ). w.at) left }) r.numbers) r
 
-pub place_refl : (w : World) → IsSamePlace w w
-place_refl w = record { site_is = refl; loaded_is = refl }
+pub chunks_refl : (w : World) → HasSameChunks w w
+chunks_refl w = record { site_is = refl; loaded_is = refl }
 
-pub place_on : (u v w : World) → IsSamePlace u v → IsSamePlace v w → IsSamePlace u w
-place_on u v w a b = record { site_is = b.site_is ∙ a.site_is; loaded_is = b.loaded_is ∙ a.loaded_is }
+pub chunks_on : (u v w : World) → HasSameChunks u v → HasSameChunks v w → HasSameChunks u w
+chunks_on u v w a b = record { site_is = b.site_is ∙ a.site_is; loaded_is = b.loaded_is ∙ a.loaded_is }
 
-pub sound_on : (u v : World) → IsSamePlace u v → u.broken ≡ false → v.broken ≡ false
+pub sound_on : (u v : World) → HasSameChunks u v → u.broken ≡ false → v.broken ≡ false
 sound_on u v a s = ap (λ (x : cells.Site). x.broken) a.site_is ∙ s
 
-pub can_apply_on : (n : ℕ) (u v : World) (e : Edit) → IsSamePlace u v → CanApply n u e → CanApply n v e
+pub can_apply_on : (n : ℕ) (u v : World) (e : Edit) → HasSameChunks u v → CanApply n u e → CanApply n v e
 can_apply_on n u v e a c = record { loaded = subst (λ (f : Pos → Bool). IsTrue (f e.pos)) (sym a.loaded_is) c.loaded; number = c.number }
 
 -- each chunk and each section has a block
@@ -85,5 +85,5 @@ passes_get p [] i d h all = absurd (omega arith)
 passes_get p (x ∷ es) zero d h all = (and_parts (p x) (list_all p es) all).0
 passes_get p (x ∷ es) (suc i) d h all = passes_get p es i d (omega arith) (and_parts (p x) (list_all p es) all).1
 
-pub loaded_get : (u v : World) (es : List Entry) (i : ℕ) (d : Entry) → IsSamePlace u v → i < length es → list_all (λ e. (blocks u).loaded e.pos) es ≡ true → (blocks v).loaded (get_or es i d).pos ≡ true
+pub loaded_get : (u v : World) (es : List Entry) (i : ℕ) (d : Entry) → HasSameChunks u v → i < length es → list_all (λ e. (blocks u).loaded e.pos) es ≡ true → (blocks v).loaded (get_or es i d).pos ≡ true
 loaded_get u v es i d a h all = ap (λ (f : Pos → Bool). f (get_or es i d).pos) a.loaded_is ∙ passes_get (λ e. (blocks u).loaded e.pos) es i d h all

@@ -21,7 +21,7 @@ use Rattle.av_world.proofs.Soonest.{none_due}
 use Rattle.av_world.specs.declared.worlds.World.{World}
 use Rattle.av_edits.specs.declared.edit.Edit.{Edit}
 use Rattle.av_edits.specs.Numbered.{number_sets}
-use Rattle.av_serial.specs.Ready.{IsSamePlace, CanApply}
+use Rattle.av_serial.specs.Ready.{HasSameChunks, CanApply}
 use Rattle.av_serial.specs.Schedule.{NothingBefore}
 use Rattle.av_serial.proofs.Keeps.{can_apply_on}
 
@@ -63,5 +63,5 @@ count_next k es m now total count w v e a s c =
     let n : suc m ≡ m + 1 = omega arith in
     (λ i. s i + (c ∙ (λ j. tick_count k (t j) es (a j))) i) ∙ ap (λ x. run_count k es x w) n
 
-pub can_apply_all : (n : ℕ) (u v : World) (es : List Edit) → IsSamePlace u v → All (CanApply n u) es → All (CanApply n v) es
+pub can_apply_all : (n : ℕ) (u v : World) (es : List Edit) → HasSameChunks u v → All (CanApply n u) es → All (CanApply n v) es
 can_apply_all n u v es same all = λ i d l. can_apply_on n u v _ same (all i d l)

@@ -1,8 +1,8 @@
 -- What a tick asks of a world, and keeps.
 use Rattle.std.specs.Borrow.{Bor, MutBor}
 use Rattle.std.specs.Prelude.{◌≡◌, ℕ, ◌<◌, ◌≤◌, IsTrue, List, All, true, false, Result, OnOk, OnErr, IfOk, IfErr}
-use Rattle.av_types.specs.declared.place.ChunkPos.{ChunkPos}
-use Rattle.av_types.specs.declared.place.SectionPos.{SectionPos}
+use Rattle.av_types.specs.declared.position.ChunkPos.{ChunkPos}
+use Rattle.av_types.specs.declared.position.SectionPos.{SectionPos}
 use Rattle.av_types.specs.declared.fault.Fault.{Fault}
 use Rattle.av_types.specs.declared.fault.Fault.TheVariants.{OutOfMemory}
 use Rattle.av_rules.specs.Kinds.{kind_count}
@@ -22,7 +22,7 @@ pub record IsReady (kinds : ℕ) (w : World) : Type 0 where
   pub numbers : HasKinds kinds (blocks w)
 
 -- the same chunks are there and the same blocks are loaded
-pub record IsSamePlace (old new : World) : Type 0 where
+pub record HasSameChunks (old new : World) : Type 0 where
   pub site_is : site new ≡ site old
   pub loaded_is : (blocks new).loaded ≡ (blocks old).loaded
 
@@ -48,7 +48,7 @@ pub record IsTick (k : Kinds) (now : ℕ) (edits : List Edit) (old new : World) 
   pub done : OnOk answer (land_of new ≡ ticked (kinds_of k) now (number_sets edits) (land_of old))
   pub count : IfOk answer (λ n. n ≡ tick_count (kinds_of k) now (number_sets edits) (land_of old))
   pub ready : OnOk answer (IsReady (kind_count k) new)
-  pub place : OnOk answer (IsSamePlace old new)
+  pub chunks : OnOk answer (HasSameChunks old new)
   pub broken : OnErr answer (is_broken new ≡ true)
   pub fault : IfErr answer (λ e. e ≡ OutOfMemory)
 

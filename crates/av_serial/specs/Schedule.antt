@@ -8,11 +8,11 @@ use Rattle.av_edits.specs.Numbered.{number_sets}
 abbrev pub tick_of : Edit → ℕ
 tick_of e = e.tick
 
--- the edits at places a to b are of ticks up to now
+-- the edits at indices a to b are of ticks up to now
 abbrev pub AreUpTo : ℕ → ℕ → ℕ → List Edit → Type 0
 AreUpTo now a b es = (i : ℕ) (d : Edit) → a ≤ i → i < b → tick_of (slice_index_or es i d) ≤ now
 
--- the edit at a place, if there is one, is of a tick after now
+-- the edit at an index, if there is one, is of a tick after now
 abbrev pub IsOfLaterTick : ℕ → ℕ → List Edit → Type 0
 IsOfLaterTick now i es = (d : Edit) → i < length es → now < tick_of (slice_index_or es i d)
 
@@ -24,7 +24,7 @@ SameByTick es fs = (t : ℕ) → edits_at t (number_sets es) ≡ edits_at t (num
 abbrev pub NothingBefore : ℕ → Land ℕ → Type 0
 NothingBefore next w = (t : ℕ) → t < next → NothingDue t w
 
--- after so many ticks: the edits before a place are done, and nothing is due before a tick
+-- after so many ticks: the edits before an index are done, and nothing is due before a tick
 pub record IsAfterTicks (done from next : ℕ) (es : List Edit) (w : Land ℕ) : Type 0 where
   pub within : from ≤ length es
   pub passed : AreUpTo done 0 from es

@@ -8,7 +8,7 @@ ghost use Rattle.av_land.specs.Tick.{ticked, tick_count, run, run_count};
 ghost use Rattle.av_world.specs.Views.{is_broken};
 ghost use Rattle.av_world.specs.Lands.{land_of};
 ghost use Rattle.av_edits.specs.Numbered.{number_sets};
-ghost use Rattle.av_serial.specs.Ready.{IsReady, IsSamePlace, CanApply, CanTick, IsTick, AcceptsTicks, TakesTicks};
+ghost use Rattle.av_serial.specs.Ready.{IsReady, HasSameChunks, CanApply, CanTick, IsTick, AcceptsTicks, TakesTicks};
 ghost use Rattle.av_serial.specs.Schedule.{tick_of, NothingBefore, IsAfterTicks};
 
 use crate::schedule::{end_of, sorted_by_tick};
@@ -55,7 +55,7 @@ fn tick_from<F: Fn(&mut World, u32, &[Edit]) -> Result<u64, Fault>>(
         (number_sets edits.now) (land_of world.old)) }
     ensures next { OnOk result (NothingBefore next.new (land_of world.new)) }
     ensures ready { OnOk result (IsReady (kind_count kinds.now) world.new) }
-    ensures place { OnOk result (IsSamePlace world.old world.new) }
+    ensures chunks { OnOk result (HasSameChunks world.old world.new) }
     ensures broken { OnErr result (is_broken world.new ≡ true) }
 {
     let idle = is_idle(edits, now, *next);
@@ -72,7 +72,7 @@ fn tick_from<F: Fn(&mut World, u32, &[Edit]) -> Result<u64, Fault>>(
 /// Where a run stands.
 #[derive(Drop)]
 struct Schedule {
-    /// The edits before this place are done.
+    /// The edits before this index are done.
     from: usize,
     /// Nothing is due before this tick.
     next: u64,
@@ -103,7 +103,7 @@ fn next_tick<F: Fn(&mut World, u32, &[Edit]) -> Result<u64, Fault>>(
     ensures schedule { OnOk result (IsAfterTicks (done + 1) schedule.new.from schedule.new.next
         edits.now (land_of world.new)) }
     ensures ready { OnOk result (IsReady (kind_count kinds.now) world.new) }
-    ensures place { OnOk result (IsSamePlace world.old world.new) }
+    ensures chunks { OnOk result (HasSameChunks world.old world.new) }
     ensures broken { OnErr result (is_broken world.new ≡ true) }
 {
     let now = done + 1;
@@ -139,7 +139,7 @@ fn run_sorted<F: Fn(&mut World, u32, &[Edit]) -> Result<u64, Fault>>(
     ensures count { IfOk result (λ total. total ≡ run_count (kinds_of kinds.now)
         (number_sets edits.now) n (land_of world.old)) }
     ensures ready { OnOk result (IsReady (kind_count kinds.now) world.new) }
-    ensures place { OnOk result (IsSamePlace world.old world.new) }
+    ensures chunks { OnOk result (HasSameChunks world.old world.new) }
     ensures broken { OnErr result (is_broken world.new ≡ true) }
 {
     let next = soonest(world);
@@ -176,7 +176,7 @@ pub fn run_ticks_with<F: Fn(&mut World, u32, &[Edit]) -> Result<u64, Fault>>(
     ensures count { IfOk result (λ total. total ≡ run_count (kinds_of kinds.now)
         (number_sets edits.now) n (land_of world.old)) }
     ensures ready { OnOk result (IsReady (kind_count kinds.now) world.new) }
-    ensures place { OnOk result (IsSamePlace world.old world.new) }
+    ensures chunks { OnOk result (HasSameChunks world.old world.new) }
     ensures sound { OnOk result (is_broken world.old ≡ false) }
     ensures stands { OnErr result ((world.new ≡ world.old) ⊎ (is_broken world.new ≡ true)) }
     ensures unchanged { is_broken world.old ≡ true → world.new ≡ world.old }
@@ -208,7 +208,7 @@ pub fn run_ticks(
     ensures count { IfOk result (λ total. total ≡ run_count (kinds_of kinds.now)
         (number_sets edits.now) n (land_of world.old)) }
     ensures ready { OnOk result (IsReady (kind_count kinds.now) world.new) }
-    ensures place { OnOk result (IsSamePlace world.old world.new) }
+    ensures chunks { OnOk result (HasSameChunks world.old world.new) }
     ensures sound { OnOk result (is_broken world.old ≡ false) }
     ensures stands { OnErr result ((world.new ≡ world.old) ⊎ (is_broken world.new ≡ true)) }
     ensures unchanged { is_broken world.old ≡ true → world.new ≡ world.old }

@@ -6,7 +6,7 @@ ghost use Rattle.av_cells.specs.Kinds.{kinds_of};
 ghost use Rattle.av_land.specs.Tick.{set_in, turned};
 ghost use Rattle.av_world.specs.Views.{is_broken, blocks};
 ghost use Rattle.av_world.specs.Lands.{land_of};
-ghost use Rattle.av_serial.specs.Ready.{IsReady, IsSamePlace, IsStillPrepared, CanApply};
+ghost use Rattle.av_serial.specs.Ready.{IsReady, HasSameChunks, IsStillPrepared, CanApply};
 
 use av_cells::{Cells, set_awake};
 use av_edits::Edit;
@@ -30,7 +30,7 @@ pub(crate) fn set_block(
     ensures undone { OnErr result (land_of world.new ≡ land_of world.old) }
     ensures kept { OnErr result (IsStillPrepared world.old world.new) }
     ensures ready { IsReady (kind_count kinds.now) world.new }
-    ensures place { IsSamePlace world.old world.new }
+    ensures chunks { HasSameChunks world.old world.new }
 {
     if world.prepare_set(edit.pos, edit.number).is_err() {
         return Err(AllocError);
@@ -53,7 +53,7 @@ pub fn apply(world: &mut World, kinds: &Kinds, now: u32, edit: &Edit) -> Result<
     ensures undone { OnErr result (land_of world.new ≡ land_of world.old) }
     ensures kept { OnErr result (IsStillPrepared world.old world.new) }
     ensures ready { is_broken world.old ≡ false → IsReady (kind_count kinds.now) world.new }
-    ensures place { IsSamePlace world.old world.new }
+    ensures chunks { HasSameChunks world.old world.new }
     ensures whole_world { OnOk result (is_broken world.old ≡ false) }
     ensures err { IfErr result (λ e. e ≡ (if is_broken world.old then Broken else OutOfMemory)) }
 {
@@ -77,7 +77,7 @@ pub(crate) fn turn_block(
         (land_of world.old)) }
     ensures undone { OnErr result (land_of world.new ≡ land_of world.old) }
     ensures ready { IsReady (kind_count kinds.now) world.new }
-    ensures place { IsSamePlace world.old world.new }
+    ensures chunks { HasSameChunks world.old world.new }
 {
     if world.prepare(pos).is_err() {
         return Err(AllocError);

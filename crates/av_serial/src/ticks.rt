@@ -8,7 +8,7 @@ ghost use Rattle.av_land.specs.Tick.{set_in, edited, turned_all, ticked, tick_co
 ghost use Rattle.av_world.specs.Views.{is_broken, blocks};
 ghost use Rattle.av_world.specs.Lands.{land_of};
 ghost use Rattle.av_edits.specs.Numbered.{number_sets};
-ghost use Rattle.av_serial.specs.Ready.{IsReady, IsSamePlace, CanApply};
+ghost use Rattle.av_serial.specs.Ready.{IsReady, HasSameChunks, CanApply};
 ghost use Rattle.av_serial.specs.Begun.{AreTurnsBegun, AreEditsBegun};
 
 use crate::steps::{set_block, turn_block};
@@ -36,7 +36,7 @@ pub fn turn_all(
     ensures begun { OnErr result (AreTurnsBegun (kinds_of kinds.now) now entries.now
         (land_of world.old) (land_of world.new)) }
     ensures ready { IsReady (kind_count kinds.now) world.new }
-    ensures place { IsSamePlace world.old world.new }
+    ensures chunks { HasSameChunks world.old world.new }
 {
     for entry in entries {
         turn_block(world, kinds, now, entry.pos)?;
@@ -53,7 +53,7 @@ fn apply_now(world: &mut World, kinds: &Kinds, now: u32, edit: &Edit) -> Result<
         edit.now.number (land_of world.old) else land_of world.old)) }
     ensures undone { OnErr result (land_of world.new ≡ land_of world.old) }
     ensures ready { IsReady (kind_count kinds.now) world.new }
-    ensures place { IsSamePlace world.old world.new }
+    ensures chunks { HasSameChunks world.old world.new }
 {
     if edit.tick == now {
         set_block(world, kinds, now, edit)?;
@@ -75,7 +75,7 @@ pub fn apply_all(world: &mut World, kinds: &Kinds, now: u32, edits: &[Edit]) -> 
     ensures begun { OnErr result (AreEditsBegun (kinds_of kinds.now) now edits.now
         (land_of world.old) (land_of world.new)) }
     ensures ready { IsReady (kind_count kinds.now) world.new }
-    ensures place { IsSamePlace world.old world.new }
+    ensures chunks { HasSameChunks world.old world.new }
     ensures memory { IfErr result (λ e. e ≡ OutOfMemory) }
 {
     for edit in edits {
@@ -92,7 +92,7 @@ fn turn_due(world: &mut World, kinds: &Kinds, now: u32) -> Result<u64, AllocErro
         (due_entries now (land_of world.old)) (without_due now (land_of world.old))) }
     ensures count { IfOk result (λ n. n ≡ length (due_entries now (land_of world.old))) }
     ensures ready { IsReady (kind_count kinds.now) world.new }
-    ensures place { IsSamePlace world.old world.new }
+    ensures chunks { HasSameChunks world.old world.new }
 {
     let Ok(due) = world.take_due(now) else {
         return Err(AllocError);
@@ -111,7 +111,7 @@ fn work(world: &mut World, kinds: &Kinds, now: u32, edits: &[Edit]) -> Result<u6
     ensures count { IfOk result (λ n. n ≡ tick_count (kinds_of kinds.now) now
         (number_sets edits.now) (land_of world.old)) }
     ensures ready { IsReady (kind_count kinds.now) world.new }
-    ensures place { IsSamePlace world.old world.new }
+    ensures chunks { HasSameChunks world.old world.new }
 {
     if apply_all(world, kinds, now, edits).is_err() {
         return Err(AllocError);
@@ -133,7 +133,7 @@ pub fn tick(world: &mut World, kinds: &Kinds, now: u32, edits: &[Edit]) -> Resul
     ensures count { IfOk result (λ n. n ≡ tick_count (kinds_of kinds.now) now
         (number_sets edits.now) (land_of world.old)) }
     ensures ready { OnOk result (IsReady (kind_count kinds.now) world.new) }
-    ensures place { OnOk result (IsSamePlace world.old world.new) }
+    ensures chunks { OnOk result (HasSameChunks world.old world.new) }
     ensures sound { OnOk result (is_broken world.old ≡ false) }
     ensures broken { OnErr result (is_broken world.new ≡ true) }
     ensures unchanged { is_broken world.old ≡ true → world.new ≡ world.old }

@@ -31,7 +31,7 @@ pub(crate) fn entry(pos: Pos, due: i64) -> Entry {
 pub(crate) type WetBlock = (i32, i32, i32, u16);
 
 /// A block by its x, y and z.
-pub(crate) type Place = (i32, i32, i32);
+pub(crate) type Coordinates = (i32, i32, i32);
 
 /// Exactly these blocks are water, each of a level, by y, z and x.
 pub(crate) fn expect_water(
@@ -51,7 +51,7 @@ pub(crate) fn expect_list(
     world: &World,
     chunk: ChunkPos,
     due: i64,
-    want: &[Place],
+    want: &[Coordinates],
 ) {
     let list = list_of(world, chunk);
     assert_eq!(rt; list.len(), want.len());
@@ -67,7 +67,7 @@ pub(crate) struct Want<'a> {
     count: u128,
     water: &'a [WetBlock],
     due: i64,
-    list: &'a [Place],
+    list: &'a [Coordinates],
 }
 
 /// A world after some ticks has this.
@@ -118,7 +118,7 @@ fn expect_water_after(
 }
 
 /// The blocks that a source at (8, 64, 8) and its four sides wake, in order.
-const FIVE: [Place; 5] = [(8, 64, 7), (8, 64, 8), (8, 64, 9), (7, 64, 8), (9, 64, 8)];
+const FIVE: [Coordinates; 5] = [(8, 64, 7), (8, 64, 8), (8, 64, 9), (7, 64, 8), (9, 64, 8)];
 
 /// The source and its four sides.
 const SPREAD: [WetBlock; 5] = [

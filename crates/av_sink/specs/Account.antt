@@ -18,8 +18,8 @@ pub record Account : Type 0 where
   pub repair : Option Repair
   pub failures : ℕ
   pub handed : ℕ
-  -- whether the files that it was handed have their places
-  pub placed : Bool
+  -- whether the files that it was handed have their names
+  pub committed : Bool
   -- whether it was noted that all is told of them
   pub closed : Bool
   -- the files that it keeps, where it tells
@@ -32,37 +32,37 @@ with_files a files = record {
   repair = a.repair;
   failures = a.failures;
   handed = a.handed + length files;
-  placed = a.placed;
+  committed = a.committed;
   closed = a.closed;
   kept = option_map (λ l. l ++ files) a.kept;
 }
 
 -- after it did not take one
 abbrev pub with_failure : Account → Account
-with_failure a = record { folder = a.folder; repair = a.repair; failures = a.failures + 1; handed = a.handed; placed = a.placed; closed = a.closed; kept = a.kept }
+with_failure a = record { folder = a.folder; repair = a.repair; failures = a.failures + 1; handed = a.handed; committed = a.committed; closed = a.closed; kept = a.kept }
 
 -- after the folder of that name was opened
 abbrev pub in_folder : List ℕ → Account → Account
-in_folder name a = record { folder = Some name; repair = a.repair; failures = a.failures; handed = a.handed; placed = a.placed; closed = a.closed; kept = a.kept }
+in_folder name a = record { folder = Some name; repair = a.repair; failures = a.failures; handed = a.handed; committed = a.committed; closed = a.closed; kept = a.kept }
 
 -- after it was looked for a run that was cut off
 abbrev pub with_repair : Repair → Account → Account
-with_repair r a = record { folder = a.folder; repair = Some r; failures = a.failures; handed = a.handed; placed = a.placed; closed = a.closed; kept = a.kept }
+with_repair r a = record { folder = a.folder; repair = Some r; failures = a.failures; handed = a.handed; committed = a.committed; closed = a.closed; kept = a.kept }
 
--- after the files took their places
-abbrev pub with_places : Account → Account
-with_places a = record { folder = a.folder; repair = a.repair; failures = a.failures; handed = a.handed; placed = true; closed = a.closed; kept = a.kept }
+-- after the files took their names
+abbrev pub with_commit : Account → Account
+with_commit a = record { folder = a.folder; repair = a.repair; failures = a.failures; handed = a.handed; committed = true; closed = a.closed; kept = a.kept }
 
--- after it was noted that all is told of the files that took their places
+-- after it was noted that all is told of the files that took their names
 abbrev pub with_end : Account → Account
-with_end a = record { folder = a.folder; repair = a.repair; failures = a.failures; handed = a.handed; placed = a.placed; closed = true; kept = a.kept }
+with_end a = record { folder = a.folder; repair = a.repair; failures = a.failures; handed = a.handed; committed = a.committed; closed = true; kept = a.kept }
 
 -- it has opened no folder, taken no file and not failed
 pub record IsFresh (a : Account) : Type 0 where
   pub folder : a.folder ≡ None
   pub failures : a.failures ≡ 0
   pub handed : a.handed ≡ 0
-  pub placed : a.placed ≡ false
+  pub committed : a.committed ≡ false
   pub closed : a.closed ≡ false
 
 -- the fault of a file or folder of that name

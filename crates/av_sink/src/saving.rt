@@ -50,7 +50,7 @@ pub trait Teller {
     /// A sink has taken so many of all files.
     fn taken(&self, _done: usize, _all: usize) {}
 
-    /// So many files of a run that was cut off have their places. What shows that there was one goes only then, so that it is told by this
+    /// So many files of a run that was cut off have their names. What shows that there was one goes only then, so that it is told by this
     /// call or by the next.
     fn finished(&self, _files: usize) {}
 }

@@ -1,6 +1,6 @@
 //! What takes written files.
 ghost use Rattle.std.specs.Prelude.{◌≡◌, ◌<◌, ◌^◌, ◌-◌, [], ◌∷◌, IfOk, None, OnOk, OnErr};
-ghost use Rattle.av_sink.specs.Account.{Account, file_named, in_folder, with_end, with_failure, with_files, with_places, with_repair};
+ghost use Rattle.av_sink.specs.Account.{Account, file_named, in_folder, with_end, with_failure, with_files, with_commit, with_repair};
 
 use crate::saving::Teller;
 use std::alloc::AllocError;
@@ -39,7 +39,7 @@ pub trait Sink {
 /// What was done about a run of a folder that was cut off.
 #[derive(Clone, Copy, Debug)]
 pub struct Repair {
-    /// How many files its journal lists, all of which have their places now, where there was one.
+    /// How many files its journal lists, all of which have their names now, where there was one.
     pub finished: Option<usize>,
     /// How many files that it had left were taken away.
     pub removed: usize,
@@ -52,7 +52,7 @@ pub struct FailedFile {
     pub error: io::Error,
 }
 
-/// A sink whose files go to a folder, which is opened once, by its name. They take their places there all or none.
+/// A sink whose files go to a folder, which is opened once, by its name. They take their names there all or none.
 pub trait OutputFolder: Sink {
     /// Opens the folder of that name, for all files that are taken from now on.
     ///
@@ -63,19 +63,19 @@ pub trait OutputFolder: Sink {
             ≡ in_folder folder.now (Self.account self.old)) }
         ensures err { OnErr result (Self.account self.new ≡ Self.account self.old) };
 
-    /// Finishes a run of that folder that was cut off while its files took their places, which is told, and takes away what one left that
+    /// Finishes a run of that folder that was cut off while its files took their names, which is told, and takes away what one left that
     /// was cut off before.
     fn repair<T: Teller>(&mut self, teller: &T) -> Result<Repair, SinkFailed>
         ensures ok { IfOk result (λ r. Self.account self.new
             ≡ with_repair r (Self.account self.old)) }
         ensures err { OnErr result (Self.account self.new ≡ Self.account self.old) };
 
-    /// Lets the region files that were taken take their places. Until `close` a call that is cut off is finished by the next.
-    fn place(&mut self) -> Result<(), SinkFailed>
-        ensures ok { OnOk result (Self.account self.new ≡ with_places (Self.account self.old)) }
+    /// Lets the region files that were taken take their names. Until `close` a call that is cut off is finished by the next.
+    fn commit(&mut self) -> Result<(), SinkFailed>
+        ensures ok { OnOk result (Self.account self.new ≡ with_commit (Self.account self.old)) }
         ensures err { OnErr result (Self.account self.new ≡ Self.account self.old) };
 
-    /// Notes that all is told of files that took their places.
+    /// Notes that all is told of files that took their names.
     fn close(&mut self) -> Result<(), SinkFailed>
         ensures ok { OnOk result (Self.account self.new ≡ with_end (Self.account self.old)) }
         ensures err { OnErr result (Self.account self.new ≡ Self.account self.old) };

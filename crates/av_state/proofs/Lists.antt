@@ -1,4 +1,4 @@
--- Lists: equal places, the first place that passes, clones.
+-- Lists: equal indices, the first that passes, clones.
 use Rattle.std.proofs.Common.{◌≡◌, ℕ, suc, ◌+◌, List, [], ◌∷◌, map, Bool, true, false, ◌&&◌, Option, Some, None, option_map, cond, refl, ap, ◌∙◌, sym, arith}
 use Rattle.std.specs.List.{position, position_from, list_any, AllZip}
 use Rattle.std.proofs.lemmas.Iterator.Adapters.{position_from-zero}

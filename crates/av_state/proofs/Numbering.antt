@@ -43,7 +43,7 @@ there_step x s xs n false (Some m) eb eo more h =
     let P : ℕ → Type 0 = λ k. slice_get (x ∷ xs) k ≡ Some s in
     subst P (same_Some (suc m) n h) (more m eo)
 
--- a number is a place of the state
+-- the state stands at a number
 pub number_in-there : (xs : List BlockState) (s : BlockState) (n : ℕ) → number_in xs s ≡ Some n → slice_get xs n ≡ Some s
 number_in-there [] s n h = absurd (none-some n h)
 number_in-there (x ∷ xs) s n h = there_step x s xs n (same_state s x) (number_in xs s) refl refl (number_in-there xs s) h
@@ -171,22 +171,22 @@ Numbers-new xs s m e = record {
 all_meant-more : (xs : List BlockState) (s : BlockState) → map meant xs ≡ map Some xs → meant s ≡ Some s → map meant (xs ++ s ∷ []) ≡ map Some (xs ++ s ∷ [])
 all_meant-more xs s h m = map-append meant xs (s ∷ []) ∙ ap (λ zs. zs ++ meant s ∷ []) h ∙ ap (λ z. map Some xs ++ z ∷ []) m ∙ sym (map-append Some xs (s ∷ []))
 
--- the places of a longer list are those of the list, and the end
-data Place (xs : List BlockState) (s : BlockState) (i : ℕ) : Type 0 where
-  before : i < length xs → slice_get (xs ++ s ∷ []) i ≡ slice_get xs i → Place xs s i
-  last : i ≡ length xs → slice_get (xs ++ s ∷ []) i ≡ Some s → Place xs s i
+-- the indices of a longer list are those of the list, and the end
+data BeforeOrLast (xs : List BlockState) (s : BlockState) (i : ℕ) : Type 0 where
+  before : i < length xs → slice_get (xs ++ s ∷ []) i ≡ slice_get xs i → BeforeOrLast xs s i
+  last : i ≡ length xs → slice_get (xs ++ s ∷ []) i ≡ Some s → BeforeOrLast xs s i
 
-place_more : (y : BlockState) (xs : List BlockState) (s : BlockState) (i : ℕ) → Place xs s i → Place (y ∷ xs) s (suc i)
-place_more y xs s i (before h e) = before (omega arith) e
-place_more y xs s i (last h e) = last (ap suc h) e
+before_or_last_more : (y : BlockState) (xs : List BlockState) (s : BlockState) (i : ℕ) → BeforeOrLast xs s i → BeforeOrLast (y ∷ xs) s (suc i)
+before_or_last_more y xs s i (before h e) = before (omega arith) e
+before_or_last_more y xs s i (last h e) = last (ap suc h) e
 
-place_of : (xs : List BlockState) (s : BlockState) (i : ℕ) → i < length (xs ++ s ∷ []) → Place xs s i
-place_of [] s zero h = last refl refl
-place_of [] s (suc i) h = absurd (omega arith)
-place_of (y ∷ xs) s zero h = before (omega arith) refl
-place_of (y ∷ xs) s (suc i) h = place_more y xs s i (place_of xs s i (omega arith))
+before_or_last : (xs : List BlockState) (s : BlockState) (i : ℕ) → i < length (xs ++ s ∷ []) → BeforeOrLast xs s i
+before_or_last [] s zero h = last refl refl
+before_or_last [] s (suc i) h = absurd (omega arith)
+before_or_last (y ∷ xs) s zero h = before (omega arith) refl
+before_or_last (y ∷ xs) s (suc i) h = before_or_last_more y xs s i (before_or_last xs s i (omega arith))
 
--- no place has a state without a number
+-- a state without a number stands nowhere
 pub absent : (xs : List BlockState) (s : BlockState) → number_in xs s ≡ None → (i : ℕ) → slice_get xs i ≡ Some s → ⊥
 absent [] s h i e = none-some s e
 absent (x ∷ xs) s h i e = absent_step x s xs i (same_state s x) (number_in xs s) refl refl (absent xs s) h e
@@ -199,7 +199,7 @@ absent (x ∷ xs) s h i e = absent_step x s xs i (same_state s x) (number_in xs 
         false≢true (sym eb ∙ (state-Decides s x).1 same)
     absent_step x s xs (suc i) false None eb eo more h e = more eo i e
 
-distinct_cases : (xs : List BlockState) (s : BlockState) (i j : ℕ) → IsStateList xs → number_in xs s ≡ None → Place xs s i → Place xs s j → slice_get (xs ++ s ∷ []) i ≡ slice_get (xs ++ s ∷ []) j → i ≡ j
+distinct_cases : (xs : List BlockState) (s : BlockState) (i j : ℕ) → IsStateList xs → number_in xs s ≡ None → BeforeOrLast xs s i → BeforeOrLast xs s j → slice_get (xs ++ s ∷ []) i ≡ slice_get (xs ++ s ∷ []) j → i ≡ j
 distinct_cases xs s i j l new (before h e) (before k f) p = l.distinct i j h k (sym e ∙ p ∙ f)
 distinct_cases xs s i j l new (before h e) (last k f) p = absurd (absent xs s new i (sym e ∙ p ∙ f))
 distinct_cases xs s i j l new (last h e) (before k f) p = absurd (absent xs s new j (sym f ∙ sym p ∙ e))
@@ -211,7 +211,7 @@ IsStateList-more xs s l m new room =
     let ten : length (take 10 xs) ≡ 10 = ap length l.begins in
     let long : 10 ≤ length xs = omega (arith, length-take 10 xs) in
     record {
-      distinct = λ i j h k p. distinct_cases xs s i j l new (place_of xs s i h) (place_of xs s j k) p;
+      distinct = λ i j h k p. distinct_cases xs s i j l new (before_or_last xs s i h) (before_or_last xs s j k) p;
       begins = take-append-le 10 xs (s ∷ []) long ∙ l.begins;
       bounded = omega (arith, length-append xs (s ∷ []));
       each_meant = all_meant-more xs s l.each_meant m;

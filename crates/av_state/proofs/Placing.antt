@@ -15,7 +15,7 @@ use Rattle.std.proofs.lemmas.Option.{slice_get-map, slice_get-get_or, slice_get_
 use Rattle.av_state.specs.BlockState.{BlockState, air}
 use Rattle.av_state.specs.StateList.{number_in}
 use Rattle.av_state.specs.Order.{fingerprint_of, texts_cmp, state_cmp}
-use Rattle.av_state.specs.Index.{state_at, stands, matched, compared, told, slot_of, FindsStates, IsPlaceWith, IsPlaceOf}
+use Rattle.av_state.specs.Index.{state_at, stands, matched, compared, told, slot_of, FindsStates, HasRank, IsRankFor}
 use Rattle.av_state.specs.declared.slots.Slots.{Slots}
 use Rattle.av_state.proofs.Seated.{seated-taken, seated-left}
 use Rattle.av_state.proofs.Numbering.{number_in-there, absent as absent_from}
@@ -43,30 +43,30 @@ module _ (states : List BlockState) (prints order : List ℕ) (slots : Slots) (i
       subst Q (sym high) (subst P (sym low) up)
 
   -- the number that is found is the state's
-  pub found : (place : ℕ) (d : ℕ) → place < length order → HoldsAt (λ n. compared prints states f s n ≡ Equal) order place → slice_get states (get_or order place d) ≡ Some s
-  found place d h equal =
-      let n = get_or order place d in
-      let known = index.known place d h in
+  pub found : (rank : ℕ) (d : ℕ) → rank < length order → HoldsAt (λ n. compared prints states f s n ≡ Equal) order rank → slice_get states (get_or order rank d) ≡ Some s
+  found rank d h equal =
+      let n = get_or order rank d in
+      let known = index.known rank d h in
       slice_get-get_or states n air known ∙ ap Some (same_state (state_at states n) s (sym (compared-stands n known) ∙ equal d))
 
-  module _ (place : ℕ) (within : place ≤ length order) (parts : IsPartitionPoint (λ n. compared prints states f s n ≡ Less) (λ n. compared prints states f s n ≡ Greater) order place) where
-    below : AllWithin (λ n. stands states s n ≡ Less) order 0 place
+  module _ (rank : ℕ) (within : rank ≤ length order) (parts : IsPartitionPoint (λ n. compared prints states f s n ≡ Less) (λ n. compared prints states f s n ≡ Greater) order rank) where
+    below : AllWithin (λ n. stands states s n ≡ Less) order 0 rank
     below k d low high = sym (compared-stands (get_or order k d) (index.known k d (omega arith))) ∙ parts.0 k d low high
 
-    above : AllWithin (λ n. stands states s n ≡ Greater) order place (length order)
+    above : AllWithin (λ n. stands states s n ≡ Greater) order rank (length order)
     above k d low high = sym (compared-stands (get_or order k d) (index.known k d high)) ∙ parts.1 k d low high
 
-    -- where no number is found is the place of the state
-    pub placed : IsPlaceOf states s order place
-    placed = record { within = within; below = below; above = above }
+    -- where no number is found is the rank of the state
+    pub ranked : IsRankFor states s order rank
+    ranked = record { within = within; below = below; above = above }
 
-  module _ (place : ℕ) (p : IsPlaceOf states s order place) where
+  module _ (rank : ℕ) (p : IsRankFor states s order rank) where
     -- the state that is sought stands neither below nor above itself
     not_here : (n k d : ℕ) → slice_get states n ≡ Some s → k < length order → get_or order k d ≡ n → ⊥
     not_here n k d there h e =
         let same : stands states s (get_or order k d) ≡ Equal = ap (stands states s) e ∙ ap (λ t. state_cmp t s) (get_or_from_slice_get states n s air there) ∙ tied_itself state_total s in
         let within = p.within in
-        elim (cases_lt k place) [
+        elim (cases_lt k rank) [
           | inl less ↦ (let g : stands states s (get_or order k d) ≡ Less = p.below k d (omega arith) less in let no : Less ≡ Equal = sym g ∙ same in absurd cc)
           | inr not ↦ (let g : stands states s (get_or order k d) ≡ Greater = p.above k d not h in let no : Greater ≡ Equal = sym g ∙ same in absurd cc)
         ]
@@ -97,14 +97,14 @@ module _ (states : List BlockState) (prints order : List ℕ) (slots : Slots) (i
       absurd (omega (arith, low, e, h, few))))
 
   -- neither the slot's number nor one of the order is the state's
-  pub absent_in_both : (place : ℕ) → IsPlaceOf states s order place → slice_get states (told slots f) ≢ Some s → number_in states s ≡ None
-  absent_in_both place p other = absent (λ n there. (
+  pub absent_in_both : (rank : ℕ) → IsRankFor states s order rank → slice_get states (told slots f) ≢ Some s → number_in states s ≡ None
+  absent_in_both rank p other = absent (λ n there. (
       let h = slice_get_within states n s there in
-      index.seated.whole n (omega (arith, long, h)) (λ is. other (ap (slice_get states) (ap (told slots) (sym (print n there)) ∙ is) ∙ there)) (not_in_order place p n there)))
+      index.seated.whole n (omega (arith, long, h)) (λ is. other (ap (slice_get states) (ap (told slots) (sym (print n there)) ∙ is) ∙ there)) (not_in_order rank p n there)))
 
-  -- a state that has no number has no place with one
-  pub no_place : (place : ℕ) → number_in states s ≡ None → IsPlaceWith states s order place → ⊥
-  no_place place none p = absent_from states s none (get_or order place 0) (p.is 0)
+  -- a state that has no number has no rank with one
+  pub no_rank : (rank : ℕ) → number_in states s ≡ None → HasRank states s order rank → ⊥
+  no_rank rank none p = absent_from states s none (get_or order rank 0) (p.is 0)
 
 -- ---- one more state
 
@@ -182,8 +182,8 @@ module _ (states : List BlockState) (prints order : List ℕ) (slots : Slots) (i
     seated = seated-taken prints order slots new f shift index.seated (omega (arith, free, count)) (e ∙ ap (set slots.numbers.items (slot_of slots f)) (sym count));
   }
 
-  module _ (place : ℕ) (p : IsPlaceOf states s order place) where
-    not_below : AllWithin (λ n. is_lt (state_cmp (state_at more (length states)) (state_at more n)) ≡ false) order 0 place
+  module _ (rank : ℕ) (p : IsRankFor states s order rank) where
+    not_below : AllWithin (λ n. is_lt (state_cmp (state_at more (length states)) (state_at more n)) ≡ false) order 0 rank
     not_below k d low high =
         let n = get_or order k d in
         let here = p.within in
@@ -192,27 +192,27 @@ module _ (states : List BlockState) (prints order : List ℕ) (slots : Slots) (i
         ∙ ap (λ t. is_lt (state_cmp s t)) (old_state n (index.known k d (omega (arith, here))))
         ∙ ap is_lt (state_total.antisymm s (state_at states n) ∙ ap ordering_reverse less)
 
-    not_above : AllWithin (λ n. is_lt (state_cmp (state_at more n) (state_at more (length states))) ≡ false) order place (length order)
+    not_above : AllWithin (λ n. is_lt (state_cmp (state_at more n) (state_at more (length states))) ≡ false) order rank (length order)
     not_above k d low high =
         let n = get_or order k d in
         ap (λ t. is_lt (state_cmp t (state_at more (length states)))) (old_state n (index.known k d high))
         ∙ ap (λ t. is_lt (state_cmp (state_at states n) t)) new_state
         ∙ ap is_lt (p.above k d low high)
 
-    all_known : All (λ n. n < length more) (insert order place (length states))
-    all_known = All-permutation (λ n. n < length more) (length states ∷ order) (insert order place (length states)) (IsPermutation-insert order place (length states)) (All-cons (λ n. n < length more) (length states) order (omega (arith, length_more)) still_known)
+    all_known : All (λ n. n < length more) (insert order rank (length states))
+    all_known = All-permutation (λ n. n < length more) (length states ∷ order) (insert order rank (length states)) (IsPermutation-insert order rank (length states)) (All-cons (λ n. n < length more) (length states) order (omega (arith, length_more)) still_known)
 
     -- what the order with the number hasn't, it has neither
-    with_number : (n : ℕ) → All (λ m. m ≡ n → ⊥) (insert order place (length states)) → All (λ m. m ≡ n → ⊥) (length states ∷ order)
-    with_number n none = All-permutation (λ m. m ≡ n → ⊥) (insert order place (length states)) (length states ∷ order) (IsPermutation-sym (length states ∷ order) (insert order place (length states)) (IsPermutation-insert order place (length states))) none
+    with_number : (n : ℕ) → All (λ m. m ≡ n → ⊥) (insert order rank (length states)) → All (λ m. m ≡ n → ⊥) (length states ∷ order)
+    with_number n none = All-permutation (λ m. m ≡ n → ⊥) (insert order rank (length states)) (length states ∷ order) (IsPermutation-sym (length states ∷ order) (insert order rank (length states)) (IsPermutation-insert order rank (length states))) none
 
-    -- with the state at the end and its number at its place
-    pub finds-left : (f : ℕ) (new : Slots) → f ≡ fingerprint_of s → new.shift ≡ slots.shift → told slots f ≤ length states → new.numbers.items ≡ slots.numbers.items → FindsStates more (prints ++ f ∷ []) new (insert order place (length states))
+    -- with the state at the end and its number at its rank
+    pub finds-left : (f : ℕ) (new : Slots) → f ≡ fingerprint_of s → new.shift ≡ slots.shift → told slots f ≤ length states → new.numbers.items ≡ slots.numbers.items → FindsStates more (prints ++ f ∷ []) new (insert order rank (length states))
     finds-left f new hash shift low e = record {
       prints = more_prints f hash;
-      rising = insert-sorted (λ m n. is_lt (state_cmp (state_at more m) (state_at more n))) order place (length states) p.within still_rising not_below not_above;
+      rising = insert-sorted (λ m n. is_lt (state_cmp (state_at more m) (state_at more n))) order rank (length states) p.within still_rising not_below not_above;
       known = all_known;
-      seated = seated-left prints order slots new f shift index.seated (insert order place (length states)) (omega (arith, low, count)) e
+      seated = seated-left prints order slots new f shift index.seated (insert order rank (length states)) (omega (arith, low, count)) e
           (λ n none. All-tail (λ m. m ≡ n → ⊥) (length states) order (with_number n none))
           (λ none. with_number (length prints) none 0 0 (omega arith) (sym count));
     }

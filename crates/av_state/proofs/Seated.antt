@@ -117,7 +117,7 @@ module _ (prints order : List ℕ) (old new : Slots) (f : ℕ) (shift : new.shif
 
 -- ---- twice as many slots
 
--- half of a place among twice as many is the place
+-- half of an index among twice as many is the index
 halved : (f shift : ℕ) → f / 2 ^ (shift + 1) ≡ f / 2 ^ shift / 2
 halved f shift = ap (λ k. f / k) (pow-add 2 shift 1) ∙ sym (div-div-eq-div-mul f (2 ^ shift) 2)
 

@@ -87,12 +87,12 @@ abbrev pub value_of : List ℕ → List Property → Option (List ℕ)
 value_of k [] = None
 value_of k (p ∷ ps) = if bytes_eq k p.key then Some p.value else value_of k ps
 
--- the place of the first that passes
+-- the index of the first that passes
 abbrev pub index_where : {A : Type 0} → (A → Bool) → List A → Option ℕ
 index_where p [] = None
 index_where p (x ∷ xs) = if p x then Some 0 else option_map suc (index_where p xs)
 
--- the place of a text among texts
+-- the index of a text among texts
 abbrev pub index_in : List ℕ → List (List ℕ) → Option ℕ
 index_in s texts = index_where (bytes_eq s) texts
 

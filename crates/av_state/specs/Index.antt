@@ -72,16 +72,16 @@ matched (Some g) (Some t) f s = ordering_then (nat_cmp g f) (texts_cmp t s)
 abbrev pub compared : List ℕ → List BlockState → ℕ → BlockState → ℕ → Ordering
 compared fingerprints states f s n = matched (slice_get fingerprints n) (slice_get states n) f s
 
--- at this place of the order stands the number of a state
-pub record IsPlaceWith (states : List BlockState) (s : BlockState) (order : List ℕ) (place : ℕ) : Type 0 where
-  pub within : place < length order
-  pub is : (d : ℕ) → slice_get states (get_or order place d) ≡ Some s
+-- at this rank of the order stands the number of a state
+pub record HasRank (states : List BlockState) (s : BlockState) (order : List ℕ) (rank : ℕ) : Type 0 where
+  pub within : rank < length order
+  pub is : (d : ℕ) → slice_get states (get_or order rank d) ≡ Some s
 
--- a state whose number is not in the order would stand at this place
-pub record IsPlaceOf (states : List BlockState) (s : BlockState) (order : List ℕ) (place : ℕ) : Type 0 where
-  pub within : place ≤ length order
-  pub below : AllWithin (λ n. stands states s n ≡ Less) order 0 place
-  pub above : AllWithin (λ n. stands states s n ≡ Greater) order place (length order)
+-- a state whose number is not in the order would stand at this rank
+pub record IsRankFor (states : List BlockState) (s : BlockState) (order : List ℕ) (rank : ℕ) : Type 0 where
+  pub within : rank ≤ length order
+  pub below : AllWithin (λ n. stands states s n ≡ Less) order 0 rank
+  pub above : AllWithin (λ n. stands states s n ≡ Greater) order rank (length order)
 
 -- ---- both
 

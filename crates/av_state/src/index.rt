@@ -4,7 +4,7 @@ ghost use Rattle.av_state.specs.States.{state_of};
 ghost use Rattle.av_state.specs.BlockState.{BlockState};
 ghost use Rattle.av_state.specs.StateList.{number_in, same_state, with_state};
 ghost use Rattle.av_state.specs.Order.{hash_of, fingerprint_of, texts_cmp};
-ghost use Rattle.av_state.specs.Index.{compared, FindsStates, IsIndex, IsPlaceOf, IsPlaceWith};
+ghost use Rattle.av_state.specs.Index.{compared, FindsStates, IsIndex, IsRankFor, HasRank};
 
 use crate::slots::{FREE, Slots};
 use crate::state::State;
@@ -96,14 +96,14 @@ impl Index {
         if has_number(states, first, sought) {
             return Some(first);
         }
-        match self.place(states, fingerprint, sought) {
-            Ok(place) => Some(self.order[place]),
+        match self.rank(states, fingerprint, sought) {
+            Ok(rank) => Some(self.order[rank]),
             Err(_) => None,
         }
     }
 
-    /// The place of a state in the order, or where it would stand.
-    fn place<T: Sought>(
+    /// The rank of a state in the order, or the one that it would have.
+    fn rank<T: Sought>(
         &self,
         states: &[State],
         fingerprint: u64,
@@ -111,8 +111,8 @@ impl Index {
     ) -> Result<usize, usize>
         requires index { IsIndex (map state_of states.now) self.now }
         requires fingerprint { fingerprint ≡ fingerprint_of (T.sought sought.now) }
-        ensures { MatchResult result (IsPlaceWith (map state_of states.now)
-            (T.sought sought.now) self.now.order.items) (IsPlaceOf (map state_of states.now)
+        ensures { MatchResult result (HasRank (map state_of states.now)
+            (T.sought sought.now) self.now.order.items) (IsRankFor (map state_of states.now)
             (T.sought sought.now) self.now.order.items) }
     {
         self.order.as_slice().binary_search_by(|number| {
@@ -131,8 +131,8 @@ impl Index {
         ensures { result ≡ compared self.now.fingerprints.items
             (map state_of states.now) fingerprint (T.sought sought.now) number }
     {
-        let place = number as usize;
-        match (self.fingerprints.get(place), states.get(place)) {
+        let rank = number as usize;
+        match (self.fingerprints.get(rank), states.get(rank)) {
             (Some(known), Some(state)) => {
                 if *known == fingerprint {
                     sought.order_of(state)
@@ -165,7 +165,7 @@ impl Index {
         Ok(())
     }
 
-    /// Lets a slot tell the number of a new state, or puts it at its place of the order.
+    /// Lets a slot tell the number of a new state, or puts it at its rank of the order.
     fn seat(&mut self, states: &[State], state: &State, fingerprint: u64) -> Result<(), AllocError>
         requires index { IsIndex (map state_of states.now) self.old }
         requires fingerprint { fingerprint ≡ fingerprint_of (state_of state.now) }
@@ -180,9 +180,9 @@ impl Index {
         if self.slots.take(fingerprint, number) {
             return Ok(());
         }
-        match self.place(states, fingerprint, state) {
+        match self.rank(states, fingerprint, state) {
             Ok(_) => Ok(()),
-            Err(place) => Ok(self.order.insert(place, number)?),
+            Err(rank) => Ok(self.order.insert(rank, number)?),
         }
     }
 

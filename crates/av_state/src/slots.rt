@@ -43,8 +43,8 @@ impl Slots {
     pub(crate) fn told(&self, fingerprint: u64) -> u16
         ensures { result ≡ told self.now fingerprint }
     {
-        let place = (fingerprint >> self.shift) as usize;
-        match self.numbers.get(place) {
+        let slot = (fingerprint >> self.shift) as usize;
+        match self.numbers.get(slot) {
             Some(number) => *number,
             None => 0,
         }
@@ -58,8 +58,8 @@ impl Slots {
         if self.told(fingerprint) <= number {
             return false;
         }
-        let place = (fingerprint >> self.shift) as usize;
-        self.numbers[place] = number;
+        let slot = (fingerprint >> self.shift) as usize;
+        self.numbers[slot] = number;
         true
     }
 

@@ -321,7 +321,7 @@ fn is_storable(name: &[u8], properties: &[Property]) -> bool
     is_short(name) && are_short(properties) && keys_rise(properties)
 }
 
-/// The place of a text among texts.
+/// The index of a text among texts.
 fn index_in(text: &[u8], texts: &[&[u8]]) -> Option<usize>
     ensures { result ≡ index_in text.now (map (λ t. t.now) texts.now) }
 {

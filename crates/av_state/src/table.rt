@@ -85,7 +85,7 @@ impl StateTable {
         match state.form() {
             Form::Fixed(number) => Some(number),
             Form::NoLevel => None,
-            Form::Same => self.place(state),
+            Form::Same => self.find(state),
         }
     }
 
@@ -120,14 +120,14 @@ impl StateTable {
             return None;
         }
         match state.form() {
-            Form::Same => self.place(&state),
+            Form::Same => self.find(&state),
             Form::Fixed(known) => Some(known),
             Form::NoLevel => None,
         }
     }
 
     /// The number of a state as it is.
-    fn place<T: Sought>(&self, sought: &T) -> Option<u16>
+    fn find<T: Sought>(&self, sought: &T) -> Option<u16>
         ensures { result ≡ number_in (states self.now) (T.sought sought.now) }
     {
         self.index.find(self.states.as_slice(), sought)

@@ -1,7 +1,7 @@
 -- A list of region files, and its faults.
 use Rattle.std.specs.Prelude.{◌≡◌, ◌<◌, ◌≤◌, List, length, Bool, true, false}
 use Rattle.std.specs.List.{All}
-use Rattle.av_types.specs.Places.{IsInLimits}
+use Rattle.av_types.specs.Positions.{IsInLimits}
 use Rattle.av_types.specs.declared.fault.Fault.{Fault}
 use Rattle.av_types.specs.declared.fault.Fault.TheVariants.{BadCount, RegionRange, RepeatedRegion}
 use Rattle.av_region_files.specs.Regions.{region_order, repeats_a_region}

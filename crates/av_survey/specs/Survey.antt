@@ -1,10 +1,10 @@
 -- What is wrong with region files.
 use Rattle.std.specs.Prelude.{◌≡◌, ℕ, zero, suc, List, [], ◌∷◌, ◌++◌, Option, Some, None}
 use Rattle.av_types.specs.Faults.{fault_number}
-use Rattle.av_types.specs.Places.{chunk_at}
-use Rattle.av_types.specs.declared.place.ChunkPos.{ChunkPos}
-use Rattle.av_types.specs.declared.place.RegionPos.{RegionPos}
-use Rattle.av_types.specs.declared.place.Height.{Height}
+use Rattle.av_types.specs.Positions.{chunk_at}
+use Rattle.av_types.specs.declared.position.ChunkPos.{ChunkPos}
+use Rattle.av_types.specs.declared.position.RegionPos.{RegionPos}
+use Rattle.av_types.specs.declared.position.Height.{Height}
 use Rattle.av_types.specs.declared.fault.Fault.{Fault}
 use Rattle.av_types.specs.declared.fault.Fault.TheVariants.{ShortHeader, BadNbt}
 use Rattle.av_tags.specs.Nbt.{Document}
@@ -29,7 +29,7 @@ pub data IsGoodAlone (h : Height) (file : List ℕ) (c : ChunkPos) (index : ℕ)
   absent : IsAbsent file index → IsGoodAlone h file c index
   chunk : (payload : List ℕ) (d : Document) → Holds file index payload → SpellsDocument d payload → first_fault h c first_states (root_tags d) ≡ None → IsGoodAlone h file c index
 
--- the first fault of a place, or none
+-- the first fault at an index, or none
 abbrev pub IsFirstAt : Height → List ℕ → ChunkPos → ℕ → Option Fault → Type 0
 IsFirstAt h file c index None = IsGoodAlone h file c index
 IsFirstAt h file c index (Some e) = IsFaultAlone h file c index e

@@ -2,9 +2,9 @@
 #![tactic(auto)]
 
 pub mod counting;
+mod faults;
 pub mod finding;
 pub mod listing;
-mod places;
 pub mod surveying;
 
 pub use counting::count_chunks;

@@ -2,20 +2,20 @@
 ghost use Rattle.std.specs.Prelude.{◌≢◌, IfOk, IfErr};
 ghost use Rattle.std.specs.List.{All};
 ghost use Rattle.av_types.specs.declared.fault.Fault.TheVariants.{OutOfMemory};
-ghost use Rattle.av_types.specs.Places.{IsInLimits};
+ghost use Rattle.av_types.specs.Positions.{IsInLimits};
 ghost use Rattle.av_survey.specs.Listing.{IsListFault};
 ghost use Rattle.av_survey.specs.Survey.{FindsInAll, FindsInFile, FindsUpTo, IsSurvey};
 
+use crate::faults::fault_at;
 use crate::finding::Finding;
 use crate::listing::judged;
-use crate::places::fault_at;
 use av_region::{CHUNKS, Region};
 use av_region_files::RegionFile;
 use av_types::{Fault, Height, RegionPos};
 use std::alloc::{AllocError, Global};
 
 /// What is wrong with the chunks of a region, in the order of their indices.
-fn survey_places(
+fn survey_indices(
     alloc: Global,
     region: &Region<'_>,
     pos: RegionPos,
@@ -47,7 +47,7 @@ fn survey_file(alloc: Global, file: &RegionFile, height: Height) -> Result<Vec<F
             })?;
             Ok(found)
         }
-        Ok(region) => survey_places(alloc, &region, file.pos, height),
+        Ok(region) => survey_indices(alloc, &region, file.pos, height),
     }
 }
 

@@ -3,7 +3,7 @@ use Rattle.std.proofs.Common.{◌≡◌, ℕ, List, [], ◌∷◌, ◌++◌, Som
 use Rattle.std.specs.Prelude.{remove}
 use Rattle.std.proofs.Math.ListN.{get_or-map}
 use Rattle.std.proofs.lemmas.List.{map-set, map-append, take-map, drop-map}
-use Rattle.av_tags.specs.Place.{tag_of, IsWithTag, without, index_of_name}
+use Rattle.av_tags.specs.ByName.{tag_of, IsWithTag, without, index_of_name}
 use Rattle.av_tags.specs.View.{named_view, named_views}
 use Rattle.av_tags.specs.declared.tag.Named.{Named}
 use Rattle.av_tags.proofs.Names.{set_is_placed, tag_is_found, placed_last, without_found}

@@ -1,5 +1,5 @@
 pub mod TagTypes
 pub mod Nbt
 pub mod View
-pub mod Place
+pub mod ByName
 pub mod Shape

@@ -4,7 +4,7 @@ ghost use Rattle.std.specs.Option.{option_copied};
 ghost use Rattle.std.specs.Vec.{vec_capacity};
 ghost use Rattle.av_types.specs.declared.fault.Fault.TheVariants.{OutOfMemory};
 ghost use Rattle.av_tags.specs.View.{view, named_view, named_views};
-ghost use Rattle.av_tags.specs.Place.{tag_of, IsWithTag, without, index_of_name};
+ghost use Rattle.av_tags.specs.ByName.{tag_of, IsWithTag, without, index_of_name};
 
 use crate::tag::{Named, Tag};
 use av_types::Fault;
@@ -12,7 +12,7 @@ use std::mem;
 
 /// Where the first tag of a name stands.
 fn index_of(tags: &[Named], name: &[u8]) -> Option<usize>
-    ensures place { result ≡ index_of_name name.now (named_views tags.now) }
+    ensures index { result ≡ index_of_name name.now (named_views tags.now) }
     ensures bound { IfSome result (λ i. i < length tags.now) }
 {
     for (index, named) in tags.iter().enumerate() {
@@ -36,7 +36,7 @@ pub fn find<'a>(tags: &'a [Named], name: &[u8]) -> Option<&'a Tag>
 }
 
 /// Puts a tag where the first of its name stood, or last where there was none, and hands out the one that stood there.
-/// Refuses with `OutOfMemory` alone, and then the tags are as before. A tag that takes another's place takes no memory.
+/// Refuses with `OutOfMemory` alone, and then the tags are as before. A tag that stands where another stood takes no memory.
 pub fn exchange(tags: &mut Vec<Named>, named: Named) -> Result<Option<Tag>, Fault>
     ensures placed { OnOk result (IsWithTag (named_view named) (named_views tags.old.items)
         (named_views tags.new.items)) }
@@ -61,7 +61,7 @@ pub fn exchange(tags: &mut Vec<Named>, named: Named) -> Result<Option<Tag>, Faul
 }
 
 /// Puts a tag where the first of its name stood, or last where there was none.
-/// Refuses with `OutOfMemory` alone, and then the tags are as before. A tag that takes another's place takes no memory.
+/// Refuses with `OutOfMemory` alone, and then the tags are as before. A tag that stands where another stood takes no memory.
 pub fn put(tags: &mut Vec<Named>, named: Named) -> Result<(), Fault>
     ensures placed { OnOk result (IsWithTag (named_view named) (named_views tags.old.items)
         (named_views tags.new.items)) }

@@ -6,7 +6,7 @@ ghost use Rattle.av_cells.specs.Kinds.{kinds_of};
 ghost use Rattle.av_land.specs.Tick.{turned_all, without_due};
 ghost use Rattle.av_world.specs.Lands.{land_of};
 ghost use Rattle.av_world.specs.Views.{blocks};
-ghost use Rattle.av_serial.specs.Ready.{IsReady, IsSamePlace};
+ghost use Rattle.av_serial.specs.Ready.{IsReady, HasSameChunks};
 ghost use Rattle.av_groups.specs.Groups.{AreGroups};
 ghost use Rattle.av_lending.specs.Handed.{IsKeeperOf};
 ghost use Rattle.av_lending.specs.Plans.{IsFinished};
@@ -173,7 +173,7 @@ pub fn turn_in_groups<R: Threads + Wait + Sync>(
     ensures done { OnOk result (land_of world.new ≡ turned_all (kinds_of kinds.now) now entries.items
         (without_due now (land_of world.old))) }
     ensures ready { OnOk result (IsReady (kind_count kinds.now) world.new) }
-    ensures place { OnOk result (IsSamePlace world.old world.new) }
+    ensures chunks { OnOk result (HasSameChunks world.old world.new) }
 {
     let groups = cut(alloc, world, entries)?;
     let threads = workers.min(groups.groups.len()).max(1);

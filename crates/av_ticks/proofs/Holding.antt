@@ -4,10 +4,10 @@ use Rattle.std.specs.BTreeMap.{BTreeMap, get, is_at}
 use Rattle.std.specs.Map.{lookup}
 use Rattle.std.proofs.lemmas.Bool.{eqb-true}
 use Rattle.av_pack.specs.declared.places.PlaceSet.{PlaceSet}
-use Rattle.av_types.specs.Places.{section_of, place_of, same_pos}
-use Rattle.av_types.specs.declared.place.Pos.{Pos}
+use Rattle.av_types.specs.Positions.{section_of, place_of, same_pos}
+use Rattle.av_types.specs.declared.position.Pos.{Pos}
 use Rattle.av_types.proofs.Coordinates.{same_block}
-use Rattle.av_types.proofs.SamePlaces.{same_pos_is, same_pos_from}
+use Rattle.av_types.proofs.SamePositions.{same_pos_is, same_pos_from}
 use Rattle.av_ticks.specs.declared.positions.SectionKey.{SectionKey}
 use Rattle.av_ticks.specs.declared.positions.Positions.{Positions}
 use Rattle.av_ticks.specs.Marked.{key_of, key_cmp, is_marked, marked_in}

@@ -2,9 +2,9 @@
 use Rattle.std.proofs.Common.{◌≡◌, ℕ, ◌+◌, ◌<◌, length, take, get_or, Bool, true, false, ◌&&◌, ◌||◌, not, List, [], ◌∷◌, ◌++◌, filter, Result, Ok, Err, is_ok, refl, sym, ap, subst, ◌∙◌, cond, true≢false}
 use Rattle.std.proofs.lemmas.List.{take_more}
 use Rattle.std.specs.Result.{OnOk}
-use Rattle.av_types.specs.declared.place.Pos.{Pos}
+use Rattle.av_types.specs.declared.position.Pos.{Pos}
 use Rattle.av_types.specs.declared.tick.Entry.{Entry}
-use Rattle.av_types.proofs.SamePlaces.{same_pos_is}
+use Rattle.av_types.proofs.SamePositions.{same_pos_is}
 use Rattle.av_ticks.specs.Entries.{same_pos, is_pending, are_apart}
 use Rattle.av_ticks.proofs.Kept.{not_pending_kept}
 

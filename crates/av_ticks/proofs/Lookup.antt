@@ -1,7 +1,7 @@
 -- Positions that are apart.
 use Rattle.std.proofs.Common.{◌≡◌, Bool, true, false, List, [], ◌∷◌, ◌++◌, refl, sym, ◌∙◌, true≢false, cond}
-use Rattle.av_types.specs.declared.place.Pos.{Pos}
-use Rattle.av_types.proofs.SamePlaces.{same_pos-turned}
+use Rattle.av_types.specs.declared.position.Pos.{Pos}
+use Rattle.av_types.proofs.SamePositions.{same_pos-turned}
 use Rattle.av_types.specs.declared.tick.Entry.{Entry}
 use Rattle.av_ticks.specs.Entries.{same_pos, is_pending, are_apart}
 

@@ -4,8 +4,8 @@ use Rattle.std.specs.Int.{int_min}
 use Rattle.std.specs.List.{fold}
 use Rattle.std.specs.Ordering.{int_cmp, nat_cmp, ordering_then}
 use Rattle.std.specs.declared.cmp.Ordering.{Ordering}
-pub use Rattle.av_types.specs.Places.{same_pos}
-use Rattle.av_types.specs.declared.place.Pos.{Pos}
+pub use Rattle.av_types.specs.Positions.{same_pos}
+use Rattle.av_types.specs.declared.position.Pos.{Pos}
 use Rattle.av_types.specs.declared.tick.Entry.{Entry}
 use Rattle.av_types.specs.declared.tick.Made.{Made}
 

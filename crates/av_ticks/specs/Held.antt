@@ -1,8 +1,8 @@
 -- Working definitions: what a set of positions holds. No public clause cites them.
 use Rattle.std.specs.Prelude.{◌≡◌, Bool, List, Option}
 use Rattle.std.specs.Option.{ForSome}
-use Rattle.av_types.specs.Places.{place_of}
-use Rattle.av_types.specs.declared.place.Pos.{Pos}
+use Rattle.av_types.specs.Positions.{place_of}
+use Rattle.av_types.specs.declared.position.Pos.{Pos}
 use Rattle.av_types.specs.declared.tick.Entry.{Entry}
 use Rattle.av_ticks.specs.Entries.{is_pending}
 use Rattle.av_ticks.specs.Marked.{key_of, marked_in}

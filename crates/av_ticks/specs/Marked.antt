@@ -5,8 +5,8 @@ use Rattle.std.specs.Ordering.{int_cmp, ordering_then}
 use Rattle.std.specs.declared.cmp.Ordering.{Ordering}
 use Rattle.av_pack.specs.Places.{has_place}
 use Rattle.av_pack.specs.declared.places.PlaceSet.{PlaceSet}
-use Rattle.av_types.specs.Places.{section_of}
-use Rattle.av_types.specs.declared.place.Pos.{Pos}
+use Rattle.av_types.specs.Positions.{section_of}
+use Rattle.av_types.specs.declared.position.Pos.{Pos}
 use Rattle.av_ticks.specs.declared.positions.SectionKey.{SectionKey}
 
 -- the key of the section that a block lies in

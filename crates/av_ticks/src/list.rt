@@ -191,7 +191,7 @@ impl TickList {
     }
 
     /// The entries that are due in tick `now` or before it, by their time, then by their priority, the lower first,
-    /// then by their place in the list. They stay in it. Refuses with OutOfMemory alone, and of an empty list never.
+    /// then by their order in the list. They stay in it. Refuses with OutOfMemory alone, and of an empty list never.
     pub fn take_due(&self, now: u32) -> Result<Vec<Entry>, Fault>
         ensures ok { IfOk result (λ due. due.items
             ≡ ordered due_order (filter (is_due now) (entries self.now))) }

@@ -2,8 +2,8 @@
 //! whatever the positions are.
 ghost use Rattle.std.specs.Prelude.{ℕ, ◌≡◌, ◌==◌, ◌&&◌, ◌||◌, not, false, true, None, OnOk, OnErr};
 ghost use Rattle.std.specs.BTreeMap.{get, is_at};
-ghost use Rattle.av_types.specs.declared.place.Pos.{Pos};
-ghost use Rattle.av_types.specs.Places.{same_pos};
+ghost use Rattle.av_types.specs.declared.position.Pos.{Pos};
+ghost use Rattle.av_types.specs.Positions.{same_pos};
 ghost use Rattle.av_ticks.specs.declared.positions.SectionKey.{SectionKey};
 ghost use Rattle.av_ticks.specs.Marked.{key_of, key_cmp, marked_in};
 ghost use Rattle.av_ticks.specs.Held.{holds};

@@ -1,6 +1,6 @@
 //! Entries in order, with an index of their positions where they are many and are looked up.
 ghost use Rattle.std.specs.Prelude.{◌≡◌, ◌<◌, ◌≤◌, ◌+◌, ◌-◌, ◌&&◌, [], ◌∷◌, ◌++◌, List, int_le, filter, take, length, not, true, false, IsOk, IfOk, OnOk, is_ok, if◌then◌else◌, vec_capacity, vec_len};
-ghost use Rattle.av_types.specs.declared.place.Pos.{Pos};
+ghost use Rattle.av_types.specs.declared.position.Pos.{Pos};
 ghost use Rattle.av_types.specs.declared.tick.Entry.{Entry};
 ghost use Rattle.av_ticks.specs.Entries.{are_apart, is_due, is_pending, least_due, same_pos};
 ghost use Rattle.av_ticks.specs.Held.{holds, IsIndexOf};

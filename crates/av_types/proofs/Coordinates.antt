@@ -2,11 +2,11 @@
 use Rattle.std.proofs.Common.{◌≡◌, ◌∙◌, ℕ, ◌+◌, ◌*◌, ◌<◌, ◌/◌, ◌%◌, ℤ, pos, negsuc, ◌+ℤ◌, ◌*ℤ◌, ◌≤ℤ◌, refl, ap, sym, arith, ◌↔◌}
 use Rattle.std.proofs.lemmas.Int.{ints}
 use Rattle.av_types.specs.Division.{divided, remainder}
-use Rattle.av_types.specs.Places.{section_of, place_of, block_at, region_of, index_of, chunk_at, IsInLimits, IsChunkInLimits}
-use Rattle.av_types.specs.declared.place.Pos.{Pos}
-use Rattle.av_types.specs.declared.place.ChunkPos.{ChunkPos}
-use Rattle.av_types.specs.declared.place.SectionPos.{SectionPos}
-use Rattle.av_types.specs.declared.place.RegionPos.{RegionPos}
+use Rattle.av_types.specs.Positions.{section_of, place_of, block_at, region_of, index_of, chunk_at, IsInLimits, IsChunkInLimits}
+use Rattle.av_types.specs.declared.position.Pos.{Pos}
+use Rattle.av_types.specs.declared.position.ChunkPos.{ChunkPos}
+use Rattle.av_types.specs.declared.position.SectionPos.{SectionPos}
+use Rattle.av_types.specs.declared.position.RegionPos.{RegionPos}
 
 -- ---- division by 32
 

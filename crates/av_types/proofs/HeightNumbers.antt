@@ -1,7 +1,7 @@
 -- Heights are known from their two numbers.
 use Rattle.std.proofs.Common.{◌≡◌, ℕ, ◌≤◌, ℤ, pos, negsuc, ◌+ℤ◌, ◌≤ℤ◌, ap, subst}
 use Rattle.std.proofs.Props.{props}
-use Rattle.av_types.specs.declared.place.Height.{Height}
+use Rattle.av_types.specs.declared.position.Height.{Height}
 
 record Parts (m : ℤ) (n : ℕ) : Type 0 where
   lowest : negsuc 63 ≤ℤ m

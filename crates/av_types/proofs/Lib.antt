@@ -1,5 +1,5 @@
 pub mod Coordinates
-pub mod SamePlaces
+pub mod SamePositions
 pub mod HeightNumbers
 pub mod OrderLemmas
 pub mod Each

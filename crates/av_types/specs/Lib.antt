@@ -1,5 +1,5 @@
 pub mod Division
-pub mod Places
+pub mod Positions
 pub mod Water
 pub mod Faults
 pub mod Options

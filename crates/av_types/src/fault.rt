@@ -1,5 +1,5 @@
 //! The faults of input files, tables, edits and words, each with its number.
-use crate::place::ChunkPos;
+use crate::position::ChunkPos;
 use std::alloc::{AllocError, AllocFailed};
 use std::error::Error;
 use std::fmt;
@@ -32,7 +32,7 @@ pub enum Fault {
     OldLayout,
     /// 12: a tag that every chunk has is missing or of another kind, as a section's `Y` too, or a `Y` comes twice.
     BadChunk,
-    /// 13: a chunk stands at another chunk's place.
+    /// 13: a chunk tells another chunk's position.
     WrongPlace,
     /// 14: a section's palette has another shape.
     BadPalette,

@@ -1,11 +1,11 @@
 //! Laws of places and heights. These functions do nothing: each states a law by its contract.
 ghost use Rattle.std.specs.Prelude.{◌≡◌, ◌<◌, ◌↔◌, ℕ, IsTrue};
-ghost use Rattle.av_types.specs.declared.place.Pos.{Pos};
-ghost use Rattle.av_types.specs.declared.place.ChunkPos.{ChunkPos};
-ghost use Rattle.av_types.specs.declared.place.SectionPos.{SectionPos};
-ghost use Rattle.av_types.specs.declared.place.RegionPos.{RegionPos};
-ghost use Rattle.av_types.specs.declared.place.Height.{Height};
-ghost use Rattle.av_types.specs.Places.{section_of, place_of, block_at, region_of, index_of, chunk_at, IsInLimits, IsChunkInLimits, same_pos, same_chunk, same_section};
+ghost use Rattle.av_types.specs.declared.position.Pos.{Pos};
+ghost use Rattle.av_types.specs.declared.position.ChunkPos.{ChunkPos};
+ghost use Rattle.av_types.specs.declared.position.SectionPos.{SectionPos};
+ghost use Rattle.av_types.specs.declared.position.RegionPos.{RegionPos};
+ghost use Rattle.av_types.specs.declared.position.Height.{Height};
+ghost use Rattle.av_types.specs.Positions.{section_of, place_of, block_at, region_of, index_of, chunk_at, IsInLimits, IsChunkInLimits, same_pos, same_chunk, same_section};
 
 /// The chunk at an index of a region has that index, and lies in that region.
 pub fn chunk_at_has_its_index()

@@ -1,5 +1,5 @@
 //! Scheduled ticks (<https://minecraft.wiki/w/Tick#Scheduled_tick>). Times are in ticks of the game, 20 a second.
-use crate::place::Pos;
+use crate::position::Pos;
 
 /// A scheduled tick of water: a block that is to be turned.
 #[derive(Clone, Copy, Debug, Default, PartialEq, Eq)]
@@ -16,7 +16,7 @@ pub struct Entry {
 /// An entry that a turn has made.
 #[derive(Clone, Copy, Debug, Default, PartialEq, Eq)]
 pub struct Made {
-    /// The place of the turned entry in the tick.
+    /// The index of the turned entry among those that are due in the tick.
     pub maker: u64,
     /// Which of the entries that this turn made it is, counted from 0.
     pub number: u8,

@@ -1,7 +1,7 @@
 -- Turns whose loaded reaches do not meet.
 use Rattle.std.proofs.Common.{◌≡◌, ℕ, ℤ, pos, ◌+ℤ◌, ◌-ℤ◌, ◌≤ℤ◌, int_le, Bool, true, false, ◌⊎◌, inl, inr, IsTrue, refl, sym, ap, ◌∙◌, subst, arith}
 use Rattle.std.proofs.lemmas.Int.{ints}
-use Rattle.av_types.specs.declared.place.Pos.{Pos}
+use Rattle.av_types.specs.declared.position.Pos.{Pos}
 use Rattle.av_cells.specs.declared.kind.Kind.{Kind}
 use Rattle.av_cells.specs.Positions.{InReach}
 use Rattle.av_cells.specs.World.{World}

@@ -1,6 +1,6 @@
 -- The drop of a block is the one that is computed.
 use Rattle.std.proofs.Common.{◌≡◌, ℕ, ◌<◌, ◌≤◌, Option, Some, None, refl, ap, arith}
-use Rattle.av_types.specs.declared.place.Pos.{Pos}
+use Rattle.av_types.specs.declared.position.Pos.{Pos}
 use Rattle.av_cells.specs.declared.kind.Kind.{Kind}
 use Rattle.av_cells.specs.World.{World}
 use Rattle.av_cells.specs.Rule.{HasWalk, IsDrop, found_below}

@@ -1,7 +1,7 @@
 -- Room and preparation for the blocks that a turn sets.
 use Rattle.std.proofs.Common.{ℕ, ◌<◌, ◌≤◌, pos, ◌+ℤ◌, ◌-ℤ◌, ◌≤ℤ◌, List, arith}
 use Rattle.std.proofs.lemmas.Int.{ints}
-use Rattle.av_types.specs.declared.place.Pos.{Pos}
+use Rattle.av_types.specs.declared.position.Pos.{Pos}
 use Rattle.av_types.specs.declared.tick.Entry.{Entry}
 use Rattle.av_types.specs.declared.water.Direction.{Direction}
 use Rattle.av_types.specs.declared.water.Direction.TheVariants.{North, South, West, East}

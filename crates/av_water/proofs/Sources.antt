@@ -2,13 +2,13 @@
 use Rattle.std.proofs.Common.{◌≡◌, ℕ, ◌<◌, List, [], ◌∷◌, Bool, true, false, not, ◌&&◌, ◌||◌, cond, Some, None, refl, sym, ap, ◌∙◌, subst}
 use Rattle.std.proofs.lemmas.Bool.{or_parts}
 use Rattle.av_water.proofs.Chosen.{chosen_rank_below, ranked_is_way}
-use Rattle.av_types.specs.declared.place.Pos.{Pos}
+use Rattle.av_types.specs.declared.position.Pos.{Pos}
 use Rattle.av_types.specs.declared.water.Direction.{Direction}
 use Rattle.av_types.specs.declared.water.Direction.TheVariants.{North, South, West, East}
 use Rattle.av_types.specs.declared.water.Wet.{Wet}
 use Rattle.av_types.specs.declared.water.Wet.TheVariants.{Dry, Source, Flow, Falling}
 use Rattle.av_types.specs.Water.{is_wet, is_source}
-use Rattle.av_types.proofs.SamePlaces.{same_pos_is}
+use Rattle.av_types.proofs.SamePositions.{same_pos_is}
 use Rattle.av_cells.specs.declared.kind.Kind.{Kind}
 use Rattle.av_cells.specs.Positions.{step, below, around, same_pos}
 use Rattle.av_cells.specs.World.{World, with_number}

@@ -1,6 +1,6 @@
 -- Steps of a turn, one after another.
 use Rattle.std.proofs.Common.{◌≡◌, ℕ, ◌+◌, ◌≤◌, List, sym, ap, ◌∙◌, subst, arith}
-use Rattle.av_types.specs.declared.place.Pos.{Pos}
+use Rattle.av_types.specs.declared.position.Pos.{Pos}
 use Rattle.av_types.specs.declared.tick.Entry.{Entry}
 use Rattle.av_cells.specs.Positions.{ForAround, ForTurned, InReach}
 use Rattle.av_cells.specs.Turn.{Change, change}

@@ -1,12 +1,12 @@
 -- How wet a turn's block is after a block was set.
 use Rattle.std.proofs.Common.{◌≡◌, ℕ, ◌-◌, pos, ◌-ℤ◌, List, Bool, true, false, cond, refl, sym, ap, ◌∙◌, arith, IsTrue}
 use Rattle.std.proofs.lemmas.Int.{ints}
-use Rattle.av_types.specs.declared.place.Pos.{Pos}
+use Rattle.av_types.specs.declared.position.Pos.{Pos}
 use Rattle.av_types.specs.declared.tick.Entry.{Entry}
 use Rattle.av_types.specs.declared.water.Wet.{Wet}
 use Rattle.av_types.specs.declared.water.Wet.TheVariants.{Dry, Source, Flow, Falling}
 use Rattle.av_types.specs.Water.{IsProper}
-use Rattle.av_types.proofs.SamePlaces.{same_pos_is, same_pos-refl}
+use Rattle.av_types.proofs.SamePositions.{same_pos_is, same_pos-refl}
 use Rattle.av_rules.specs.declared.kinds.Kinds.{Kinds}
 use Rattle.av_rules.proofs.KindFacts.{are_kinds}
 use Rattle.av_cells.specs.declared.kind.Kind.{Kind}

@@ -1,6 +1,6 @@
 -- The directions to which a block spreads, in the rule's own words.
 use Rattle.std.specs.Prelude.{ℕ, Some, None, ◌≤◌, ◌⊎◌, IsTrue}
-use Rattle.av_types.specs.declared.place.Pos.{Pos}
+use Rattle.av_types.specs.declared.position.Pos.{Pos}
 use Rattle.av_types.specs.declared.water.Direction.{Direction}
 use Rattle.av_cells.specs.declared.kind.Kind.{Kind}
 use Rattle.av_cells.specs.Positions.{step}

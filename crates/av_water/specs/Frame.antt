@@ -1,7 +1,7 @@
 -- Worlds that agree on some blocks.
 use Rattle.std.specs.Prelude.{◌≡◌, ℕ, ◌+◌, pos, IsTrue}
 use Rattle.av_types.specs.declared.tick.Entry.{Entry}
-use Rattle.av_types.specs.declared.place.Pos.{Pos}
+use Rattle.av_types.specs.declared.position.Pos.{Pos}
 use Rattle.av_cells.specs.Positions.{InReach}
 use Rattle.av_cells.specs.World.{World}
 use Rattle.av_cells.specs.Turn.{Change, turn}

@@ -1,6 +1,6 @@
 -- Working definitions: what the steps of a turn need. No public clause cites them.
 use Rattle.std.specs.Prelude.{ℕ, ◌<◌, ◌≤◌, ◌+◌, List, length, IsTrue}
-use Rattle.av_types.specs.declared.place.Pos.{Pos}
+use Rattle.av_types.specs.declared.position.Pos.{Pos}
 use Rattle.av_types.specs.declared.tick.Entry.{Entry}
 use Rattle.av_cells.specs.Positions.{InReach, ForTurned}
 use Rattle.av_cells.specs.Rule.{HasKinds}

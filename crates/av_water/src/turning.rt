@@ -1,7 +1,7 @@
 //! The turn of a block.
 ghost use Rattle.std.specs.Prelude.{◌≡◌, ◌<◌, ◌≤◌, ℕ, [], IsTrue};
 ghost use Rattle.av_rules.specs.Kinds.{kind_count};
-ghost use Rattle.av_types.specs.declared.place.Pos.{Pos};
+ghost use Rattle.av_types.specs.declared.position.Pos.{Pos};
 ghost use Rattle.av_cells.specs.Kinds.{kinds_of};
 ghost use Rattle.av_cells.specs.Positions.{ForTurned, InReach, below};
 ghost use Rattle.av_cells.specs.Rule.{HasKinds, can_enter, wet_at};

@@ -9,7 +9,7 @@ use Rattle.clap.specs.declared.error.Error.{Error}
 use Rattle.clap.specs.declared.error.kind.ErrorKind.TheVariants.{OutOfMemory}
 use Rattle.clap.specs.Words.{App, HasKind, Row, Rule, Shape, Text, all_of, fault_of, first_of, kind_of, takes, new_app, new_rule, one_of, subcommand_of, with_rule, with_subcommand}
 use Rattle.clap.specs.declared.builder.value_parser.ValueParser.TheVariants.{Signed}
-use Rattle.av_types.specs.declared.place.Pos.{Pos}
+use Rattle.av_types.specs.declared.position.Pos.{Pos}
 use Rattle.av_words.specs.declared.command_line.commands.RunWords.{RunWords}
 use Rattle.av_words.specs.declared.command_line.commands.Words.{Words}
 use Rattle.av_words.specs.declared.command_line.commands.Words.TheVariants.{Block, Check, Map, Run, States}

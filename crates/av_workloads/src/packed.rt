@@ -82,19 +82,19 @@ fn ordered(alloc: Global, cells: &[u8], order: Order) -> Result<Vec<u8>, AllocEr
 }
 
 /// Where each state stands in a palette.
-fn places_in(palette: &[u8]) -> [u16; 256] {
-    let mut places = [0; 256];
-    for (place, state) in palette.iter().enumerate() {
-        places[usize::from(*state)] = (place % 4096) as u16;
+fn indices_in(palette: &[u8]) -> [u16; 256] {
+    let mut indices = [0; 256];
+    for (index, state) in palette.iter().enumerate() {
+        indices[usize::from(*state)] = (index % 4096) as u16;
     }
-    places
+    indices
 }
 
 fn indices_of(alloc: Global, cells: &[u8], palette: &[u8]) -> Result<Vec<u16>, AllocError> {
-    let places = places_in(palette);
+    let known = indices_in(palette);
     let mut indices = Vec::with_capacity(alloc, cells.len())?;
     for cell in cells {
-        indices.push(places[usize::from(*cell)])?;
+        indices.push(known[usize::from(*cell)])?;
     }
     Ok(indices)
 }

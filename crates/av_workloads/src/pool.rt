@@ -1,6 +1,6 @@
-//! Drawn sections of each kind, from which chunks are put together.
+//! Drawn sections of each scenery, from which chunks are put together.
 use crate::dice::Dice;
-use crate::sections::{Kind, section};
+use crate::sections::{Scenery, section};
 use std::alloc::{AllocError, Global};
 
 /// The tags `block_states` of drawn sections.
@@ -18,12 +18,12 @@ pub(crate) struct Pool {
 fn drawn(
     alloc: Global,
     dice: &mut Dice,
-    kind: Kind,
+    scenery: Scenery,
     count: u32,
 ) -> Result<Vec<Vec<u8>>, AllocError> {
     let mut all = Vec::new(alloc);
     for _ in 0..count {
-        all.push(section(alloc, dice, kind)?)?;
+        all.push(section(alloc, dice, scenery)?)?;
     }
     Ok(all)
 }
@@ -34,21 +34,21 @@ impl Pool {
         let mut dice = Dice::new(seed, 1);
         let dice = &mut dice;
         Ok(Pool {
-            deep: drawn(alloc, dice, Kind::Deep, 160)?,
-            stone: drawn(alloc, dice, Kind::Stone, 160)?,
-            surface: drawn(alloc, dice, Kind::Surface, 64)?,
-            village: drawn(alloc, dice, Kind::Village, 64)?,
-            lanterns: drawn(alloc, dice, Kind::Lanterns, 1)?,
-            lava: drawn(alloc, dice, Kind::LavaLake, 16)?,
-            crowns: drawn(alloc, dice, Kind::Crowns, 64)?,
+            deep: drawn(alloc, dice, Scenery::Deep, 160)?,
+            stone: drawn(alloc, dice, Scenery::Stone, 160)?,
+            surface: drawn(alloc, dice, Scenery::Surface, 64)?,
+            village: drawn(alloc, dice, Scenery::Village, 64)?,
+            lanterns: drawn(alloc, dice, Scenery::Lanterns, 1)?,
+            lava: drawn(alloc, dice, Scenery::LavaLake, 16)?,
+            crowns: drawn(alloc, dice, Scenery::Crowns, 64)?,
         })
     }
 }
 
 /// One of some sections.
 pub(crate) fn pick<'a>(sections: &'a [Vec<u8>], dice: &mut Dice) -> &'a [u8] {
-    let place = dice.roll() as usize % sections.len().max(1);
-    match sections.get(place) {
+    let index = dice.roll() as usize % sections.len().max(1);
+    match sections.get(index) {
         Some(section) => section.as_slice(),
         None => &[],
     }

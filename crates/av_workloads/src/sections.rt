@@ -1,4 +1,4 @@
-//! Sections of a landscape, by their kinds.
+//! Sections of a landscape, by what they show.
 use crate::cells::{Span, fill, filled, is, scatter, set, span_within};
 use crate::dice::Dice;
 use crate::packed::{Order, block_states};
@@ -10,7 +10,7 @@ use std::alloc::{AllocError, Global};
 
 /// What a section shows.
 #[derive(Clone, Copy)]
-pub(crate) enum Kind {
+pub(crate) enum Scenery {
     /// Deepslate with ores, caves, and lava at the bottom of some.
     Deep,
     /// Stone with ores and caves.
@@ -128,26 +128,26 @@ fn draw_crown(cells: &mut [u8], dice: &mut Dice) {
     fill(cells, trunk, LOG);
 }
 
-fn draw(cells: &mut [u8], dice: &mut Dice, kind: Kind) {
-    match kind {
-        Kind::Deep => draw_ground(cells, dice, DEEPSLATE, true),
-        Kind::Stone => draw_ground(cells, dice, STONE, false),
-        Kind::Surface => {
+fn draw(cells: &mut [u8], dice: &mut Dice, scenery: Scenery) {
+    match scenery {
+        Scenery::Deep => draw_ground(cells, dice, DEEPSLATE, true),
+        Scenery::Stone => draw_ground(cells, dice, STONE, false),
+        Scenery::Surface => {
             draw_hills(cells, dice);
         }
-        Kind::Village => {
+        Scenery::Village => {
             let lowest = draw_hills(cells, dice);
             furnish(cells, dice, lowest.wrapping_add(3));
         }
-        Kind::Lanterns => {
+        Scenery::Lanterns => {
             fill(cells, layer(0, 6), STONE);
             fill(cells, layer(6, 1), LANTERN);
         }
-        Kind::LavaLake => {
+        Scenery::LavaLake => {
             draw_hills(cells, dice);
             fill(cells, layer(5 + dice.below(3), 1), LAVA);
         }
-        Kind::Crowns => {
+        Scenery::Crowns => {
             for _ in 0..1 + dice.below(4) {
                 draw_crown(cells, dice);
             }
@@ -155,10 +155,10 @@ fn draw(cells: &mut [u8], dice: &mut Dice, kind: Kind) {
     }
 }
 
-fn ground_of(kind: Kind) -> u8 {
-    match kind {
-        Kind::Deep => DEEPSLATE,
-        Kind::Stone => STONE,
+fn ground_of(scenery: Scenery) -> u8 {
+    match scenery {
+        Scenery::Deep => DEEPSLATE,
+        Scenery::Stone => STONE,
         _ => AIR,
     }
 }
@@ -173,8 +173,12 @@ fn order(dice: &mut Dice) -> Order {
 }
 
 /// The tag `block_states` of a section.
-pub(crate) fn section(alloc: Global, dice: &mut Dice, kind: Kind) -> Result<Vec<u8>, AllocError> {
-    let mut cells = filled(alloc, ground_of(kind))?;
-    draw(cells.as_mut_slice(), dice, kind);
+pub(crate) fn section(
+    alloc: Global,
+    dice: &mut Dice,
+    scenery: Scenery,
+) -> Result<Vec<u8>, AllocError> {
+    let mut cells = filled(alloc, ground_of(scenery))?;
+    draw(cells.as_mut_slice(), dice, scenery);
     block_states(alloc, cells.as_slice(), order(dice))
 }

@@ -111,10 +111,10 @@ fn text_of(number: u8) -> &'static str {
     }
 }
 
-/// The two halves of bytes at the first place of a byte, without it; or all and nothing.
+/// The two halves of bytes where a byte is first, without it; or all and nothing.
 fn halves(text: &[u8], mark: u8) -> (&[u8], &[u8]) {
     match text.iter().position(|byte| *byte == mark) {
-        Some(place) if place < text.len() => (&text[..place], &text[place + 1..]),
+        Some(at) if at < text.len() => (&text[..at], &text[at + 1..]),
         _ => (text, &[]),
     }
 }

@@ -3,9 +3,9 @@ use Rattle.std.proofs.Common.{get_or, ◌≡◌, ℕ, ◌/◌, ◌<◌, ℤ, pos
 use Rattle.std.proofs.lemmas.Int.{ints}
 use Rattle.std.proofs.lemmas.Bool.{cases_eq}
 use Rattle.av_types.specs.Division.{divided}
-use Rattle.av_types.specs.Places.{section_of}
-use Rattle.av_types.specs.declared.place.Pos.{Pos}
-use Rattle.av_types.specs.declared.place.SectionPos.{SectionPos}
+use Rattle.av_types.specs.Positions.{section_of}
+use Rattle.av_types.specs.declared.position.Pos.{Pos}
+use Rattle.av_types.specs.declared.position.SectionPos.{SectionPos}
 use Rattle.av_cells.specs.Positions.{InReach, ForTurned, ForAround}
 use Rattle.av_types.specs.declared.water.Direction.{Direction}
 use Rattle.av_types.specs.declared.water.Direction.TheVariants.{North, South, West, East}

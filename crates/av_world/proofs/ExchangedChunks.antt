@@ -2,12 +2,12 @@
 use Rattle.std.proofs.Common.{length-set, ◌≡◌, ℕ, ◌<◌, Bool, true, false, cond, IsTrue, List, length, slice_get, slice_set, Option, Some, None, refl, sym, ap, subst, ◌∙◌, All}
 use Rattle.std.proofs.lemmas.Bool.{true≢false}
 use Rattle.std.proofs.lemmas.List.Elements.{All-set}
-use Rattle.av_types.specs.Places.{chunk_of, section_of, place_of, chunk_of_section}
-use Rattle.av_types.specs.declared.place.Pos.{Pos}
-use Rattle.av_types.specs.declared.place.ChunkPos.{ChunkPos}
-use Rattle.av_types.specs.declared.place.SectionPos.{SectionPos}
-use Rattle.av_types.specs.declared.place.Height.{Height}
-use Rattle.av_types.proofs.SamePlaces.{same_chunk_is, same_chunk_from}
+use Rattle.av_types.specs.Positions.{chunk_of, section_of, place_of, chunk_of_section}
+use Rattle.av_types.specs.declared.position.Pos.{Pos}
+use Rattle.av_types.specs.declared.position.ChunkPos.{ChunkPos}
+use Rattle.av_types.specs.declared.position.SectionPos.{SectionPos}
+use Rattle.av_types.specs.declared.position.Height.{Height}
+use Rattle.av_types.proofs.SamePositions.{same_chunk_is, same_chunk_from}
 use Rattle.av_ticks.specs.Entries.{is_pending}
 use Rattle.av_ticks.specs.Ticks.{entries}
 use Rattle.av_document.specs.Ticks.{lies_in}
@@ -81,7 +81,7 @@ module _ (h : Height) (ps : List ChunkPos) (cs : List Chunk) (i : ℕ) (c : Chun
         (subst (λ (g : Grid). IsTied (cells_of g) (with_list (lists_of ps cs) c (entries x.ticks))) (sym grid_exchanged) tied);
   }
 
--- a chunk of a world fits its place
+-- a chunk of a world fits its position
 pub chunk_fits : (w : World) (c : ChunkPos) (x : Chunk) → IsChunkOf w c x → IsNewChunk c w.height x
 chunk_fits w c x r =
     record {

@@ -4,11 +4,11 @@ use Rattle.std.proofs.lemmas.Bool.{cases_lt}
 use Rattle.std.specs.List.{AllPairs}
 use Rattle.std.proofs.lemmas.List.{take_more, get_or_default}
 use Rattle.std.proofs.lemmas.Option.{get_or_from_slice_get}
-use Rattle.av_types.specs.Places.{region_of, IsInLimits, chunk_of_section, section_of, is_section_of, section_index}
-use Rattle.av_types.specs.declared.place.ChunkPos.{ChunkPos}
-use Rattle.av_types.specs.declared.place.SectionPos.{SectionPos}
-use Rattle.av_types.specs.declared.place.Height.{Height}
-use Rattle.av_types.proofs.SamePlaces.{same_chunk_is}
+use Rattle.av_types.specs.Positions.{region_of, IsInLimits, chunk_of_section, section_of, is_section_of, section_index}
+use Rattle.av_types.specs.declared.position.ChunkPos.{ChunkPos}
+use Rattle.av_types.specs.declared.position.SectionPos.{SectionPos}
+use Rattle.av_types.specs.declared.position.Height.{Height}
+use Rattle.av_types.proofs.SamePositions.{same_chunk_is}
 use Rattle.av_ticks.specs.Ticks.{entries}
 use Rattle.av_document.specs.Ticks.{lies_in}
 use Rattle.av_section.specs.declared.section.Section.{Section}
@@ -111,7 +111,7 @@ module _ (old mid new lent more : World) (c : ChunkPos) (bare x : Chunk) (was : 
     broken_is = exchanged.broken_is ∙ was.broken_is;
   }
 
--- the place of a chunk that is there is in the limits
+-- the position of a chunk that is there is in the limits
 pub in_limits : (w : World) (c : ChunkPos) → slot (positions_of w) c < length (positions_of w) → IsInLimits (region_of c)
 in_limits w c l = subst (λ d. IsInLimits (region_of d)) (get_or_from_slice_get (positions_of w) (slot (positions_of w) c) c c (slot_there (positions_of w) c l)) (w.lawful.limits (slot (positions_of w) c) c l)
 

@@ -1,6 +1,6 @@
 -- Parts that come back.
 use Rattle.std.proofs.Common.{◌≡◌, ℕ, Bool, true, false, cond, IsTrue, Option, Some, None, refl, sym, ap, ◌∙◌, true≢false}
-use Rattle.av_types.specs.Places.{chunk_of, section_of, place_of}
+use Rattle.av_types.specs.Positions.{chunk_of, section_of, place_of}
 use Rattle.av_ticks.specs.Entries.{is_pending}
 use Rattle.av_cells.specs.Grid.{Filling, is_here, number_in, pending_in}
 use Rattle.av_world.specs.Mending.{MendUndoesCarve}

@@ -3,10 +3,10 @@ use Rattle.std.proofs.Common.{◌≡◌, ◌≢◌, ℕ, zero, suc, ◌+◌, ◌
 use Rattle.std.specs.List.{AllPairs}
 use Rattle.std.proofs.lemmas.Bool.{cases_eq}
 use Rattle.std.proofs.lemmas.List.{drop_more, drop_all, get_or_default}
-use Rattle.av_types.specs.Places.{section_of, place_of, chunk_of}
-use Rattle.av_types.specs.declared.place.Pos.{Pos}
-use Rattle.av_types.specs.declared.place.SectionPos.{SectionPos}
-use Rattle.av_types.proofs.SamePlaces.{same_section_is, same_section_from}
+use Rattle.av_types.specs.Positions.{section_of, place_of, chunk_of}
+use Rattle.av_types.specs.declared.position.Pos.{Pos}
+use Rattle.av_types.specs.declared.position.SectionPos.{SectionPos}
+use Rattle.av_types.proofs.SamePositions.{same_section_is, same_section_from}
 use Rattle.av_section.specs.declared.section.Section.{Section}
 use Rattle.av_ticks.specs.Entries.{is_pending}
 use Rattle.av_cells.specs.Positions.{same_section}

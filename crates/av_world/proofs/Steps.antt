@@ -1,14 +1,14 @@
 -- Steps that keep a world.
 use Rattle.std.proofs.Common.{◌<◌, ◌≤◌, ℕ, zero, suc, take, get_or, IsTrue, IsOk, is_ok, is_err, false, true≢false, List, length, refl, sym, ap, subst, ◌∙◌, arith, OnOk, Ok, Err, Result, Some, ◌≡◌, All}
 use Rattle.std.proofs.lemmas.List.Elements.{All-weaker}
-use Rattle.av_types.specs.Places.{section_of, chunk_of}
-use Rattle.av_types.specs.declared.place.Pos.{Pos}
-use Rattle.av_types.specs.declared.place.ChunkPos.{ChunkPos}
-use Rattle.av_types.specs.declared.place.SectionPos.{SectionPos}
+use Rattle.av_types.specs.Positions.{section_of, chunk_of}
+use Rattle.av_types.specs.declared.position.Pos.{Pos}
+use Rattle.av_types.specs.declared.position.ChunkPos.{ChunkPos}
+use Rattle.av_types.specs.declared.position.SectionPos.{SectionPos}
 use Rattle.av_cells.specs.Grid.{cells_of, is_here, Grid}
 use Rattle.av_world.specs.Index.{slot}
-use Rattle.av_world.specs.Near.{has_place}
-use Rattle.av_world.specs.Views.{site, room, IsWorldKept, IsSamePlaces, CanSetAt, blocks, grid}
+use Rattle.av_world.specs.Near.{is_world_section}
+use Rattle.av_world.specs.Views.{site, room, IsWorldKept, IsSameButBlocks, CanSetAt, blocks, grid}
 use Rattle.av_world.specs.Turned.{corners, HasRoomAt, HasChunkRoom, CanSetAll}
 use Rattle.av_world.specs.declared.worlds.World.{World}
 
@@ -55,7 +55,7 @@ not_refused r e P was ok = absurd (true≢false (sym ok ∙ ap is_ok was))
 -- where a block is loaded, its chunk is there
 pub chunk_there : (v w : World) (q : Pos) → IsWorldKept v w → IsTrue ((blocks v).loaded q) → slot w.positions.items (chunk_of q) < length w.positions.items
 chunk_there v w q k t =
-    (has_place w.height w.positions.items w.chunks.items w.lawful.parallel (section_of q) (subst (λ (g : Grid). IsTrue ((cells_of g).loaded q)) (sym k.grid_is) t)).chunk
+    (is_world_section w.height w.positions.items w.chunks.items w.lawful.parallel (section_of q) (subst (λ (g : Grid). IsTrue ((cells_of g).loaded q)) (sym k.grid_is) t)).chunk
 
 pub chunk_room_lasts : (v w : World) (n : ℕ) (p : Pos) → IsWorldKept v w → HasChunkRoom v n p → HasChunkRoom w n p
 chunk_room_lasts v w n p k h t =
@@ -89,11 +89,11 @@ corners_room w n p all (suc (suc (suc (suc (suc (suc (suc (suc i)))))))) d l = a
 pub loaded_later : (v w : World) (q : Pos) → IsWorldKept v w → IsTrue ((blocks v).loaded q) → IsTrue ((blocks w).loaded q)
 loaded_later v w q k t = subst (λ (g : Grid). IsTrue ((cells_of g).loaded q)) (sym k.grid_is) t
 
-pub IsSamePlaces-refl : (w : World) → IsSamePlaces w w
-IsSamePlaces-refl w = record { height = refl; positions = refl; broken = refl; lists_are = refl }
+pub IsSameButBlocks-refl : (w : World) → IsSameButBlocks w w
+IsSameButBlocks-refl w = record { height = refl; positions = refl; broken = refl; lists_are = refl }
 
-pub IsSamePlaces-trans : (u v w : World) → IsSamePlaces u v → IsSamePlaces v w → IsSamePlaces u w
-IsSamePlaces-trans u v w a b = record { height = b.height ∙ a.height; positions = b.positions ∙ a.positions; broken = b.broken ∙ a.broken; lists_are = b.lists_are ∙ a.lists_are }
+pub IsSameButBlocks-trans : (u v w : World) → IsSameButBlocks u v → IsSameButBlocks v w → IsSameButBlocks u w
+IsSameButBlocks-trans u v w a b = record { height = b.height ∙ a.height; positions = b.positions ∙ a.positions; broken = b.broken ∙ a.broken; lists_are = b.lists_are ∙ a.lists_are }
 
 pub site_kept : (v w : World) → IsWorldKept v w → site w ≡ site v
 site_kept v w k = λ i. record { height = Some (k.height i); chunks = (k.positions i).items; broken = k.broken i }

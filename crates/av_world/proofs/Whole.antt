@@ -1,12 +1,12 @@
 -- A world of which no section is out, as the definitions of a tick see it.
 use Rattle.std.proofs.Common.{◌≡◌, ℕ, Bool, ◌&&◌, IsTrue, Option, Some, None, refl, sym, ap, ◌∙◌}
-use Rattle.av_types.specs.Places.{chunk_of, section_of, place_of}
-use Rattle.av_types.specs.declared.place.Pos.{Pos}
+use Rattle.av_types.specs.Positions.{chunk_of, section_of, place_of}
+use Rattle.av_types.specs.declared.position.Pos.{Pos}
 use Rattle.av_ticks.specs.Entries.{is_pending}
 use Rattle.av_cells.specs.Grid.{Filling, is_here, pending_in}
 use Rattle.av_land.specs.Land as lands
 use Rattle.av_world.specs.Views.{blocks, lists, grid, site}
-use Rattle.av_types.specs.declared.place.Height.{Height}
+use Rattle.av_types.specs.declared.position.Height.{Height}
 use Rattle.av_cells.specs.World.{Site, Lists}
 use Rattle.av_world.specs.Lands.{land_of, IsUncarved}
 use Rattle.av_world.specs.declared.worlds.World.{World}

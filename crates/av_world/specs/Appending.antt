@@ -1,8 +1,8 @@
 -- Entries appended one after the other. Working definitions: no public clause cites them.
 use Rattle.std.specs.Prelude.{◌≡◌, ◌≤◌, ◌+◌, ℕ, true, false, IsTrue, nat_eq, if◌then◌else◌, List, [], ◌∷◌}
-use Rattle.av_types.specs.Places.{chunk_of}
-use Rattle.av_types.specs.declared.place.Pos.{Pos}
-use Rattle.av_types.specs.declared.place.ChunkPos.{ChunkPos}
+use Rattle.av_types.specs.Positions.{chunk_of}
+use Rattle.av_types.specs.declared.position.Pos.{Pos}
+use Rattle.av_types.specs.declared.position.ChunkPos.{ChunkPos}
 use Rattle.av_types.specs.declared.tick.Entry.{Entry}
 use Rattle.av_cells.specs.Positions.{same_chunk}
 use Rattle.av_cells.specs.World as cells

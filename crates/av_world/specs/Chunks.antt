@@ -1,8 +1,8 @@
 -- What a world has of one of its chunks.
 use Rattle.std.specs.Prelude.{◌≡◌, length}
-use Rattle.av_types.specs.Places.{chunk_of_section}
-use Rattle.av_types.specs.declared.place.ChunkPos.{ChunkPos}
-use Rattle.av_types.specs.declared.place.SectionPos.{SectionPos}
+use Rattle.av_types.specs.Positions.{chunk_of_section}
+use Rattle.av_types.specs.declared.position.ChunkPos.{ChunkPos}
+use Rattle.av_types.specs.declared.position.SectionPos.{SectionPos}
 use Rattle.av_ticks.specs.Ticks.{entries}
 use Rattle.av_chunk.specs.declared.chunk.Chunk.{Chunk}
 use Rattle.av_world.specs.Inserted.{chunk_grid}

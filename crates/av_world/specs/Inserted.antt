@@ -1,10 +1,10 @@
 -- A chunk put into a world.
 use Rattle.std.specs.Prelude.{◌≡◌, ℕ, ◌<◌, ◌≤◌, List, length, slice_index_or, insert, true, is_some, IsTrue, if◌then◌else◌}
 use Rattle.std.specs.List.{All}
-use Rattle.av_types.specs.Places.{chunk_of, section_of, place_of, chunk_of_section}
-use Rattle.av_types.specs.declared.place.Pos.{Pos}
-use Rattle.av_types.specs.declared.place.ChunkPos.{ChunkPos}
-use Rattle.av_types.specs.declared.place.Height.{Height}
+use Rattle.av_types.specs.Positions.{chunk_of, section_of, place_of, chunk_of_section}
+use Rattle.av_types.specs.declared.position.Pos.{Pos}
+use Rattle.av_types.specs.declared.position.ChunkPos.{ChunkPos}
+use Rattle.av_types.specs.declared.position.Height.{Height}
 use Rattle.av_types.specs.declared.tick.Entry.{Entry}
 use Rattle.av_ticks.specs.Entries.{is_pending}
 use Rattle.av_ticks.specs.Ticks.{entries}
@@ -25,7 +25,7 @@ pub record BelongsAt (ps : List ChunkPos) (c : ChunkPos) (i : ℕ) : Type 0 wher
 -- a list with one more position, where it belongs
 pub record Inserts (old : List ChunkPos) (c : ChunkPos) (new : List ChunkPos) : Type 0 where
   pub index : ℕ
-  pub place : BelongsAt old c index
+  pub belongs : BelongsAt old c index
   pub is : new ≡ insert old index c
 
 -- the sections of a chunk
@@ -42,7 +42,7 @@ with_list l c es d = if same_chunk c d then es else l d
 abbrev pub IsFull : Chunk → Type 0
 IsFull x = All (λ o. IsTrue (is_some o)) x.sections.items
 
--- A chunk for a place: as many sections as the height, its entries in it, and pending where there is an entry.
+-- A chunk for a position: as many sections as the height, its entries in it, and pending where there is an entry.
 pub record IsNewChunk (c : ChunkPos) (h : Height) (x : Chunk) : Type 0 where
   pub whole : length x.sections.items ≡ h.sections
   pub within : All (λ e. lies_in c h e.pos ≡ true) (entries x.ticks)

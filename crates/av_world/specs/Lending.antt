@@ -1,10 +1,10 @@
 -- Chunks that are lent out of a world, and taken back.
 use Rattle.std.specs.Prelude.{◌≡◌, None, [], if◌then◌else◌, length}
 use Rattle.std.specs.List.{All}
-use Rattle.av_types.specs.Places.{chunk_of_section}
-use Rattle.av_types.specs.declared.place.ChunkPos.{ChunkPos}
-use Rattle.av_types.specs.declared.place.SectionPos.{SectionPos}
-use Rattle.av_types.specs.declared.place.Height.{Height}
+use Rattle.av_types.specs.Positions.{chunk_of_section}
+use Rattle.av_types.specs.declared.position.ChunkPos.{ChunkPos}
+use Rattle.av_types.specs.declared.position.SectionPos.{SectionPos}
+use Rattle.av_types.specs.declared.position.Height.{Height}
 use Rattle.av_ticks.specs.Ticks.{entries}
 use Rattle.av_chunk.specs.declared.chunk.Chunk.{Chunk}
 use Rattle.av_land.specs.Land.{has_chunk}

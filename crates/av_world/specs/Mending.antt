@@ -1,6 +1,6 @@
 -- Parts that come back.
 use Rattle.std.specs.Prelude.{◌≡◌, Bool, if◌then◌else◌}
-use Rattle.av_types.specs.declared.place.SectionPos.{SectionPos}
+use Rattle.av_types.specs.declared.position.SectionPos.{SectionPos}
 use Rattle.av_cells.specs.World.{World, Lists}
 use Rattle.av_cells.specs.Grid.{Grid, cells_of, only, without}
 use Rattle.av_world.specs.Lawful.{IsTied}

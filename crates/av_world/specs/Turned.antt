@@ -1,7 +1,7 @@
 -- Where a turn reaches. Working definitions: no public clause cites them.
 use Rattle.std.specs.Prelude.{ℕ, ◌<◌, ◌≤◌, length, ◌+ℤ◌, ◌-ℤ◌, pos, List, [], ◌∷◌, All, IsTrue}
-use Rattle.av_types.specs.Places.{chunk_of, section_of}
-use Rattle.av_types.specs.declared.place.Pos.{Pos}
+use Rattle.av_types.specs.Positions.{chunk_of, section_of}
+use Rattle.av_types.specs.declared.position.Pos.{Pos}
 use Rattle.av_types.specs.declared.water.Direction.TheVariants.{North, South, West, East}
 use Rattle.av_cells.specs.Positions.{step, below}
 use Rattle.av_world.specs.Index.{slot}

@@ -1,8 +1,8 @@
 -- A world as sections, as blocks and as lists of entries.
 use Rattle.std.specs.Prelude.{◌≡◌, ◌≤◌, ℕ, Bool, List, Option, Some}
-use Rattle.av_types.specs.declared.place.ChunkPos.{ChunkPos}
-use Rattle.av_types.specs.declared.place.SectionPos.{SectionPos}
-use Rattle.av_types.specs.declared.place.Height.{Height}
+use Rattle.av_types.specs.declared.position.ChunkPos.{ChunkPos}
+use Rattle.av_types.specs.declared.position.SectionPos.{SectionPos}
+use Rattle.av_types.specs.declared.position.Height.{Height}
 use Rattle.av_section.specs.declared.section.Section.{Section}
 use Rattle.av_chunk.specs.declared.chunk.Chunk.{Chunk}
 use Rattle.av_cells.specs.World as cells
@@ -14,11 +14,11 @@ use Rattle.av_world.specs.declared.worlds.World.{World}
 abbrev pub height_of : World → Height
 height_of w = w.height
 
--- the places of the chunks that were inserted, in the order (z, x)
+-- the positions of the chunks that were inserted, in the order (z, x)
 abbrev pub positions_of : World → List ChunkPos
 positions_of w = w.positions.items
 
--- the chunks at these places
+-- the chunks at these positions
 abbrev pub chunks_of : World → List Chunk
 chunks_of w = w.chunks.items
 
@@ -57,8 +57,8 @@ pub record IsWorldKept (old new : World) : Type 0 where
   pub room_grows : (c : ChunkPos) → room old c ≤ room new c
   pub prepared : (s : SectionPos) (n : ℕ) → CanSetAt old s n → CanSetAt new s n
 
--- the same places of chunks, and the same lists
-pub record IsSamePlaces (old new : World) : Type 0 where
+-- all but the blocks: the same chunks in the same order, and the same lists
+pub record IsSameButBlocks (old new : World) : Type 0 where
   pub height : new.height ≡ old.height
   pub positions : new.positions ≡ old.positions
   pub broken : new.broken ≡ old.broken

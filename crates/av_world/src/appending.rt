@@ -2,8 +2,8 @@
 ghost use Rattle.std.specs.Prelude.{◌≡◌, ◌≤◌, ◌<◌, ◌+◌, ℕ, replicate, IsTrue, true, false, length, nat_eq, slice_index_or, OnOk, OnErr, IfOk, IfErr, All, if◌then◌else◌};
 ghost use Rattle.std.specs.List.{AllPairs};
 ghost use Rattle.av_types.specs.declared.fault.Fault.TheVariants.{OutOfMemory, Broken};
-ghost use Rattle.av_types.specs.declared.place.ChunkPos.{ChunkPos};
-ghost use Rattle.av_types.specs.Places.{chunk_of, chunk_of_section};
+ghost use Rattle.av_types.specs.declared.position.ChunkPos.{ChunkPos};
+ghost use Rattle.av_types.specs.Positions.{chunk_of, chunk_of_section};
 ghost use Rattle.av_cells.specs.Positions.{same_chunk, same_pos};
 ghost use Rattle.av_cells.specs.World.{with_entry_if, listed_if, listed_all};
 ghost use Rattle.av_world.specs.Appended.{entries_made, with_entries, with_listed};

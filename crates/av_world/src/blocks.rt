@@ -1,8 +1,8 @@
 //! The blocks of a world: read, set, and made to wait.
 ghost use Rattle.std.specs.Prelude.{◌≡◌, ◌≤◌, ◌<◌, ◌+◌, ℕ, IsTrue, true, false, if◌then◌else◌};
-ghost use Rattle.av_types.specs.declared.place.ChunkPos.{ChunkPos};
-ghost use Rattle.av_types.specs.declared.place.SectionPos.{SectionPos};
-ghost use Rattle.av_types.specs.Places.{chunk_of, section_of};
+ghost use Rattle.av_types.specs.declared.position.ChunkPos.{ChunkPos};
+ghost use Rattle.av_types.specs.declared.position.SectionPos.{SectionPos};
+ghost use Rattle.av_types.specs.Positions.{chunk_of, section_of};
 ghost use Rattle.av_cells.specs.Positions.{same_chunk};
 ghost use Rattle.av_cells.specs.World.{with_number, with_entry_if, listed_if};
 ghost use Rattle.av_world.specs.Near.{cells_near};

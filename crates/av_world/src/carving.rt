@@ -2,15 +2,15 @@
 ghost use Rattle.std.specs.Prelude.{◌≡◌, IsTrue, false, None, length, OnOk, OnErr, IfOk, IfErr, All, [], if◌then◌else◌};
 ghost use Rattle.std.specs.List.{AllPairs};
 ghost use Rattle.av_types.specs.declared.fault.Fault.TheVariants.{OutOfMemory, Broken};
-ghost use Rattle.av_types.specs.declared.place.SectionPos.{SectionPos};
+ghost use Rattle.av_types.specs.declared.position.SectionPos.{SectionPos};
 ghost use Rattle.av_cells.specs.Grid.{is_here, with_filling, among, only, without, over, cells_of};
 ghost use Rattle.av_cells.specs.Positions.{same_section};
 ghost use Rattle.av_world.specs.Lawful.{IsTied};
-ghost use Rattle.av_world.specs.OutOf.{IsPartOf, put_filling, mended, HasPlace};
+ghost use Rattle.av_world.specs.OutOf.{IsPartOf, put_filling, mended, IsWorldSection};
 ghost use Rattle.av_world.specs.ParcelViews.{kept_grid, aside, blocks as parcel_blocks, lists as parcel_lists};
 ghost use Rattle.av_world.specs.Parts.{part_grid, IsTiedIn};
 ghost use Rattle.av_world.specs.Sections.{filling_in};
-ghost use Rattle.av_world.specs.Views.{sections, grid, blocks, lists, height_of, positions_of, is_broken, IsSamePlaces, IsWorldKept};
+ghost use Rattle.av_world.specs.Views.{sections, grid, blocks, lists, height_of, positions_of, is_broken, IsSameButBlocks, IsWorldKept};
 
 use crate::chunks::{exchange_in, offset};
 use crate::finding::near_index;
@@ -38,11 +38,11 @@ impl World {
     /// Exchanges a section of a chunk that is there, which is then found at once. What comes in is pending exactly where
     /// the chunk's list has an entry.
     fn exchange(&mut self, at: SectionPos, section: Option<Section>) -> Option<Section>
-        requires place { HasPlace (height_of self.old) (positions_of self.old) at }
+        requires section { IsWorldSection (height_of self.old) (positions_of self.old) at }
         requires tied { IsTiedIn section at (lists self.old) }
         ensures changed { grid self.new ≡ with_filling (grid self.old) at (filling_in section) }
         ensures out { result ≡ sections self.old at }
-        ensures same { IsSamePlaces self.old self.new }
+        ensures same { IsSameButBlocks self.old self.new }
     {
         let chunk = self.slot_of(at);
         self.near[near_index(at.chunk())] = chunk;
@@ -62,7 +62,7 @@ impl World {
         ensures grid { grid self.new ≡ without (among at.now) (grid self.old) }
         ensures out { part_grid at.now result.items ≡ only (among at.now) (grid self.old) }
         ensures count { length result.items ≡ length at.now }
-        ensures same { IsSamePlaces self.old self.new }
+        ensures same { IsSameButBlocks self.old self.new }
     {
         for (index, at) in at.iter().enumerate() {
             slots[index] = self.exchange(*at, None);
@@ -70,28 +70,28 @@ impl World {
         slots
     }
 
-    /// Puts a section into its place, where it is there.
+    /// Puts a section where it belongs, if it is there.
     fn put_in(&mut self, at: SectionPos, slot: &mut Option<Section>)
-        requires place { IsTrue (is_here (filling_in slot.old))
-            → HasPlace (height_of self.old) (positions_of self.old) at }
+        requires section { IsTrue (is_here (filling_in slot.old))
+            → IsWorldSection (height_of self.old) (positions_of self.old) at }
         requires tied { IsTiedIn slot.old at (lists self.old) }
         ensures changed { grid self.new ≡ put_filling (grid self.old) at (filling_in slot.old) }
-        ensures same { IsSamePlaces self.old self.new }
+        ensures same { IsSameButBlocks self.old self.new }
     {
         if let Some(section) = slot.take() {
             self.exchange(at, Some(section));
         }
     }
 
-    /// Puts sections into their places, where they are there.
+    /// Puts sections where they belong, if they are there.
     fn put_back(&mut self, at: &[SectionPos], slots: &mut [Option<Section>])
-        requires places { (s : SectionPos) → IsTrue (is_here (part_grid at.now slots.old s))
-            → HasPlace (height_of self.old) (positions_of self.old) s }
+        requires sections { (s : SectionPos) → IsTrue (is_here (part_grid at.now slots.old s))
+            → IsWorldSection (height_of self.old) (positions_of self.old) s }
         requires tied { IsTied (cells_of (part_grid at.now slots.old)) (lists self.old) }
         requires distinct { AllPairs (λ s t. same_section t s ≡ false) at.now }
         requires count { length slots.old ≡ length at.now }
         ensures grid { grid self.new ≡ over (part_grid at.now slots.old) (grid self.old) }
-        ensures same { IsSamePlaces self.old self.new }
+        ensures same { IsSameButBlocks self.old self.new }
     {
         for (index, at) in at.iter().enumerate() {
             self.put_in(*at, &mut slots[index]);
@@ -113,7 +113,7 @@ impl World {
         ensures part { IfOk result (λ c. IsPartOf (height_of self.new) (positions_of self.new)
             (lists self.new) (parcel_blocks c) (parcel_lists c)) }
         ensures left { OnOk result (grid self.new ≡ without (among at.now) (grid self.old)) }
-        ensures same { IsSamePlaces self.old self.new }
+        ensures same { IsSameButBlocks self.old self.new }
         ensures unbroken { OnOk result (is_broken self.old ≡ false) }
         ensures unchanged { OnErr result (grid self.new ≡ grid self.old) }
         ensures kept { OnErr result (IsWorldKept self.old self.new) }
@@ -143,7 +143,7 @@ impl World {
         ensures grid { grid self.new ≡ over (kept_grid parcel) (grid self.old) }
         ensures blocks { blocks self.new ≡ mended (lists self.old) (parcel_blocks parcel)
             (blocks self.old) }
-        ensures same { IsSamePlaces self.old self.new }
+        ensures same { IsSameButBlocks self.old self.new }
     {
         let Parcel {
             positions,

@@ -1,6 +1,6 @@
 //! Changes of one section of a chunk.
 ghost use Rattle.std.specs.Prelude.{IsOk, ◌≡◌, ◌<◌, ◌≤◌, ◌+◌, ◌++◌, ◌∷◌, [], length, slice_index_or, slice_set, option_copied, Some, None, true, false, OnOk};
-ghost use Rattle.av_types.specs.Places.{is_section_of, place_of, section_index, is_block_of};
+ghost use Rattle.av_types.specs.Positions.{is_section_of, place_of, section_index, is_block_of};
 ghost use Rattle.av_section.specs.declared.section.Section.{Section};
 ghost use Rattle.av_ticks.specs.Entries.{is_pending};
 ghost use Rattle.av_ticks.specs.Ticks.{entries, room};

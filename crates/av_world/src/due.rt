@@ -2,7 +2,7 @@
 ghost use Rattle.std.specs.Prelude.{◌≡◌, ◌≤◌, ◌++◌, ◌||◌, ◌⊎◌, nat_eq, true, false, not, filter, OnOk, OnErr, IfOk, IfErr, if◌then◌else◌};
 ghost use Rattle.std.specs.List.{flat_map};
 ghost use Rattle.av_types.specs.declared.fault.Fault.TheVariants.{OutOfMemory, Broken};
-ghost use Rattle.av_types.specs.declared.place.SectionPos.{SectionPos};
+ghost use Rattle.av_types.specs.declared.position.SectionPos.{SectionPos};
 ghost use Rattle.av_ticks.specs.Entries.{is_due};
 ghost use Rattle.av_ticks.specs.Ticks.{entries};
 ghost use Rattle.av_land.specs.Tick.{due_entries, without_due};
@@ -140,7 +140,7 @@ impl World {
     }
 
     /// The entries that are due in tick `now` or before it, by their time, then by their priority, the lower first, then by chunk
-    /// (z, x) and by their place in the list. They stay in their lists.
+    /// (z, x) and by their order in the list. They stay in their lists.
     ///
     /// # Errors
     /// Where memory is refused.
@@ -176,7 +176,7 @@ impl World {
     }
 
     /// Takes the entries that are due in tick `now` or before it out of all lists, and returns them by their time, then
-    /// by their priority, the lower first, then by chunk (z, x) and by their place in the list. Their blocks are
+    /// by their priority, the lower first, then by chunk (z, x) and by their order in the list. Their blocks are
     /// pending no longer.
     ///
     /// # Errors

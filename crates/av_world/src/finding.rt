@@ -1,7 +1,7 @@
 //! Where chunks and sections are found.
 ghost use Rattle.std.specs.Prelude.{◌≡◌, ◌<◌, length, slice_get, option_copied, Some, IfSome, IfNone, true, false};
-ghost use Rattle.av_types.specs.Places.{chunk_of_section};
-ghost use Rattle.av_types.specs.declared.place.ChunkPos.{ChunkPos};
+ghost use Rattle.av_types.specs.Positions.{chunk_of_section};
+ghost use Rattle.av_types.specs.declared.position.ChunkPos.{ChunkPos};
 ghost use Rattle.av_land.specs.Land.{has_chunk};
 ghost use Rattle.av_world.specs.Chunks.{IsChunkOf};
 ghost use Rattle.av_world.specs.Index.{slot};

@@ -1,7 +1,7 @@
 //! Chunks that are lent out of a world, and taken back.
 ghost use Rattle.std.specs.Prelude.{◌≡◌, ◌<◌, ◌||◌, false, true, length, None, All, IfOk, OnOk};
 ghost use Rattle.std.specs.List.{AllPairs};
-ghost use Rattle.av_types.specs.declared.place.ChunkPos.{ChunkPos};
+ghost use Rattle.av_types.specs.declared.position.ChunkPos.{ChunkPos};
 ghost use Rattle.av_world.specs.declared.worlds.World.{World};
 ghost use Rattle.av_cells.specs.Positions.{same_chunk};
 ghost use Rattle.av_land.specs.Land.{has_chunk};

@@ -1,6 +1,6 @@
 //! What a parcel remembers of its look-ups.
 ghost use Rattle.std.specs.Prelude.{◌≡◌, ◌<◌, ℕ, List, All, false};
-ghost use Rattle.av_types.specs.declared.place.SectionPos.{SectionPos};
+ghost use Rattle.av_types.specs.declared.position.SectionPos.{SectionPos};
 ghost use Rattle.av_pack.specs.Places.{has_place};
 ghost use Rattle.av_world.specs.Parcels.{IsSectionInLimits, AreAbsent};
 

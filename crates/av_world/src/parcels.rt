@@ -2,7 +2,7 @@
 ghost use Rattle.std.specs.Prelude.{◌≡◌, ◌≤◌, ◌<◌, ◌+◌, ℕ, IsTrue, IsOk, true, false, length, option_copied, OnOk, All, [], ◌∷◌};
 ghost use Rattle.std.proofs.Props.{props};
 ghost use Rattle.av_ticks.specs.Ticks.{entries};
-ghost use Rattle.av_types.specs.declared.place.SectionPos.{SectionPos};
+ghost use Rattle.av_types.specs.declared.position.SectionPos.{SectionPos};
 ghost use Rattle.av_world.specs.Parcels.{IsParcel, AreAbsent, AreMarked};
 ghost use Rattle.av_world.specs.Parts.{index};
 
@@ -40,9 +40,9 @@ fn index(positions: &[SectionPos], at: SectionPos) -> usize
 }
 
 impl Parcel {
-    ghost use Rattle.av_types.specs.declared.place.Pos.{Pos};
-    ghost use Rattle.av_types.specs.declared.place.SectionPos.{SectionPos};
-    ghost use Rattle.av_types.specs.Places.{section_of};
+    ghost use Rattle.av_types.specs.declared.position.Pos.{Pos};
+    ghost use Rattle.av_types.specs.declared.position.SectionPos.{SectionPos};
+    ghost use Rattle.av_types.specs.Positions.{section_of};
     ghost use Rattle.av_cells.specs.Positions.{IsNearOrigin};
     ghost use Rattle.av_cells.specs.Grid.{is_here};
     ghost use Rattle.av_cells.specs.World.{with_number, with_entry_if, listed_if};
@@ -78,10 +78,10 @@ impl Parcel {
         requires { slot ≡ index self.old.positions.items section }
         ensures { IsParcelKept self.old self.new }
     {
-        let place = near_index(section);
-        self.notes.near[place] = slot;
+        let cell = near_index(section);
+        self.notes.near[cell] = slot;
         if slot == self.positions.len() {
-            self.notes.absent[place] = section;
+            self.notes.absent[cell] = section;
         }
     }
 
@@ -236,7 +236,7 @@ impl Parcel {
 }
 
 impl Cells for Parcel {
-    ghost use Rattle.av_types.specs.Places.{section_of};
+    ghost use Rattle.av_types.specs.Positions.{section_of};
     ghost use Rattle.av_world.specs.ParcelViews.{blocks, lists, room, site, CanSetAt};
     ghost use Rattle.av_world.specs.Parcels.{parcel_near};
 

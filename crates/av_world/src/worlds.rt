@@ -6,7 +6,7 @@ ghost use Rattle.av_ticks.specs.Ticks.{entries};
 ghost use Rattle.av_world.specs.Index.{IsRising};
 ghost use Rattle.av_world.specs.Lawful.{IsWorld};
 
-use crate::slots::{insert_at, place};
+use crate::slots::{insert_at, insertion_index};
 use av_chunk::Chunk;
 use av_types::{ChunkPos, Fault, Height};
 use std::alloc::Global;
@@ -28,9 +28,9 @@ pub struct World {
 }
 
 impl World {
-    ghost use Rattle.av_types.specs.declared.place.ChunkPos.{ChunkPos};
-    ghost use Rattle.av_types.specs.declared.place.SectionPos.{SectionPos};
-    ghost use Rattle.av_types.specs.Places.{region_of, IsInLimits};
+    ghost use Rattle.av_types.specs.declared.position.ChunkPos.{ChunkPos};
+    ghost use Rattle.av_types.specs.declared.position.SectionPos.{SectionPos};
+    ghost use Rattle.av_types.specs.Positions.{region_of, IsInLimits};
     ghost use Rattle.av_world.specs.Index.{slot};
     ghost use Rattle.av_world.specs.Inserted.{IsNewChunk, IsFull, Inserts, chunk_grid, with_chunk, with_list};
     ghost use Rattle.av_world.specs.Lands.{land_of, IsUncarved};
@@ -55,7 +55,7 @@ impl World {
         }
     }
 
-    /// Puts a chunk into the world, at a place within the limits where none is.
+    /// Puts a chunk into the world, at a position within the limits where none is.
     ///
     /// # Errors
     /// `OutOfMemory`. Then the world is as before, and the chunk is dropped.
@@ -77,7 +77,7 @@ impl World {
         ensures same_positions { OnErr result (positions_of self.new ≡ positions_of self.old) }
         ensures memory { IfErr result (λ e. e ≡ OutOfMemory) }
     {
-        let index = place(self.positions.as_slice(), at);
+        let index = insertion_index(self.positions.as_slice(), at);
         self.positions.reserve(1)?;
         self.chunks.reserve(1)?;
         insert_at(&mut self.positions, index, at);

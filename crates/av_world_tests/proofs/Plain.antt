@@ -1,11 +1,11 @@
 -- Flat chunks, and worlds of air, water and stone.
 use Rattle.std.proofs.Common.{◌≡◌, ℕ, zero, suc, ◌<◌, ◌≤◌, ◌==◌, ℤ, Bool, true, false, cond, IsTrue, is_some, List, [], ◌∷◌, get_or, Option, Some, None, refl, sym, ap, subst, ◌∙◌, All, arith, true≢false}
 use Rattle.std.proofs.lemmas.List.Elements.{All-tail, All-weaker}
-use Rattle.av_types.specs.Places.{chunk_of, section_of, place_of, is_section_of, section_index}
-use Rattle.av_types.specs.declared.place.Pos.{Pos}
-use Rattle.av_types.specs.declared.place.ChunkPos.{ChunkPos}
-use Rattle.av_types.specs.declared.place.SectionPos.{SectionPos}
-use Rattle.av_types.specs.declared.place.Height.{Height}
+use Rattle.av_types.specs.Positions.{chunk_of, section_of, place_of, is_section_of, section_index}
+use Rattle.av_types.specs.declared.position.Pos.{Pos}
+use Rattle.av_types.specs.declared.position.ChunkPos.{ChunkPos}
+use Rattle.av_types.specs.declared.position.SectionPos.{SectionPos}
+use Rattle.av_types.specs.declared.position.Height.{Height}
 use Rattle.av_types.specs.declared.tick.Entry.{Entry}
 use Rattle.av_types.proofs.Coordinates.{place_less}
 use Rattle.av_section.specs.Section as section

@@ -1,9 +1,9 @@
 -- A part of a world stays one while its blocks are set and entries are put aside.
 use Rattle.std.proofs.Common.{◌≡◌, ℕ, Bool, true, false, cond, not, IsTrue, List, [], ◌∷◌, ◌++◌, refl, sym, ap, subst, ◌∙◌}
 use Rattle.std.proofs.lemmas.Bool.{and_parts, not-true}
-use Rattle.av_types.specs.declared.place.Pos.{Pos}
-use Rattle.av_types.specs.declared.place.ChunkPos.{ChunkPos}
-use Rattle.av_types.specs.declared.place.Height.{Height}
+use Rattle.av_types.specs.declared.position.Pos.{Pos}
+use Rattle.av_types.specs.declared.position.ChunkPos.{ChunkPos}
+use Rattle.av_types.specs.declared.position.Height.{Height}
 use Rattle.av_types.specs.declared.tick.Entry.{Entry}
 use Rattle.av_types.specs.Water.{is_wet}
 use Rattle.av_cells.specs.declared.kind.Kind.{Kind}
@@ -49,7 +49,7 @@ module _ (h : Height) (ps : List ChunkPos) (l : Lists) where
   awake : (k : ℕ → Kind) (now : ℕ) (p : Pos) (n : ℕ) (b : World) (x : Lists) → IsPartOf h ps l b x
       → IsPartOf h ps l (set_awake k now p n (change b [])).world (listed_all x (set_awake k now p n (change b [])).made)
   unfolding set_awake
-  awake k now p n b x part = all_woken k now (around p) x (change (with_number b p n) []) (record { places = part.places; tied = part.tied; apart = part.apart })
+  awake k now p n b x part = all_woken k now (around p) x (change (with_number b p n) []) (record { inside = part.inside; tied = part.tied; apart = part.apart })
 
   pub stays_by_awake : (k : ℕ → Kind) (now : ℕ) (p : Pos) (n : ℕ) (b m w : World) (x y z : Lists) (es : List Entry) → m ≡ b → y ≡ x → change w es ≡ set_awake k now p n (change m []) → z ≡ listed_all y es
       → IsPartOf h ps l b x → IsPartOf h ps l w z

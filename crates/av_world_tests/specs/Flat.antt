@@ -1,13 +1,13 @@
 -- Flat chunks, and worlds of them.
 use Rattle.std.specs.Prelude.{◌≡◌, ℕ, ◌<◌, List, [], length, false, All, Option, Some, None}
-use Rattle.av_types.specs.declared.place.Height.{Height}
+use Rattle.av_types.specs.declared.position.Height.{Height}
 use Rattle.av_section.specs.Section.{number_at, is_pending}
 use Rattle.av_section.specs.declared.section.Section.{Section}
 use Rattle.av_ticks.specs.Ticks.{entries}
 use Rattle.av_chunk.specs.declared.chunk.Chunk.{Chunk}
 use Rattle.av_cells.specs.Rule.{HasKinds}
 use Rattle.av_cells.specs.World.{Lists}
-use Rattle.av_types.specs.declared.place.ChunkPos.{ChunkPos}
+use Rattle.av_types.specs.declared.position.ChunkPos.{ChunkPos}
 use Rattle.av_world.specs.OutOf.{IsPartOf}
 use Rattle.av_world.specs.ParcelViews.{blocks as parcel_blocks, lists as parcel_lists}
 use Rattle.av_world.specs.Views.{blocks}

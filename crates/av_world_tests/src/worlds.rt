@@ -1,9 +1,9 @@
 //! Flat worlds, with blocks and entries put into them, and parcels of them.
 ghost use Rattle.std.specs.Prelude.{◌≡◌, ◌<◌, IsTrue, false, All, IfOk, OnOk, length};
 ghost use Rattle.std.specs.List.{AllPairs};
-ghost use Rattle.av_types.specs.declared.place.SectionPos.{SectionPos};
-ghost use Rattle.av_types.specs.Places.{region_of};
-ghost use Rattle.av_types.specs.Places.{IsInLimits, same_pos, same_section};
+ghost use Rattle.av_types.specs.declared.position.SectionPos.{SectionPos};
+ghost use Rattle.av_types.specs.Positions.{region_of};
+ghost use Rattle.av_types.specs.Positions.{IsInLimits, same_pos, same_section};
 ghost use Rattle.av_cells.specs.Grid.{is_here};
 ghost use Rattle.av_cells.specs.Rule.{HasKinds};
 ghost use Rattle.av_world.specs.Index.{slot};

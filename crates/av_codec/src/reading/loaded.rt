@@ -19,14 +19,14 @@ pub(crate) fn assembled(
     tags: Vec<Named>,
     mut read: Sections,
     ticks: Ticks,
-    place: ChunkPos,
+    at: ChunkPos,
     height: Height,
 ) -> Reading
     requires { (d : Document) × (old : List BlockState) × (new : List BlockState)
-        × IsTakenApart place height d old new name.items tags.items read ticks }
+        × IsTakenApart at height d old new name.items tags.items read ticks }
     ensures { (d : Document) → (old new : List BlockState)
-        → IsTakenApart place height d old new name.items tags.items read ticks
-        → IsReading place height d old new result }
+        → IsTakenApart at height d old new name.items tags.items read ticks
+        → IsReading at height d old new result }
 {
     mark_pending(&mut read.sections, ticks.water.as_slice(), height);
     Reading::Full {
@@ -35,7 +35,7 @@ pub(crate) fn assembled(
             ticks: ticks.water,
         },
         rest: ChunkRest {
-            place,
+            pos: at,
             height,
             name,
             tags,

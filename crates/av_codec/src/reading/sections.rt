@@ -1,14 +1,14 @@
 //! The sections of a chunk, taken apart in the order of the file.
 ghost use Rattle.std.specs.Prelude.{◌≡◌, IfOk, IfErr, OnOk, IsSome, ◌<◌, ◌≢◌, length, true, false, option_map};
 ghost use Rattle.av_types.specs.declared.fault.Fault.TheVariants.{OutOfMemory};
-ghost use Rattle.av_types.specs.Places.{is_section_of};
-ghost use Rattle.av_tags.specs.Place.{tag_of, emptied, blank};
+ghost use Rattle.av_types.specs.Positions.{is_section_of};
+ghost use Rattle.av_tags.specs.ByName.{tag_of, emptied, blank};
 ghost use Rattle.av_tags.specs.Shape.{compound_of};
 ghost use Rattle.av_tags.specs.View.{view, views, named_view, named_views};
 ghost use Rattle.av_state.specs.Table.{states};
 ghost use Rattle.av_section.specs.Reading.{OnlyGrows};
 ghost use Rattle.av_document.specs.Chunk.{is_other, share_a_number};
-ghost use Rattle.av_codec.specs.SectionsRead.{AreStates, AreStatesRefused, IsSectionRead, IsSectionRefused, AreMissing, IsPartPlaced, FitsHeight, SlotFilled, AreFilled, AreFound, AreSectionsRead, AreRefusedBy};
+ghost use Rattle.av_codec.specs.SectionsRead.{AreStates, AreStatesRefused, IsSectionRead, IsSectionRefused, AreMissing, IsSplitAdded, FitsHeight, SlotFilled, AreFilled, AreFound, AreSectionsRead, AreRefusedBy};
 ghost use Rattle.av_chunk.specs.Rest.{opened};
 ghost use Rattle.av_codec.specs.Working.{checked_number, compound_in, tags_in, has_bad_number};
 
@@ -23,7 +23,7 @@ use std::alloc::{AllocError, Global};
 
 /// A section taken apart.
 #[derive(Drop)]
-pub(crate) enum Part {
+pub(crate) enum SplitSection {
     /// One in the height.
     Inside {
         y: i8,
@@ -34,20 +34,20 @@ pub(crate) enum Part {
     Outside(OutsideSection),
 }
 
-/// An empty place under a name.
+/// An empty tag of a name.
 fn blank(alloc: Global, name: &[u8]) -> Result<Named, AllocError>
     ensures { IfOk result (λ m. named_view m ≡ record { name = name.now; tag = blank }) }
 {
     Ok(Named::new(Vec::from_slice(alloc, name)?, Tag::byte(0)))
 }
 
-/// Leaves an empty place where the tag of a name stood, or last, and hands out the tag.
+/// Leaves an empty tag where the tag of a name stood, or last, and hands out the tag.
 pub(crate) fn emptied(
     alloc: Global,
     tags: &mut Vec<Named>,
     name: &[u8],
 ) -> Result<Option<Tag>, AllocError>
-    ensures place { OnOk result (named_views tags.new.items
+    ensures left { OnOk result (named_views tags.new.items
         ≡ emptied name.now (named_views tags.old.items)) }
     ensures taken { IfOk result (λ t. option_map view t
         ≡ tag_of name.now (named_views tags.old.items)) }
@@ -94,7 +94,7 @@ fn read_section<N: Numbering>(
     section: Tag,
     height: Height,
     numbering: &mut N,
-) -> Result<Part, Fault>
+) -> Result<SplitSection, Fault>
     requires { IsSome (checked_number height (compound_of (view section))) }
     ensures ok { IfOk result (IsSectionRead height (tags_in (view section)) (states (N.table numbering.old))
         (states (N.table numbering.new))) }
@@ -107,19 +107,19 @@ fn read_section<N: Numbering>(
     let mut tags = section.into_members().unwrap();
     let y = byte_at(&tags, b"Y").unwrap();
     if !is_inside(height, y) {
-        return Ok(Part::Outside(OutsideSection { y, tags }));
+        return Ok(SplitSection::Outside(OutsideSection { y, tags }));
     }
     let block_states = emptied(alloc, &mut tags, b"block_states")?;
     let _ = emptied(alloc, &mut tags, b"BlockLight")?;
     let (section, states) = read_states(alloc, block_states, numbering)?;
-    Ok(Part::Inside {
+    Ok(SplitSection::Inside {
         y,
         section,
         kept: SectionTags { tags, states },
     })
 }
 
-/// The sections of a chunk: those of the height by their places, with what they keep, and all others.
+/// The sections of a chunk: those of the height by their indices, with what they keep, and all others.
 #[derive(Drop)]
 pub(crate) struct Sections {
     pub(crate) sections: Vec<Option<Section>>,
@@ -146,19 +146,19 @@ impl Sections {
     }
 
     /// Puts a section where it belongs.
-    pub(crate) fn place(&mut self, part: Part, height: Height) -> Result<(), AllocError>
-        requires fits { FitsHeight height part }
+    pub(crate) fn add(&mut self, split: SplitSection, height: Height) -> Result<(), AllocError>
+        requires fits { FitsHeight height split }
         requires count { length self.old.sections.items ≡ height.sections }
         requires count_kept { length self.old.kept.items ≡ height.sections }
-        ensures { OnOk result (IsPartPlaced height part self.old self.new) }
+        ensures { OnOk result (IsSplitAdded height split self.old self.new) }
     {
-        match part {
-            Part::Inside { y, section, kept } => {
+        match split {
+            SplitSection::Inside { y, section, kept } => {
                 let index = section_index(height, i32::from(y));
                 self.sections[index] = Some(section);
                 self.kept[index] = Some(kept);
             }
-            Part::Outside(section) => self.outside.push(section)?,
+            SplitSection::Outside(section) => self.outside.push(section)?,
         }
         Ok(())
     }
@@ -205,7 +205,7 @@ fn find_sections<N: Numbering>(
     let mut refused = None;
     for section in sections {
         match read_section(alloc, section, height, numbering) {
-            Ok(part) => read.place(part, height)?,
+            Ok(split) => read.add(split, height)?,
             Err(fault) => refused = Some(lesser(refused, fault)),
         }
     }

@@ -1,6 +1,6 @@
 //! What every chunk has, and where it stands: what is looked at before anything is taken apart.
 ghost use Rattle.std.specs.Prelude.{◌≡◌, ◌<◌, [], Ok};
-ghost use Rattle.av_tags.specs.Place.{tag_of};
+ghost use Rattle.av_tags.specs.ByName.{tag_of};
 ghost use Rattle.av_tags.specs.Shape.{compound_of, compounds_of};
 ghost use Rattle.av_tags.specs.View.{view, views, named_views};
 ghost use Rattle.av_document.specs.Chunk.{is_other, is_bad_list, sections_of, is_full_name, is_bad_chunk, is_elsewhere};
@@ -103,12 +103,12 @@ fn is_bad_chunk(tags: &[Named], height: Height) -> bool
         || is_no_list_of_compounds(tags, b"fluid_ticks")
 }
 
-/// Whether a chunk is not at its place.
-fn is_elsewhere(tags: &[Named], place: ChunkPos) -> bool
-    ensures { result ≡ is_elsewhere place (named_views tags.now) }
+/// Whether a chunk is not at its position.
+fn is_elsewhere(tags: &[Named], at: ChunkPos) -> bool
+    ensures { result ≡ is_elsewhere at (named_views tags.now) }
 {
     match (int_at(tags, b"xPos"), int_at(tags, b"zPos")) {
-        (Some(x), Some(z)) => x != place.x || z != place.z,
+        (Some(x), Some(z)) => x != at.x || z != at.z,
         _ => true,
     }
 }
@@ -122,8 +122,8 @@ fn is_full(status: &[u8]) -> bool
 
 /// Whether a chunk is to be loaded, judged by all that is looked at before it is taken apart: `OldLayout`, `BadChunk`
 /// and `WrongPlace`, in this order.
-pub(crate) fn admitted(tags: &[Named], place: ChunkPos, height: Height) -> Result<bool, Fault>
-    ensures { result ≡ admitted height place (named_views tags.now) }
+pub(crate) fn admitted(tags: &[Named], at: ChunkPos, height: Height) -> Result<bool, Fault>
+    ensures { result ≡ admitted height at (named_views tags.now) }
 {
     if find(tags, b"Level").is_some() {
         return Err(Fault::OldLayout);
@@ -137,7 +137,7 @@ pub(crate) fn admitted(tags: &[Named], place: ChunkPos, height: Height) -> Resul
     if is_bad_chunk(tags, height) {
         return Err(Fault::BadChunk);
     }
-    if is_elsewhere(tags, place) {
+    if is_elsewhere(tags, at) {
         return Err(Fault::WrongPlace);
     }
     Ok(true)

@@ -13,10 +13,10 @@ use av_types::{ChunkPos, Entry, Fault, Height, Pos};
 use std::alloc::Global;
 
 /// Whether a block is one of the chunk.
-fn lies_in(place: ChunkPos, height: Height, pos: Pos) -> bool
-    ensures { result ≡ lies_in place height pos }
+fn lies_in(at: ChunkPos, height: Height, pos: Pos) -> bool
+    ensures { result ≡ lies_in at height pos }
 {
-    pos.chunk() == place && height.has_block(pos.y)
+    pos.chunk() == at && height.has_block(pos.y)
 }
 
 /// Whether a fluid is water.
@@ -56,15 +56,15 @@ fn water_entry(tags: &[Named]) -> Option<Entry>
 }
 
 /// Whether a tick has no fluid, or is water out of its chunk.
-fn is_bad(tags: &[Named], place: ChunkPos, height: Height) -> bool
-    ensures { result ≡ is_bad_tick place height (named_views tags.now) }
+fn is_bad(tags: &[Named], at: ChunkPos, height: Height) -> bool
+    ensures { result ≡ is_bad_tick at height (named_views tags.now) }
 {
     if text_at(tags, b"i").is_none() {
         return true;
     }
     match water_entry(tags) {
         None => false,
-        Some(entry) => !lies_in(place, height, entry.pos),
+        Some(entry) => !lies_in(at, height, entry.pos),
     }
 }
 
@@ -79,18 +79,18 @@ pub(crate) struct Ticks {
 pub(crate) fn read_ticks(
     alloc: Global,
     ticks: Vec<Tag>,
-    place: ChunkPos,
+    at: ChunkPos,
     height: Height,
 ) -> Result<Ticks, Fault>
     requires { has_other (views ticks.items) ≡ false }
-    ensures ok { IfOk result (AreTicks place height (opened (views ticks.items))) }
-    ensures err { IfErr result (AreBadTicks place height (opened (views ticks.items))) }
+    ensures ok { IfOk result (AreTicks at height (opened (views ticks.items))) }
+    ensures err { IfErr result (AreBadTicks at height (opened (views ticks.items))) }
 {
     let mut water = TickList::new(alloc);
     let mut foreign = Vec::new(alloc);
     for tick in ticks {
         let tags = tick.as_members().unwrap();
-        if is_bad(tags, place, height) {
+        if is_bad(tags, at, height) {
             return Err(Fault::BadTick);
         }
         match water_entry(tags) {

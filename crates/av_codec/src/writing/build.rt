@@ -2,7 +2,7 @@
 ghost use Rattle.std.specs.Prelude.{◌≡◌, [], ◌∷◌, ◌++◌, IfOk};
 ghost use Rattle.av_tags.specs.Nbt.{list, items_of};
 ghost use Rattle.av_tags.specs.declared.tag.TagType.TheVariants.{Compound};
-ghost use Rattle.av_tags.specs.Place.{with_tag};
+ghost use Rattle.av_tags.specs.ByName.{with_tag};
 ghost use Rattle.av_tags.specs.Shape.{compound_of, or_else};
 ghost use Rattle.av_tags.specs.View.{view, views, named_view, named_views};
 ghost use Rattle.av_document.specs.Layout.{compound_with};
@@ -18,7 +18,7 @@ pub(crate) fn named(alloc: Global, name: &[u8], tag: Tag) -> Result<Named, Alloc
 }
 
 /// A tag put where one of its name stood, or last where there was none.
-pub(crate) fn placed(
+pub(crate) fn tagged(
     alloc: Global,
     mut tags: Vec<Named>,
     name: &[u8],

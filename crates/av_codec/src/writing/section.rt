@@ -9,7 +9,7 @@ ghost use Rattle.av_document.specs.Layout.{data_tags, states_layout};
 ghost use Rattle.av_chunk.specs.Rest.{tags_of, missing, section_or_missing, found_outside};
 ghost use Rattle.av_codec.specs.WritingSteps.{section_with};
 
-use crate::writing::build::{appended, copied, joined, placed};
+use crate::writing::build::{appended, copied, joined, tagged};
 use av_chunk::{OutsideSection, SectionTags};
 use av_section::Section;
 use av_state::StateTable;
@@ -49,8 +49,8 @@ fn missing_section(alloc: Global, y: i8) -> Result<SectionTags, AllocError>
     ensures { IfOk result (λ kept. tags_of kept ≡ missing y) }
 {
     let tags = appended(alloc, Vec::new(alloc), b"Y", Tag::byte(y))?;
-    let tags = placed(alloc, tags, b"block_states", Tag::byte(0))?;
-    let tags = placed(alloc, tags, b"BlockLight", Tag::byte(0))?;
+    let tags = tagged(alloc, tags, b"block_states", Tag::byte(0))?;
+    let tags = tagged(alloc, tags, b"BlockLight", Tag::byte(0))?;
     Ok(SectionTags {
         tags,
         states: Vec::new(alloc),
@@ -91,9 +91,9 @@ pub(crate) fn section_tags(
         states: others,
     } = kept;
     let states = states_tag(alloc, section, table, others)?;
-    let tags = placed(alloc, tags, b"block_states", states)?;
+    let tags = tagged(alloc, tags, b"block_states", states)?;
     let light = Tag::byte_array(Vec::from_slice(alloc, light)?);
-    placed(alloc, tags, b"BlockLight", light)
+    tagged(alloc, tags, b"BlockLight", light)
 }
 
 /// The first kept section out of the height that has a number.

@@ -1,7 +1,7 @@
 //! The sections of a chunk, written.
 ghost use Rattle.std.specs.Prelude.{◌≡◌, ◌<◌, ◌++◌, true, map, option_map, None, slice_index_or, IfOk, OnOk};
 ghost use Rattle.std.specs.Option.{option_copied};
-ghost use Rattle.av_types.specs.Places.{is_section_of};
+ghost use Rattle.av_types.specs.Positions.{is_section_of};
 ghost use Rattle.av_tags.specs.View.{views, named_views};
 ghost use Rattle.av_document.specs.Layout.{compound_with, kept_section};
 ghost use Rattle.av_codec.specs.WritingSteps.{CanWriteSections, number_at, inside_layout, written_section, first_sections};
@@ -15,7 +15,7 @@ use av_tags::{Named, Tag};
 use av_types::Height;
 use std::alloc::{AllocError, Global};
 
-/// The number of a section, by its place among all that there can be.
+/// The number of a section, by its index among all that there can be.
 fn number_at(index: u16) -> i8
     requires { index < 256 }
     ensures { result ≡ number_at index }

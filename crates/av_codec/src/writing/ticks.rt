@@ -7,7 +7,7 @@ ghost use Rattle.av_tags.specs.View.{view, views, named_views};
 ghost use Rattle.av_document.specs.Layout.{compound_with, fluid_name, entry_layout};
 ghost use Rattle.av_document.specs.Law.{HasInts};
 ghost use Rattle.av_types.specs.Division.{divided};
-ghost use Rattle.av_types.specs.Places.{is_section_of};
+ghost use Rattle.av_types.specs.Positions.{is_section_of};
 ghost use Rattle.av_rules.specs.Kinds.{kind_count};
 ghost use Rattle.av_chunk.specs.Rest.{opened};
 ghost use Rattle.av_chunk.specs.Views.{number_in};

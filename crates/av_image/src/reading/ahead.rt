@@ -1,6 +1,6 @@
-//! Payloads of a region that several threads read before its places are read, each the next that none has taken.
+//! Payloads of a region that several threads read before its indices are read, each the next that none has taken.
 ghost use Rattle.std.specs.Prelude.{◌≡◌, ◌+◌, ◌<◌, ◌≤◌, length, slice_index_or, slice_set, None, IfOk, IfSome};
-ghost use Rattle.av_dealt.specs.Dealt.{AreInPlace, IsTaken};
+ghost use Rattle.av_dealt.specs.Dealt.{AreAtIndices, IsTaken};
 ghost use Rattle.av_region.specs.Region.{Holds};
 ghost use Rattle.av_state.specs.Table.{states};
 ghost use Rattle.av_codec.specs.Payload.{IsPayloadReading};
@@ -26,7 +26,7 @@ const FIRST_STATES: usize = 10;
 const BYTES_A_THREAD: usize = 1 << 15;
 
 /// What a payload is read as, where the table has all states of its chunk. None where it is to be refused too, or memory is
-/// refused: the place's reader finds why. A document is let go at once, so only those stand that threads are at.
+/// refused: the index's reader finds why. A document is let go at once, so only those stand that threads are at.
 fn known(
     alloc: Global,
     payload: &[u8],
@@ -47,9 +47,9 @@ fn known(
     }
 }
 
-/// The payload at a place of a batch, where there is one.
+/// The payload at an index of a batch, where there is one.
 fn payload_at<'a>(batch: &Batch<'a>, offset: usize) -> Option<&'a [u8]>
-    requires { offset < batch.now.extent.places }
+    requires { offset < batch.now.extent.count }
     ensures holds { IfSome result (λ payload. Holds batch.now.region.bytes.now
         (batch.now.first + offset) payload.now) }
     ensures small { IfSome result (λ payload. length payload.now ≤ 1044475) }
@@ -67,18 +67,18 @@ struct BatchReader<'a> {
     table: &'a StateTable,
 }
 
-/// Makes what the payload of each place is read as, where that is known.
+/// Makes what the payload of each index is read as, where that is known.
 impl<'a> Maker for BatchReader<'a> {
     type Thing = Reading;
 
     type Bench = ();
 
-    ghost places = { λ r. r.batch.now.extent.places };
+    ghost count = { λ r. r.batch.now.extent.count };
 
     ghost is_of = { λ r. IsMadeBy r.batch.now (states r.table.now) };
 
-    fn places(&self) -> usize {
-        self.batch.extent.places
+    fn count(&self) -> usize {
+        self.batch.extent.count
     }
 
     fn bench(&self) {}
@@ -86,13 +86,13 @@ impl<'a> Maker for BatchReader<'a> {
     fn make(
         &self,
         alloc: Global,
-        place: usize,
+        index: usize,
         _bench: &mut (),
     ) -> Result<Option<Reading>, AllocError> {
-        let Some(payload) = payload_at(self.batch, place) else {
+        let Some(payload) = payload_at(self.batch, index) else {
             return Ok(None);
         };
-        let at = self.batch.pos.chunk_at(self.batch.first + place);
+        let at = self.batch.pos.chunk_at(self.batch.first + index);
         Ok(known(alloc, payload, at, self.batch.height, self.table))
     }
 }
@@ -104,7 +104,7 @@ fn count_threads(rt: &(impl Threads + Sync), batch: &Batch<'_>) -> usize {
         .min(batch.extent.bytes / BYTES_A_THREAD)
 }
 
-/// What several threads read of the payloads of a batch, by the states that a table has. A place is empty where it has no payload,
+/// What several threads read of the payloads of a batch, by the states that a table has. There is none for an index without a payload,
 /// or one that has a state which the table has not or that is to be refused. No list is made where a second thread is not
 /// worth its start, as where there is one processor.
 pub(crate) fn read_ahead(
@@ -113,8 +113,8 @@ pub(crate) fn read_ahead(
     batch: &Batch<'_>,
     table: &StateTable,
 ) -> Result<Vec<Option<Reading>>, AllocError>
-    ensures { IfOk result (λ places. AreInPlace (IsMadeBy batch.now (states table.now))
-        places.items) }
+    ensures { IfOk result (λ readings. AreAtIndices (IsMadeBy batch.now (states table.now))
+        readings.items) }
 {
     let count = count_threads(rt, batch);
     if count < 2 || table.len() <= FIRST_STATES {
@@ -127,7 +127,7 @@ pub(crate) fn read_ahead(
         .with_min_len(1)
         .map(
             |_thread: usize| -> Result<Vec<Dealt<Reading>>, AllocError>
-                ensures { IsTaken reader.entry.batch.now.extent.places
+                ensures { IsTaken reader.entry.batch.now.extent.count
                     (IsMadeBy reader.entry.batch.now (states reader.entry.table.now)) result }
             { taken(alloc, &reader, &next) },
         )
@@ -136,12 +136,12 @@ pub(crate) fn read_ahead(
 }
 
 /// Takes what a list has at an index. Past its end there is nothing.
-pub(crate) fn take_at(places: &mut Vec<Option<Reading>>, index: usize) -> Option<Reading>
-    ensures taken { result ≡ slice_index_or places.old.items index None }
-    ensures left { places.new.items ≡ slice_set places.old.items index None }
+pub(crate) fn take_at(readings: &mut Vec<Option<Reading>>, index: usize) -> Option<Reading>
+    ensures taken { result ≡ slice_index_or readings.old.items index None }
+    ensures left { readings.new.items ≡ slice_set readings.old.items index None }
 {
-    if index >= places.len() {
+    if index >= readings.len() {
         return None;
     }
-    places[index].take()
+    readings[index].take()
 }

@@ -1,7 +1,7 @@
-//! Places of a region that are read together.
+//! Indices of a region that are read together.
 ghost use Rattle.std.specs.Prelude.{◌≡◌, ◌+◌, ◌<◌, ◌≤◌, ◌^◌, IfSome};
 ghost use Rattle.std.proofs.Props.{props};
-ghost use Rattle.av_types.specs.Places.{IsInLimits};
+ghost use Rattle.av_types.specs.Positions.{IsInLimits};
 
 use av_region::{CHUNKS, Region};
 use av_types::{Height, RegionPos};
@@ -13,14 +13,14 @@ const MOST_BYTES: usize = 1 << 20;
 /// How far a batch goes.
 #[derive(Clone, Copy)]
 pub(crate) struct Extent {
-    pub places: usize,
-    /// How many of the places have a payload.
+    pub count: usize,
+    /// How many of the indices have a payload.
     pub payloads: usize,
     /// How many bytes these have together.
     pub bytes: usize,
 }
 
-/// Places of a region that are read together, from an index on, as chunks of a height.
+/// Indices of a region that are read together, from an index on, as chunks of a height.
 #[derive(Clone, Copy)]
 pub(crate) struct Batch<'a> {
     pub region: Region<'a>,
@@ -29,17 +29,17 @@ pub(crate) struct Batch<'a> {
     pub first: usize,
     pub extent: Extent,
     pub ghost limits: { IsInLimits pos } by { Prim.hlevel props },
-    pub ghost within: { first + extent.places ≤ 1024 },
+    pub ghost within: { first + extent.count ≤ 1024 },
 }
 
 impl Extent {
-    /// With one place more, whose payload has so many bytes. One without a payload has none.
+    /// With one index more, whose payload has so many bytes. One without a payload has none.
     fn with(self, bytes: usize) -> Extent
-        requires places { self.places < 1024 }
-        requires payloads { self.payloads ≤ self.places }
+        requires count { self.count < 1024 }
+        requires payloads { self.payloads ≤ self.count }
         requires bytes { self.bytes + bytes < 2 ^ 32 }
-        ensures places { result.places ≡ self.places + 1 }
-        ensures payloads { result.payloads ≤ result.places }
+        ensures count { result.count ≡ self.count + 1 }
+        ensures payloads { result.payloads ≤ result.count }
         ensures bytes { result.bytes ≡ self.bytes + bytes }
     {
         let payloads = if bytes == 0 {
@@ -48,14 +48,14 @@ impl Extent {
             self.payloads + 1
         };
         Extent {
-            places: self.places + 1,
+            count: self.count + 1,
             payloads,
             bytes: self.bytes + bytes,
         }
     }
 }
 
-/// How many bytes the payload at an index has, 0 where there is no chunk. None where the place is refused.
+/// How many bytes the payload at an index has, 0 where there is no chunk. None where the index is refused.
 fn payload_bytes(region: &Region<'_>, index: usize) -> Option<usize>
     requires { index < 1024 }
     ensures { IfSome result (λ bytes. bytes ≤ 1044475) }
@@ -67,17 +67,17 @@ fn payload_bytes(region: &Region<'_>, index: usize) -> Option<usize>
     }
 }
 
-/// How far a batch goes that begins at an index: it ends before a place that is refused, since nothing behind one is wanted, and
-/// before the payload that would be too much. A place that is refused is a batch of its own.
+/// How far a batch goes that begins at an index: it ends before an index that is refused, since nothing behind one is wanted, and
+/// before the payload that would be too much. An index that is refused is a batch of its own.
 pub(crate) fn extent_from(region: &Region<'_>, first: usize) -> Extent
     requires { first < 1024 }
-    ensures some { 0 < result.places }
-    ensures within { first + result.places ≤ 1024 }
-    ensures payloads { result.payloads ≤ result.places }
+    ensures some { 0 < result.count }
+    ensures within { first + result.count ≤ 1024 }
+    ensures payloads { result.payloads ≤ result.count }
     ensures bytes { result.bytes ≤ 1048576 }
 {
     let mut extent = Extent {
-        places: 0,
+        count: 0,
         payloads: 0,
         bytes: 0,
     };
@@ -91,7 +91,7 @@ pub(crate) fn extent_from(region: &Region<'_>, first: usize) -> Extent
         extent = extent.with(bytes);
     }
     Extent {
-        places: extent.places.max(1),
+        count: extent.count.max(1),
         ..extent
     }
 }

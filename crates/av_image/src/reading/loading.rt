@@ -2,7 +2,7 @@
 ghost use Rattle.std.specs.Prelude.{◌≡◌, ◌≢◌, IfOk, IfErr, false, map, List};
 ghost use Rattle.std.specs.List.{All};
 ghost use Rattle.av_types.specs.declared.fault.Fault.TheVariants.{OutOfMemory};
-ghost use Rattle.av_types.specs.Places.{IsInLimits};
+ghost use Rattle.av_types.specs.Positions.{IsInLimits};
 ghost use Rattle.av_state.specs.BlockState.{BlockState};
 ghost use Rattle.av_state.specs.Table.{states};
 ghost use Rattle.av_section.specs.Reading.{OnlyGrows};
@@ -13,9 +13,9 @@ ghost use Rattle.av_files.specs.Layers.{IsLoadAfter};
 ghost use Rattle.av_world.specs.Lands.{land_of, IsUncarved};
 ghost use Rattle.av_world.specs.Views.{positions_of, is_broken};
 ghost use Rattle.av_image.specs.Views.{rest_in, file_in};
-ghost use Rattle.av_image.specs.Placed.{WereFilesRead, AreRegionsRead};
+ghost use Rattle.av_image.specs.RegionsRead.{WereFilesRead, AreRegionsRead};
 ghost use Rattle.av_image.specs.Saving.{IsRestOf};
-ghost use Rattle.av_image.specs.Loading.{placed_order, region_before, comes_after, AreFilesInOrder, IsRegionsFault};
+ghost use Rattle.av_image.specs.Loading.{positioned_order, region_before, comes_after, AreFilesInOrder, IsRegionsFault};
 
 use crate::reading::regions::{ReadRegion, read_regions};
 use crate::reading::splits::{LoadedChunk, split_regions, world_of};
@@ -39,7 +39,7 @@ fn files_in_order(files: Vec<RegionFile>) -> Result<Vec<RegionFile>, AllocError>
 
 /// The chunks by (z, x).
 fn chunks_in_order(found: Vec<LoadedChunk>) -> Result<Vec<LoadedChunk>, AllocError>
-    ensures { IfOk result (λ xs. xs.items ≡ ordered placed_order found.items) }
+    ensures { IfOk result (λ xs. xs.items ≡ ordered positioned_order found.items) }
 {
     let mut found = found;
     found.sort_by_key(|loaded| (loaded.at.z, loaded.at.x))?;

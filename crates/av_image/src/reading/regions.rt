@@ -1,20 +1,20 @@
-//! All places of region files, whose payloads several threads read ahead.
+//! All indices of region files, whose payloads several threads read ahead.
 ghost use Rattle.std.specs.Prelude.{◌≡◌, ◌≢◌, ◌+◌, ◌<◌, ◌^◌, IfOk, IfErr, OnOk, map};
 ghost use Rattle.std.specs.List.{All};
 ghost use Rattle.av_types.specs.declared.fault.Fault.TheVariants.{OutOfMemory};
-ghost use Rattle.av_types.specs.Places.{IsInLimits};
+ghost use Rattle.av_types.specs.Positions.{IsInLimits};
 ghost use Rattle.av_state.specs.Table.{states};
 ghost use Rattle.av_section.specs.Reading.{OnlyGrows};
-ghost use Rattle.av_dealt.specs.Dealt.{AreInPlace};
+ghost use Rattle.av_dealt.specs.Dealt.{AreAtIndices};
 ghost use Rattle.av_files.specs.Layout.{indices};
-ghost use Rattle.av_files.specs.FirstFault.{IsFirstOfPlaces, IsFirstOfFile, IsFirstOfFiles};
+ghost use Rattle.av_files.specs.FirstFault.{IsFirstOfIndices, IsFirstOfFile, IsFirstOfFiles};
 ghost use Rattle.av_image.specs.Ahead.{IsMadeBy};
-ghost use Rattle.av_image.specs.Placed.{ArePlacesRead, IsRegionRead, AreRegionsRead, file_of, are_stamps};
+ghost use Rattle.av_image.specs.RegionsRead.{AreIndicesRead, IsRegionRead, AreRegionsRead, file_of, are_stamps};
 ghost use Rattle.av_image.specs.Ways.{GoesOn, Stops};
 
 use crate::reading::ahead::{read_ahead, take_at};
 use crate::reading::batch::{Batch, extent_from};
-use crate::reading::places::{Place, read_place};
+use crate::reading::stored::{Stored, read_stored};
 use av_chunk::Reading;
 use av_region::{CHUNKS, Region};
 use av_region_files::RegionFile;
@@ -28,7 +28,7 @@ use std::thread::Threads;
 pub(crate) struct ReadRegion {
     pub(crate) pos: RegionPos,
     pub(crate) stamps: Vec<u32>,
-    pub(crate) places: Vec<Place>,
+    pub(crate) stored: Vec<Stored>,
 }
 
 /// All timestamps of a region.
@@ -43,26 +43,26 @@ pub(crate) fn read_stamps(alloc: Global, region: &Region<'_>) -> Result<Vec<u32>
     Ok(stamps)
 }
 
-/// Reads the places of a batch, behind those before it, but for those that were read ahead.
+/// Reads the indices of a batch, behind those before it, but for those that were read ahead.
 fn read_batch(
     alloc: Global,
     batch: &Batch<'_>,
     mut ahead: Vec<Option<Reading>>,
     table: &mut StateTable,
-    places: &mut Vec<Place>,
+    stored: &mut Vec<Stored>,
 ) -> Result<(), Fault>
-    requires ahead { AreInPlace (IsMadeBy batch.now (states table.old)) ahead.items }
+    requires ahead { AreAtIndices (IsMadeBy batch.now (states table.old)) ahead.items }
     ensures ok { OnOk result (GoesOn batch.now.height
         (file_of batch.now.pos batch.now.region.bytes.now)
-        (states table.old) batch.now.first places.old.items (states table.new)
-        (batch.now.first + batch.now.extent.places) places.new.items) }
+        (states table.old) batch.now.first stored.old.items (states table.new)
+        (batch.now.first + batch.now.extent.count) stored.new.items) }
     ensures err { IfErr result (λ e. e ≢ OutOfMemory
         → Stops batch.now.height (file_of batch.now.pos batch.now.region.bytes.now)
-        (states table.old) batch.now.first places.old.items e) }
+        (states table.old) batch.now.first stored.old.items e) }
     ensures table { OnlyGrows (states table.old) (states table.new) }
 {
-    for offset in 0..batch.extent.places {
-        let place = read_place(
+    for offset in 0..batch.extent.count {
+        let item = read_stored(
             alloc,
             &batch.region,
             take_at(&mut ahead, offset),
@@ -71,29 +71,29 @@ fn read_batch(
             batch.height,
             table,
         )?;
-        places.push(place)?;
+        stored.push(item)?;
     }
     Ok(())
 }
 
-/// All places of a region, in the order of their indices. Only a batch is read ahead, by the states that those before it left:
+/// All indices of a region, in the order of their indices. Only a batch is read ahead, by the states that those before it left:
 /// all would take much memory, and most of the work on a region that is refused early would be for nothing.
-fn read_places(
+fn read_all(
     rt: &(impl Threads + Sync),
     alloc: Global,
     region: &Region<'_>,
     pos: RegionPos,
     height: Height,
     table: &mut StateTable,
-) -> Result<Vec<Place>, Fault>
+) -> Result<Vec<Stored>, Fault>
     requires { IsInLimits pos }
-    ensures ok { IfOk result (λ places. ArePlacesRead height (states table.old) (states table.new)
-        (file_of pos region.now.bytes.now) places.items) }
+    ensures ok { IfOk result (λ stored. AreIndicesRead height (states table.old) (states table.new)
+        (file_of pos region.now.bytes.now) stored.items) }
     ensures err { IfErr result (λ e. e ≢ OutOfMemory
-        → IsFirstOfPlaces height (states table.old) (file_of pos region.now.bytes.now) indices e) }
+        → IsFirstOfIndices height (states table.old) (file_of pos region.now.bytes.now) indices e) }
     ensures table { OnlyGrows (states table.old) (states table.new) }
 {
-    let mut places = Vec::new(alloc);
+    let mut stored = Vec::new(alloc);
     let mut first = 0;
     while first < CHUNKS {
         let batch = Batch {
@@ -104,10 +104,10 @@ fn read_places(
             extent: extent_from(region, first),
         };
         let ahead = read_ahead(rt, alloc, &batch, table)?;
-        read_batch(alloc, &batch, ahead, table, &mut places)?;
-        first += batch.extent.places;
+        read_batch(alloc, &batch, ahead, table, &mut stored)?;
+        first += batch.extent.count;
     }
-    Ok(places)
+    Ok(stored)
 }
 
 /// A region's file, read. Its bytes are let go.
@@ -127,11 +127,11 @@ fn read_region(
 {
     let region = Region::read(file.bytes.as_slice())?;
     let stamps = read_stamps(alloc, &region)?;
-    let places = read_places(rt, alloc, &region, file.pos, height, table)?;
+    let stored = read_all(rt, alloc, &region, file.pos, height, table)?;
     Ok(ReadRegion {
         pos: file.pos,
         stamps,
-        places,
+        stored,
     })
 }
 

@@ -1,12 +1,12 @@
 //! Payloads of a region that several threads make, each the next that none has taken.
 ghost use Rattle.std.specs.Prelude.{◌≡◌, ◌<◌, length, map, option_map, IfOk, IfSome};
-ghost use Rattle.av_dealt.specs.Dealt.{AreInPlace, IsTaken};
+ghost use Rattle.av_dealt.specs.Dealt.{AreAtIndices, IsTaken};
 ghost use Rattle.av_image.specs.SavingSteps.{payload_items};
 ghost use Rattle.av_image.specs.Making.{job_payload, job_payloads, IsPayloadAt, IsMade};
 
 use crate::rest::{RegionRest, Slot};
 use crate::writing::job::RegionJob;
-use crate::writing::payloads::{Payload, loaded_payload, place_payload};
+use crate::writing::payloads::{Payload, loaded_payload, payload_from};
 use av_dealt::{Dealt, Maker, gathered, taken};
 use av_region::CHUNKS;
 use rayon::current_num_threads;
@@ -24,11 +24,11 @@ impl<'a> Maker for RegionJob<'a> {
 
     type Bench = ();
 
-    ghost places = { λ _. 1024 };
+    ghost count = { λ _. 1024 };
 
     ghost is_of = { IsMade };
 
-    fn places(&self) -> usize {
+    fn count(&self) -> usize {
         CHUNKS
     }
 
@@ -37,13 +37,13 @@ impl<'a> Maker for RegionJob<'a> {
     fn make(
         &self,
         alloc: Global,
-        place: usize,
+        index: usize,
         _bench: &mut (),
     ) -> Result<Option<Vec<u8>>, AllocError> {
-        let Slot::Loaded(rest) = &self.region.slots[place] else {
+        let Slot::Loaded(rest) = &self.region.slots[index] else {
             return Ok(None);
         };
-        let at = self.region.pos.chunk_at(place);
+        let at = self.region.pos.chunk_at(index);
         let bytes = loaded_payload(
             alloc,
             self.world,
@@ -71,7 +71,7 @@ fn payload_at<'a>(
     if let Some(bytes) = made {
         return Ok(Some(Payload::Written(bytes)));
     }
-    place_payload(
+    payload_from(
         alloc,
         job.world,
         job.region.pos.chunk_at(index),
@@ -82,19 +82,19 @@ fn payload_at<'a>(
     )
 }
 
-/// What is written at each index, in order, from places of which some may be empty: what no thread made is made here.
+/// What is written at each index, in order, from what threads made, each behind its index: what none made is made here.
 fn in_order<'a>(
     alloc: Global,
     job: &RegionJob<'a>,
-    mut places: Vec<Option<Vec<u8>>>,
+    mut bytes: Vec<Option<Vec<u8>>>,
 ) -> Result<Vec<Option<Payload<'a>>>, AllocError>
-    requires long { length places.items ≡ 1024 }
-    requires placed { AreInPlace (IsMade job.now) places.items }
+    requires long { length bytes.items ≡ 1024 }
+    requires own { AreAtIndices (IsMade job.now) bytes.items }
     ensures { IfOk result (λ ps. map (option_map payload_items) ps.items ≡ job_payloads job.now) }
 {
     let mut payloads = Vec::with_capacity(alloc, CHUNKS)?;
     for index in 0..CHUNKS {
-        let payload = payload_at(alloc, job, index, places[index].take())?;
+        let payload = payload_at(alloc, job, index, bytes[index].take())?;
         payloads.push(payload)?;
     }
     Ok(payloads)
@@ -129,6 +129,6 @@ pub(crate) fn payloads_by<'a>(
             { taken(alloc, job, &next) },
         )
         .collect::<Vec<Result<Vec<Dealt<Vec<u8>>>, AllocError>>>(rt, alloc)?;
-    let places = gathered(alloc, job, all)?;
-    in_order(alloc, job, places)
+    let bytes = gathered(alloc, job, all)?;
+    in_order(alloc, job, bytes)
 }

@@ -1,6 +1,6 @@
-//! What is written at a place of a region.
+//! What is written at an index of a region.
 ghost use Rattle.std.specs.Prelude.{◌≡◌, ◌≢◌, IfOk, IfErr, OnOk, Some, None, length, map, option_map, true};
-ghost use Rattle.av_types.specs.Places.{IsInLimits};
+ghost use Rattle.av_types.specs.Positions.{IsInLimits};
 ghost use Rattle.av_types.specs.declared.fault.Fault.TheVariants.{OutOfMemory, ChunkTooLarge};
 ghost use Rattle.av_nbt.specs.Writing.{written_document};
 ghost use Rattle.av_land.specs.Land.{has_chunk};
@@ -66,7 +66,7 @@ fn written_chunk(
     Ok(bytes)
 }
 
-/// The payload of the world's chunk at a place.
+/// The payload of the world's chunk at a position.
 pub(crate) fn loaded_payload(
     alloc: Global,
     world: &World,
@@ -78,7 +78,7 @@ pub(crate) fn loaded_payload(
 ) -> Result<Vec<u8>, AllocError>
     requires can { CanSave world.now kinds.now lights.now elapsed }
     requires there { has_chunk (positions_of world.now) at ≡ true }
-    requires place { rest.now.place ≡ at }
+    requires own { rest.now.pos ≡ at }
     requires height { rest.now.height ≡ height_of world.now }
     ensures { IfOk result (λ bytes. bytes.items ≡ loaded_bytes world.now kinds.now lights.now
         elapsed at rest.now) }
@@ -96,8 +96,8 @@ pub(crate) fn loaded_payload(
     )
 }
 
-/// What is written at a place, where a region keeps this.
-pub(crate) fn place_payload<'a>(
+/// What is written at an index, where a region keeps this.
+pub(crate) fn payload_from<'a>(
     alloc: Global,
     world: &World,
     at: ChunkPos,

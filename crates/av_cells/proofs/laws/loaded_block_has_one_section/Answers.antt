@@ -1,4 +1,4 @@
-use Rattle.av_types.specs.Places.{section_of}
+use Rattle.av_types.specs.Positions.{section_of}
 use Rattle.av_cells.proofs.Sections.{lies_in, lies_in_one}
 use Rattle.av_cells.proofs.laws.loaded_block_has_one_section.Goals as goal
 

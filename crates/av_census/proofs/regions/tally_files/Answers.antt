@@ -2,7 +2,7 @@ use Rattle.std.proofs.Common.{◌≡◌, ◌∙◌, ◌++◌, ◌∷◌, ◌+◌
 use Rattle.std.specs.List.{All}
 use Rattle.std.specs.Vec.Iter.{into_iter_items}
 use Rattle.std.proofs.lemmas.List.Elements.{All-tail}
-use Rattle.av_types.specs.Places.{IsInLimits}
+use Rattle.av_types.specs.Positions.{IsInLimits}
 use Rattle.av_region_files.specs.declared.files.RegionFile.{RegionFile}
 use Rattle.av_census.proofs.Files.{files_next}
 use Rattle.av_census.proofs.regions.tally_files.Goals as goal

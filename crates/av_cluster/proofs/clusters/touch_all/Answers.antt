@@ -7,7 +7,7 @@ use Rattle.av_cluster.proofs.CornerLists.{corner_noted, corners_noted, item_of, 
 use Rattle.av_cluster.proofs.clusters.touch_all.Goals as goal
 
 pub corners-corners-requires : goal.corners-corners-requires
-corners-corners-requires c = let w = c.args.world.now in cells_near w.height w.positions.items w.chunks.items w.lawful _ (c.requires.loaded c.args.place _ c.requires.place)
+corners-corners-requires c = let w = c.args.world.now in cells_near w.height w.positions.items w.chunks.items w.lawful _ (c.requires.loaded c.args.index _ c.requires.index)
 
 pub loop-corner-init : goal.loop-corner-init
 loop-corner-init c = within_none _ _ _ _ _ c.requires.noted
@@ -20,7 +20,7 @@ touch-requires-clause-loaded c = owned_is_there (grid c.args.world.now) _ _ _ _ 
 
 pub loop-corner-preserved : goal.loop-corner-preserved
 loop-corner-preserved c =
-    corner_noted (grid c.args.world.now) c.args.entries.now c.args.place _ c.requires.place _ _ _ _ _ _ _
+    corner_noted (grid c.args.world.now) c.args.entries.now c.args.index _ c.requires.index _ _ _ _ _ _ _
     (take_more c.as_slice-corner-items.result.now c.loop-corner.corner-index _ c.loop-corner-test.true)
     (item_of c.as_slice-corner-items.result.now _ (c.as_slice-corner-items.ensures.value ∙ c.corners-corners.ensures) c.loop-corner.corner-index c.loop-corner-test.true _)
     c.loop-corner.invariant
@@ -28,6 +28,6 @@ loop-corner-preserved c =
 
 pub returns : goal.returns
 returns c =
-    corners_noted (grid c.args.world.now) c.args.entries.now c.args.place _ c.requires.place _ _ c.as_slice-corner-items.result.now
+    corners_noted (grid c.args.world.now) c.args.entries.now c.args.index _ c.requires.index _ _ c.as_slice-corner-items.result.now
     (c.as_slice-corner-items.ensures.value ∙ c.corners-corners.ensures) c.loop-corner.corner-index
     (let a = c.loop-corner-test.false in let b = c.loop-corner.auto.corner-index-end in omega arith) c.loop-corner.invariant

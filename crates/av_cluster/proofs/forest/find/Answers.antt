@@ -13,4 +13,4 @@ loop-parents-preserved c =
     }
 
 pub returns-clause-value : goal.returns-clause-value
-returns-clause-value c = let i = c.loop-parents.invariant in end_is _ c.loop-parents.parents i.same c.loop-parents.at c.args.place c.loop-parents-test.false i.group
+returns-clause-value c = let i = c.loop-parents.invariant in end_is _ c.loop-parents.parents i.same c.loop-parents.at c.args.index c.loop-parents-test.false i.group

@@ -1,6 +1,6 @@
 use Rattle.std.proofs.Common.{option_map}
 use Rattle.av_types.proofs.Exits.{err_from}
-use Rattle.av_types.specs.Places.{chunk_of}
+use Rattle.av_types.specs.Positions.{chunk_of}
 use Rattle.av_state.specs.States.{state_of}
 use Rattle.av_state.specs.StateList.{first_states}
 use Rattle.av_state.specs.Table.{states}

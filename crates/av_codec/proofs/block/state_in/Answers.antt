@@ -1,5 +1,5 @@
 use Rattle.std.proofs.Common.{◌≡◌, true, Some, sym, ◌∙◌, rules, to_z-of_z, w32, FitsSigned}
-use Rattle.av_types.specs.Places.{is_block_of}
+use Rattle.av_types.specs.Positions.{is_block_of}
 use Rattle.av_state.specs.Table.{states}
 use Rattle.av_chunk.specs.Views.{number_in}
 use Rattle.av_codec.proofs.Found.{number_below}

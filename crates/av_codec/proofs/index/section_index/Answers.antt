@@ -1,5 +1,5 @@
 use Rattle.std.proofs.Common.{◌∙◌, sym, subst, rules, to_z-of_z, w32, FitsSigned}
-use Rattle.av_types.specs.Places.{IsSectionOf}
+use Rattle.av_types.specs.Positions.{IsSectionOf}
 use Rattle.av_chunk.proofs.Heights.{offset_at, section_there}
 use Rattle.av_codec.proofs.index.section_index.Goals as goal
 

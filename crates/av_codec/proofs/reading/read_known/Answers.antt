@@ -8,4 +8,4 @@ use Rattle.av_codec.proofs.reading.read_known.Goals as goal
 
 pub returns-in-Ok : goal.returns-in-Ok
 returns-in-Ok c =
-    subst (λ (now : List BlockState). IsReading c.args.place c.args.height (document c.args.root) (states c.args.table.now) now c.in-Ok.read) (c.in-Ok.ensures.same refl) c.in-Ok.ensures.ok
+    subst (λ (now : List BlockState). IsReading c.args.at c.args.height (document c.args.root) (states c.args.table.now) now c.in-Ok.read) (c.in-Ok.ensures.same refl) c.in-Ok.ensures.ok

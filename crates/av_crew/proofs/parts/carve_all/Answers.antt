@@ -1,5 +1,5 @@
 use Rattle.std.proofs.Common.{◌++◌, ◌∷◌, [], ap, sym, subst, ◌∙◌, arith, length, length-append, append_assoc, refl, ℕ, vec_len}
-use Rattle.av_world.proofs.Steps.{IsSamePlaces-trans}
+use Rattle.av_world.proofs.Steps.{IsSameButBlocks-trans}
 use Rattle.av_world.specs.Views.{grid}
 use Rattle.av_crew.specs.Jobs.{IsJob, AreJobs, IsCarved}
 use Rattle.av_cluster.specs.Clusters.{parts_of}
@@ -35,7 +35,7 @@ loop-cluster-preserved c =
       omega (arith, more, i.4),
       subst (λ m. IsCarved (grid c.args.world.now) (picks_of c.args.clusters.items) m (grid c.carve_one.new.world)) (omega (arith, more)) carved,
       subst (HaveParts c.carve_one.new.world) (sym pushed) (parts_more c.loop-cluster.world c.carve_one.new.world c.loop-cluster.jobs.items c.in_ok-carve_one.field-0 i.6 e.same one.part),
-      IsSamePlaces-trans _ _ _ i.7 e.same,
+      IsSameButBlocks-trans _ _ _ i.7 e.same,
       split ∙ sym (append_assoc c.loop-cluster.yielded (c.in-Some.cluster ∷ []) c.next.new.self.rest.items),
     )
 

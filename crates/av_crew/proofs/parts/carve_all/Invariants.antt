@@ -1,5 +1,5 @@
 use Rattle.std.proofs.Common.{◌≡◌, ◌++◌, length, vec_len}
-use Rattle.av_world.specs.Views.{grid, IsSamePlaces}
+use Rattle.av_world.specs.Views.{grid, IsSameButBlocks}
 use Rattle.av_crew.specs.Jobs.{AreJobs, IsCarved}
 use Rattle.av_cluster.specs.Clusters.{parts_of}
 use Rattle.av_crew.specs.Parts.{picks_of, HaveParts}
@@ -14,5 +14,5 @@ invariant-loop-cluster l =
     (l.number ≡ length l.yielded) ×
     IsCarved (grid l.fn.world) (picks_of l.fn.clusters.items) (length l.yielded) (grid l.world) ×
     HaveParts l.world l.jobs.items ×
-    IsSamePlaces l.fn.world l.world ×
+    IsSameButBlocks l.fn.world l.world ×
     (l.fn.clusters.items ≡ l.yielded ++ l.cluster-iterator.rest.items)

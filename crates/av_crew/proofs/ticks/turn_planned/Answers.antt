@@ -53,8 +53,8 @@ returns-clause-done g c =
     ticked_land (kinds_of c.args.kinds.now) c.args.now es old c.turn_parts.new.world c.append.new.self c.in-Ok.made.items c.turn_parts.ensures.same (c.in-Ok.ensures.ok es cut) c.append.ensures.site
     (rw (sym c.as_slice.ensures.value) c.in-Ok-append.ensures.blocks) (rw (sym c.as_slice.ensures.value) c.in-Ok-append.ensures.lists) c.requires.ready.whole
 
-pub returns-clause-place : goal.returns-clause-place
-returns-clause-place g c =
+pub returns-clause-chunks : goal.returns-clause-chunks
+returns-clause-chunks g c =
     let es = c.args.entries.now in
     let old = c.args.world.now in
     let cut = cut_is (grid old) es c.args.clusters.items c.requires.planned in

@@ -26,6 +26,6 @@ returns-clause-is g c =
       inside = λ i. next.ensures i ∙ same_and (is_on beside i) (is_on around.passes i) (can_pass k w (spot p i)) (λ on. seen.passes_are i (known i on));
       found = λ h.
           let at = c.drops_at.ensures.some h in
-          record { place = at.place; marked = at.first; drops = sym (seen.drops_are at.place (known at.place (of_beside at.place at.first))) ∙ at.second };
+          record { square = at.square; marked = at.first; drops = sym (seen.drops_are at.square (known at.square (of_beside at.square at.first))) ∙ at.second };
       missed = λ h i on. sym (seen.drops_are i (known i (of_beside i on))) ∙ c.drops_at.ensures.none h i on;
     }

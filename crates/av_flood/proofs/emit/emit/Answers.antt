@@ -13,7 +13,7 @@ returns-in_default-clause-ready g c =
 
 pub returns-then-level-byte-clause-ready : goal.returns-then-level-byte-clause-ready
 returns-then-level-byte-clause-ready g c =
-    let is = c.byte.ensures.place c.in-Some.ensures in
+    let is = c.byte.ensures.on_board c.in-Some.ensures in
     WaitsIfEmitting-noted _ _ _ (raw_of c.args.flood.now) _ _ (c.in-Some-emission.ensures {u = tt}).1 (omega (arith, is, c.if-level-byte.true)) c.requires.noted
 
 pub returns-clause-dark : goal.returns-clause-dark
@@ -29,10 +29,10 @@ pub returns-clause-grown : goal.returns-clause-grown
 returns-clause-grown g c =
     let known = c.in-Some-emission.ensures {u = tt} in
     let dim = g.met.B.Blocks.dim c.args.blocks.now c.args.pos in
-    let place = c.in-Some.ensures {u = tt} in
+    let on_board = c.in-Some.ensures {u = tt} in
     let more : c.byte.result < c.in-Some-emission.level = omega (arith, c.if-level-byte.false) in
     IsGrown-pushed _ _ _ _ _ _ _ c.in_ok-push.ensures (omega (arith, known.1, dim))
-    (IsSoundAt-emitted _ _ _ _ known.1 known.0 (omega arith) (matters_above _ c.args.flood.now.height _ c.in-Some.index _ place (let far = c.byte.ensures.far in omega (arith, far, more))))
+    (IsSoundAt-emitted _ _ _ _ known.1 known.0 (omega arith) (matters_above _ c.args.flood.now.height _ c.in-Some.index _ on_board (let far = c.byte.ensures.far in omega (arith, far, more))))
 
 pub returns-clause-ready : goal.returns-clause-ready
 returns-clause-ready g c = WaitsIfEmitting-pushed _ _ _ _ _ _ (c.in-Some-emission.ensures {u = tt}).1 c.in_ok-push.ensures

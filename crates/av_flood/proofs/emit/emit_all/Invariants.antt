@@ -1,5 +1,5 @@
 use Rattle.std.proofs.Common.{◌≡◌, ℕ, ◌<◌, get_or}
-use Rattle.av_types.specs.declared.place.Pos.{Pos}
+use Rattle.av_types.specs.declared.position.Pos.{Pos}
 use Rattle.av_flood.specs.Board.{raw_of}
 use Rattle.av_flood.specs.Flooding.{todo_of, IsDark, IsNoted, IsGrown, WaitsIfEmitting}
 use Rattle.av_flood.proofs.emit.emit_all.Given as goal

@@ -1,6 +1,6 @@
 use Rattle.std.proofs.Common.{◌≡◌, ℕ, ◌<◌}
 use Rattle.std.specs.Prelude.{Contains}
-use Rattle.av_types.specs.declared.place.Pos.{Pos}
+use Rattle.av_types.specs.declared.position.Pos.{Pos}
 use Rattle.av_flood.specs.Board.{raw_of}
 use Rattle.av_flood.specs.Blocks.{column_at}
 use Rattle.av_flood.specs.Flooding.{todo_of, IsDark, IsNoted, IsGrown, WaitsIfEmitting}

@@ -7,13 +7,13 @@ use Rattle.av_flood.proofs.Floods.{brought_waits, IsOffered-brought, IsOffered-s
 use Rattle.av_flood.proofs.Marks.{IsMarked-offered, light_marked}
 use Rattle.av_flood.proofs.flood.offer.Goals as goal
 
-pub mark-requires-clause-place : goal.mark-requires-clause-place
-mark-requires-clause-place g c = c.byte-seen.ensures.least (omega (arith, c.requires.can.level, c.saturating_sub.ensures, c.if-saturating_sub-seen.false))
+pub mark-requires-clause-on_board : goal.mark-requires-clause-on_board
+mark-requires-clause-on_board g c = c.byte-seen.ensures.least (omega (arith, c.requires.can.level, c.saturating_sub.ensures, c.if-saturating_sub-seen.false))
 
 pub mark-requires-clause-unsettled : goal.mark-requires-clause-unsettled
 mark-requires-clause-unsettled g c =
     let low : c.byte-seen.result < 14 = omega (arith, c.requires.can.level, c.saturating_sub.ensures, c.if-saturating_sub-seen.false) in
-    let is = c.byte-seen.ensures.place (c.byte-seen.ensures.least low) in
+    let is = c.byte-seen.ensures.on_board (c.byte-seen.ensures.least low) in
     omega (arith, is, low)
 
 pub mark-requires-clause-far : goal.mark-requires-clause-far
@@ -22,9 +22,9 @@ mark-requires-clause-far g c = let most = apart_most c.args.spot.index in omega 
 pub bring-requires-clause-matters : goal.bring-requires-clause-matters
 bring-requires-clause-matters g c =
     let low : c.byte-seen.result < 14 = omega (arith, c.requires.can.level, c.saturating_sub.ensures, c.if-saturating_sub-seen.false) in
-    let place = c.byte-seen.ensures.least low in
+    let on_board = c.byte-seen.ensures.least low in
     let far = c.byte-seen.ensures.far in
-    λ v less. subst (λ k. Matters k v c.args.spot.pos) (sym c.mark.ensures.chunk) (matters_above c.args.flood.now.chunk c.args.flood.now.height c.args.spot.pos c.args.spot.index v place (omega (arith, far, less)))
+    λ v less. subst (λ k. Matters k v c.args.spot.pos) (sym c.mark.ensures.chunk) (matters_above c.args.flood.now.chunk c.args.flood.now.height c.args.spot.pos c.args.spot.index v on_board (omega (arith, far, less)))
 
 pub returns-then-saturating_sub-seen-clause-offered : goal.returns-then-saturating_sub-seen-clause-offered
 returns-then-saturating_sub-seen-clause-offered g c =
@@ -32,10 +32,10 @@ returns-then-saturating_sub-seen-clause-offered g c =
     let t = g.B.Blocks.terrain c.args.blocks.now in
     let q = c.args.spot.pos in
     ⊎_elim
-    (λ place. IsOffered-same t f.chunk c.args.level (λ p. raw_of f p - 128) (light_of f) (todo_of c.args.buckets.now) q (λ p. lit_raw (raw_of f p))
+    (λ on_board. IsOffered-same t f.chunk c.args.level (λ p. raw_of f p - 128) (light_of f) (todo_of c.args.buckets.now) q (λ p. lit_raw (raw_of f p))
     (IsOffered-seen t f.chunk c.args.level (raw_of f) (todo_of c.args.buckets.now) q c.requires.can.marked
     (λ p s. let e = lit_raw (raw_of f p) in let b = c.requires.can.bright p (let z : 0 < light_of f p = omega (arith, e, s) in z) in omega (arith, e, b))
-    (let is = c.byte-seen.ensures.place place in omega (arith, is, c.saturating_sub.ensures, c.if-saturating_sub-seen.true))))
+    (let is = c.byte-seen.ensures.on_board on_board in omega (arith, is, c.saturating_sub.ensures, c.if-saturating_sub-seen.true))))
     (λ e. IsOffered-off t f.chunk f.height c.args.level (light_of f) (todo_of c.args.buckets.now) q
     (λ l. subst (λ h. IsNear h q) (sym c.requires.can.height) (g.met.B.Blocks.near c.args.blocks.now q l)) (omega (arith, c.requires.can.level)) e.off)
     c.requires.spot
@@ -52,7 +52,7 @@ returns-then-saturating_sub-seen-clause-came g c = HasOffered-none (g.B.Blocks.t
 pub returns-clause-came : goal.returns-clause-came
 returns-clause-came g c =
     let low : c.byte-seen.result < 14 = omega (arith, c.requires.can.level, c.saturating_sub.ensures, c.if-saturating_sub-seen.false) in
-    let is = c.byte-seen.ensures.place (c.byte-seen.ensures.least low) in
+    let is = c.byte-seen.ensures.on_board (c.byte-seen.ensures.least low) in
     let f = c.args.flood.now in
     let t = g.B.Blocks.terrain c.args.blocks.now in
     let old = todo_of c.args.buckets.now in
@@ -70,7 +70,7 @@ returns-clause-came g c =
 pub returns-clause-offered : goal.returns-clause-offered
 returns-clause-offered g c =
     let low : c.byte-seen.result < 14 = omega (arith, c.requires.can.level, c.saturating_sub.ensures, c.if-saturating_sub-seen.false) in
-    let is = c.byte-seen.ensures.place (c.byte-seen.ensures.least low) in
+    let is = c.byte-seen.ensures.on_board (c.byte-seen.ensures.least low) in
     let f = c.args.flood.now in
     let t = g.B.Blocks.terrain c.args.blocks.now in
     let old = todo_of c.args.buckets.now in

@@ -1,6 +1,6 @@
 use Rattle.std.proofs.Common.{arith, ◌≡◌, ◌<◌, ◌≤◌, ◌-◌, ◌∙◌, inl, subst, sym}
-use Rattle.av_types.specs.declared.place.Pos.{Pos}
-use Rattle.av_flood.specs.Board.{light_of, raw_of, IsPlace}
+use Rattle.av_types.specs.declared.position.Pos.{Pos}
+use Rattle.av_flood.specs.Board.{light_of, raw_of, IsOnBoard}
 use Rattle.av_flood.specs.Blocks.{IsNear, IsFarFromEnds}
 use Rattle.av_flood.specs.Light.{IsAdjacent, HasLight}
 use Rattle.av_flood.specs.Flooding.{IsFlooding, IsGrown, IsMarked, IsOffered, IsPopped, todo_of}
@@ -17,15 +17,15 @@ spot-spot-requires g c =
     (subst (λ h. IsNear h c.in-Some.pos) (sym (c.loop-pos.invariant.height ∙ c.requires.height)) near)
 
 pub byte-requires : goal.byte-requires
-byte-requires g c = inl (subst (λ p. IsPlace c.loop-pos.flood.chunk c.loop-pos.flood.height p c.spot-spot.result.index) (sym c.spot-spot.ensures.pos) c.spot-spot.ensures.place)
+byte-requires g c = inl (subst (λ p. IsOnBoard c.loop-pos.flood.chunk c.loop-pos.flood.height p c.spot-spot.result.index) (sym c.spot-spot.ensures.pos) c.spot-spot.ensures.on_board)
 
-pub settle_at-requires-clause-place : goal.settle_at-requires-clause-place
-settle_at-requires-clause-place g c = subst (λ p. IsPlace c.loop-pos.flood.chunk c.loop-pos.flood.height p c.spot-spot.result.index) (sym c.spot-spot.ensures.pos) c.spot-spot.ensures.place
+pub settle_at-requires-clause-on_board : goal.settle_at-requires-clause-on_board
+settle_at-requires-clause-on_board g c = subst (λ p. IsOnBoard c.loop-pos.flood.chunk c.loop-pos.flood.height p c.spot-spot.result.index) (sym c.spot-spot.ensures.pos) c.spot-spot.ensures.on_board
 
 pub settle_at-requires-clause-unsettled : goal.settle_at-requires-clause-unsettled
 settle_at-requires-clause-unsettled g c =
-    let place = subst (λ p. IsPlace c.loop-pos.flood.chunk c.loop-pos.flood.height p c.spot-spot.result.index) (sym c.spot-spot.ensures.pos) c.spot-spot.ensures.place in
-    let is = c.byte.ensures.place place in
+    let on_board = subst (λ p. IsOnBoard c.loop-pos.flood.chunk c.loop-pos.flood.height p c.spot-spot.result.index) (sym c.spot-spot.ensures.pos) c.spot-spot.ensures.on_board in
+    let is = c.byte.ensures.on_board on_board in
     omega (arith, is, c.if-byte-lt128.true)
 
 pub spread-requires-clause-inner : goal.spread-requires-clause-inner
@@ -33,11 +33,11 @@ spread-requires-clause-inner g c =
     let sound = next_sound _ _ _ _ _ _ _ (c.in-Some.ensures {u = tt}) c.loop-pos.invariant.flooding in
     subst IsFarFromEnds (sym c.spot-spot.ensures.pos) (inner_near _ _ (g.met.B.Blocks.near c.args.blocks.now c.in-Some.pos sound.loaded))
 
-pub spread-requires-clause-place : goal.spread-requires-clause-place
-spread-requires-clause-place g c =
-    let place = subst (λ p. IsPlace c.loop-pos.flood.chunk c.loop-pos.flood.height p c.spot-spot.result.index) (sym c.spot-spot.ensures.pos) c.spot-spot.ensures.place in
-    subst (λ k. IsPlace k c.settle_at.new.self.height c.spot-spot.result.pos c.spot-spot.result.index) (sym c.settle_at.ensures.chunk)
-    (subst (λ h. IsPlace c.loop-pos.flood.chunk h c.spot-spot.result.pos c.spot-spot.result.index) (sym c.settle_at.ensures.height) place)
+pub spread-requires-clause-on_board : goal.spread-requires-clause-on_board
+spread-requires-clause-on_board g c =
+    let on_board = subst (λ p. IsOnBoard c.loop-pos.flood.chunk c.loop-pos.flood.height p c.spot-spot.result.index) (sym c.spot-spot.ensures.pos) c.spot-spot.ensures.on_board in
+    subst (λ k. IsOnBoard k c.settle_at.new.self.height c.spot-spot.result.pos c.spot-spot.result.index) (sym c.settle_at.ensures.chunk)
+    (subst (λ h. IsOnBoard c.loop-pos.flood.chunk h c.spot-spot.result.pos c.spot-spot.result.index) (sym c.settle_at.ensures.height) on_board)
 
 pub spread-requires-clause-can : goal.spread-requires-clause-can
 spread-requires-clause-can g c =
@@ -64,8 +64,8 @@ loop-pos-preserved-in-Continue-1 g c =
     let t = g.B.Blocks.terrain c.args.blocks.now in
     let f = c.loop-pos.flood in
     let p = c.spot-spot.result.pos in
-    let place = subst (λ q. IsPlace f.chunk f.height q c.spot-spot.result.index) (sym c.spot-spot.ensures.pos) c.spot-spot.ensures.place in
-    let is = c.byte.ensures.place place in
+    let on_board = subst (λ q. IsOnBoard f.chunk f.height q c.spot-spot.result.index) (sym c.spot-spot.ensures.pos) c.spot-spot.ensures.on_board in
+    let is = c.byte.ensures.on_board on_board in
     let dark : light_of f p ≡ 0 = lit_raw (raw_of f p) ∙ omega (arith, is, c.if-byte-lt128.true) in
     let popped = subst (IsPopped (todo_of c.loop-pos.buckets) (todo_of c.pop.new.self) c.args.level) (sym c.spot-spot.ensures.pos) (c.in-Some.ensures {u = tt}) in
     let chunk = c.settle_at.ensures.chunk in
@@ -86,8 +86,8 @@ loop-pos-preserved g c =
     let inv = c.loop-pos.invariant in
     let f = c.loop-pos.flood in
     let p = c.spot-spot.result.pos in
-    let place = subst (λ q. IsPlace f.chunk f.height q c.spot-spot.result.index) (sym c.spot-spot.ensures.pos) c.spot-spot.ensures.place in
-    let is = c.byte.ensures.place place in
+    let on_board = subst (λ q. IsOnBoard f.chunk f.height q c.spot-spot.result.index) (sym c.spot-spot.ensures.pos) c.spot-spot.ensures.on_board in
+    let is = c.byte.ensures.on_board on_board in
     let popped = subst (IsPopped (todo_of c.loop-pos.buckets) (todo_of c.pop.new.self) c.args.level) (sym c.spot-spot.ensures.pos) (c.in-Some.ensures {u = tt}) in
     let high = inv.marked.settled p (omega (arith, is, c.if-byte-lt128.false)) in
     let same = lit_raw (raw_of f p) in

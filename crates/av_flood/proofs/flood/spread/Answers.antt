@@ -1,5 +1,5 @@
 use Rattle.std.proofs.Common.{arith, sym, subst, ◌∙◌}
-use Rattle.av_types.specs.declared.place.Pos.{Pos}
+use Rattle.av_types.specs.declared.position.Pos.{Pos}
 use Rattle.av_flood.specs.Board.{light_of}
 use Rattle.av_flood.specs.Flooding.{HasOffered, IsGrown, IsOffered, todo_of}
 use Rattle.av_flood.proofs.Floods.{CanOffer-more, HasOffered-trans, IsGrown-none, IsGrown-trans, IsOffered-grown, IsOffered-later, IsOffered-all}

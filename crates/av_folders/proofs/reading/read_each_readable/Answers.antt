@@ -1,6 +1,6 @@
 use Rattle.std.proofs.Common.{◌<◌, sym, subst, arith, List, length, map, take}
 use Rattle.std.proofs.lemmas.List.{take_all}
-use Rattle.av_types.specs.declared.place.RegionPos.{RegionPos}
+use Rattle.av_types.specs.declared.position.RegionPos.{RegionPos}
 use Rattle.av_folders.specs.declared.reading.FolderFiles.{FolderFiles}
 use Rattle.av_folders.specs.declared.reading.Listed.{Listed}
 use Rattle.av_folders.specs.Folders.{AreRead, IsListed}

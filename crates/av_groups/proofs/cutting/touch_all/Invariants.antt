@@ -1,5 +1,5 @@
 use Rattle.std.proofs.Common.{◌≡◌, ℕ, ◌<◌, true, get_or}
-use Rattle.av_types.specs.declared.place.ChunkPos.{ChunkPos}
+use Rattle.av_types.specs.declared.position.ChunkPos.{ChunkPos}
 use Rattle.av_land.specs.Land.{has_chunk}
 use Rattle.av_world.specs.Views.{positions_of}
 use Rattle.av_groups.specs.Open.{IsOpen, IsTouched, chunks_in}

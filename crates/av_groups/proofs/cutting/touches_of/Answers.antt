@@ -10,5 +10,5 @@ touch_entries-requires-clause-gathered c = subst (IsOpen (positions_of c.args.wo
 
 pub returns : goal.returns
 returns c =
-    subst (IsGathered (land_of c.args.world.now) c.args.closed.now c.touch_entries.new.marks.last.items c.args.entries.now) (sym (c.in_ok-touches.ensures ∙ c.as_slice.ensures.value))
+    subst (IsGathered (land_of c.args.world.now) c.args.closed.now c.touch_entries.new.marks.last.items c.args.entries.now) (sym (c.in_ok-touches.ensures.items ∙ c.as_slice.ensures.value))
     (record { is_open = c.in_ok-touch_entries.ensures.gathered; loaded = all_loaded c.args.world.now c.args.entries.now c.requires.loaded; stay = c.in_ok-touch_entries.ensures.stay })

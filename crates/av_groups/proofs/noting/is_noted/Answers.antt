@@ -1,5 +1,5 @@
 use Rattle.std.proofs.Common.{◌∙◌, Some, sym}
-use Rattle.av_types.proofs.SamePlaces.{same_chunk_is}
+use Rattle.av_types.proofs.SamePositions.{same_chunk_is}
 use Rattle.av_groups.proofs.noting.is_noted.Goals as goal
 
 pub returns-then-eq : goal.returns-then-eq

@@ -1,5 +1,5 @@
 use Rattle.std.proofs.Common.{◌≡◌, ◌∙◌, List, length, map, ap, sym, subst}
-use Rattle.av_types.specs.declared.place.Height.{Height}
+use Rattle.av_types.specs.declared.position.Height.{Height}
 use Rattle.av_state.specs.BlockState.{BlockState}
 use Rattle.av_state.specs.Table.{states}
 use Rattle.av_rules.specs.Kinds.{kind_count}

@@ -2,5 +2,5 @@ use Rattle.std.proofs.Common.{◌≡◌, replicate}
 use Rattle.av_play.specs.declared.event.Stage.TheVariants.{Waits}
 use Rattle.av_inter.proofs.making.all_waiting.Given as goal
 
-abbrev pub invariant-loop-place : goal.invariant-loop-place
-invariant-loop-place l = l.stages.items ≡ replicate l.place Waits
+abbrev pub invariant-loop-index : goal.invariant-loop-index
+invariant-loop-index l = l.stages.items ≡ replicate l.index Waits

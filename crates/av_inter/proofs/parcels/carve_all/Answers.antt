@@ -1,7 +1,7 @@
 use Rattle.std.proofs.Common.{◌≡◌, ℕ, ◌∙◌, List, Option, refl, sym, ap, subst, length, arith, IsTrue, All, false}
 use Rattle.std.specs.List.{AllPairs}
-use Rattle.av_world.proofs.Steps.{IsSamePlaces-trans}
-use Rattle.av_types.specs.declared.place.SectionPos.{SectionPos}
+use Rattle.av_world.proofs.Steps.{IsSameButBlocks-trans}
+use Rattle.av_types.specs.declared.position.SectionPos.{SectionPos}
 use Rattle.av_cells.specs.Positions.{same_section}
 use Rattle.av_cells.specs.Grid.{is_here}
 use Rattle.av_world.specs.Views.{grid}
@@ -49,6 +49,6 @@ loop-cluster-preserved c =
       cut = subst (λ (cs : List (Option Parcel)). AreCut g secs c.carve.new.self cs) (sym c.push_reserved.ensures.items)
           (cut_more g secs c.requires.can c.loop-cluster.world c.carve.new.self c.loop-cluster.parcels.items c.in-Ok.parcel c.as_slice.result.now at i.cut e.same e.out e.nothing_aside e.part e.left);
       count = let a = c.push_reserved.ensures.len in let b = i.count in omega (arith, c.push_reserved.new.self.ok.0, c.loop-cluster.parcels.ok.0);
-      same = IsSamePlaces-trans c.args.world.now c.loop-cluster.world c.carve.new.self i.same e.same;
+      same = IsSameButBlocks-trans c.args.world.now c.loop-cluster.world c.carve.new.self i.same e.same;
       room = c.push_reserved.ensures.capacity ∙ i.room;
     }

@@ -1,5 +1,5 @@
 use Rattle.std.proofs.Common.{◌≡◌, length, vec_capacity}
-use Rattle.av_world.specs.Views.{grid, IsSamePlaces}
+use Rattle.av_world.specs.Views.{grid, IsSameButBlocks}
 use Rattle.av_cluster.specs.Clusters.{sections_of}
 use Rattle.av_inter.specs.Cut.{AreCut}
 use Rattle.av_inter.proofs.parcels.carve_all.Given as goal
@@ -9,6 +9,6 @@ invariant-loop-cluster l =
     record {
       cut : AreCut (grid l.fn.world) (sections_of l.clusters) l.world l.parcels.items;
       count : length l.parcels.items ≡ l.cluster-index;
-      same : IsSamePlaces l.fn.world l.world;
+      same : IsSameButBlocks l.fn.world l.world;
       room : vec_capacity l.parcels ≡ vec_capacity l.fn.parcels;
     }

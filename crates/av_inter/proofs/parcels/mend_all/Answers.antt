@@ -1,5 +1,5 @@
 use Rattle.std.proofs.Common.{◌≡◌, List, [], ◌∷◌, ◌++◌, Option, get_or, subst, All}
-use Rattle.av_world.proofs.Steps.{IsSamePlaces-trans}
+use Rattle.av_world.proofs.Steps.{IsSameButBlocks-trans}
 use Rattle.av_world.specs.declared.parcels.Parcel.{Parcel}
 use Rattle.av_inter.specs.Cut.{AreCut, HoldsPartOf}
 use Rattle.av_inter.proofs.Cutting.{cut_less, slot_same, all_front}
@@ -14,5 +14,5 @@ loop-slot-preserved c =
           (all_front (HoldsPartOf c.loop-slot.world) c.pop.new.self.items c.in-Some.slot (subst (λ (l : List (Option Parcel)). All (HoldsPartOf c.loop-slot.world) l) was i.parts) k d l);
       cut = λ g secs can cut. cut_less g secs can c.loop-slot.world c.mend_one.new.world c.pop.new.self.items c.in-Some.slot
           (subst (λ (l : List (Option Parcel)). AreCut g secs c.loop-slot.world l) was (i.cut g secs can cut)) e.same e.grid;
-      same = IsSamePlaces-trans c.args.world.now c.loop-slot.world c.mend_one.new.world i.same e.same;
+      same = IsSameButBlocks-trans c.args.world.now c.loop-slot.world c.mend_one.new.world i.same e.same;
     }

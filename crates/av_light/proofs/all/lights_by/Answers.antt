@@ -3,7 +3,7 @@ use Rattle.std.specs.List.{All}
 use Rattle.av_dealt.specs.Dealt.{IsTaken}
 use Rattle.av_dealt.proofs.Given.{all_given}
 use Rattle.av_world.specs.Views.{positions_of}
-use Rattle.av_light.specs.Placed.{IsChunkLightAt}
+use Rattle.av_light.specs.AtIndex.{IsChunkLightAt}
 use Rattle.av_light.proofs.all.lights_by.Goals as goal
 
 pub gathered-requires : goal.gathered-requires

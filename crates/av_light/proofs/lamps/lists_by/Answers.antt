@@ -1,7 +1,7 @@
 use Rattle.std.proofs.Common.{ap, ◌∙◌, Vec, Global}
 use Rattle.rayon.proofs.ToStd.{slice-AllZip}
-use Rattle.av_types.specs.declared.place.Pos.{Pos}
-use Rattle.av_types.specs.declared.place.ChunkPos.{ChunkPos}
+use Rattle.av_types.specs.declared.position.Pos.{Pos}
+use Rattle.av_types.specs.declared.position.ChunkPos.{ChunkPos}
 use Rattle.av_world.specs.Views.{positions_of, blocks}
 use Rattle.av_section_light.specs.Light.{terrain_of}
 use Rattle.av_section_light.specs.Lamps.{HasLamps}

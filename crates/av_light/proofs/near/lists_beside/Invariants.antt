@@ -1,6 +1,6 @@
 use Rattle.std.proofs.Common.{◌≡◌, ◌<◌, ℕ, [], vec_len, get_or}
 use Rattle.std.specs.Prelude.{map}
-use Rattle.av_types.specs.declared.place.ChunkPos.{ChunkPos}
+use Rattle.av_types.specs.declared.position.ChunkPos.{ChunkPos}
 use Rattle.av_world.specs.Views.{positions_of}
 use Rattle.av_light.proofs.LampLists.{IsList}
 use Rattle.av_light.proofs.near.lists_beside.Given as goal

@@ -1,5 +1,5 @@
 use Rattle.std.proofs.Common.{subst}
-use Rattle.av_types.specs.declared.place.Height.{Height}
+use Rattle.av_types.specs.declared.position.Height.{Height}
 use Rattle.av_world.specs.Inserted.{IsNewChunk}
 use Rattle.av_light_tests.proofs.worlds.add_air.Goals as goal
 

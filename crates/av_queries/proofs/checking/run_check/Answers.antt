@@ -1,5 +1,5 @@
 use Rattle.std.proofs.Common.{◌≡◌, ◌≤◌, ℕ, List, Option, arith}
-use Rattle.av_types.specs.declared.place.Height.{Height}
+use Rattle.av_types.specs.declared.position.Height.{Height}
 use Rattle.av_survey.specs.declared.finding.Finding.{Finding}
 use Rattle.av_commands.specs.CheckCommand.{HasFindings, none, some}
 use Rattle.av_folders.specs.declared.reading.FolderFiles.{FolderFiles}

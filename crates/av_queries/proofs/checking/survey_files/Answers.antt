@@ -1,7 +1,7 @@
 use Rattle.std.proofs.Common.{◌≡◌, ◌≢◌, ◌∙◌, ℕ, List, [], length, Option, Result, Ok, Err, IfOk, MatchResult, ap, refl, sym}
 use Rattle.std.proofs.lemmas.Bool.{eqb-false, eqb-true}
 use Rattle.std.proofs.lemmas.List.{nil_from_length}
-use Rattle.av_types.specs.declared.place.Height.{Height}
+use Rattle.av_types.specs.declared.position.Height.{Height}
 use Rattle.av_survey.specs.Survey.{IsSurvey}
 use Rattle.av_survey.specs.declared.finding.Finding.{Finding}
 use Rattle.av_commands.specs.CheckCommand.{HasFindings}

@@ -1,6 +1,6 @@
 use Rattle.std.proofs.Common.{◌<◌, ℕ}
 use Rattle.std.specs.Prelude.{slice_index_or}
-use Rattle.av_types.specs.Places.{IsInLimits}
+use Rattle.av_types.specs.Positions.{IsInLimits}
 use Rattle.av_region_files.specs.declared.files.RegionFile.{RegionFile}
 use Rattle.av_region_files.proofs.files.are_in_limits.Given as goal
 

@@ -1,6 +1,6 @@
 use Rattle.std.proofs.Common.{◌≡◌, ◌++◌, length, map, option_map, List, ℕ}
 use Rattle.std.specs.Vec.Iter.{into_iter_items}
-use Rattle.av_types.specs.declared.place.Height.{Height}
+use Rattle.av_types.specs.declared.position.Height.{Height}
 use Rattle.av_chunk.specs.Light.{section_count}
 use Rattle.av_codec.specs.Writing.{states_of_kinds}
 use Rattle.av_rewrite.specs.Regions.{AreMadeOf}

@@ -1,5 +1,5 @@
 use Rattle.std.proofs.Common.{◌≡◌, Result, Ok, Err, IfOk, OnOk, Some, None, subst, Bool}
-use Rattle.av_types.specs.declared.place.Pos.{Pos}
+use Rattle.av_types.specs.declared.position.Pos.{Pos}
 use Rattle.av_state.specs.Table.{states}
 use Rattle.av_land.specs.Land.{is_loaded}
 use Rattle.av_codec.proofs.Found.{if_err_then}

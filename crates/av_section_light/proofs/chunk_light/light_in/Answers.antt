@@ -1,8 +1,8 @@
 use Rattle.std.proofs.Common.{arith, ap, sym, subst, ◌∙◌, ◌*◌, ◌+◌, ℕ, List}
 use Rattle.std.specs.Prelude.{slice_range}
 use Rattle.av_types.specs.Division.{divided}
-use Rattle.av_types.specs.Places.{place_of, section_index}
-use Rattle.av_types.specs.declared.place.Height.{Height}
+use Rattle.av_types.specs.Positions.{place_of, section_index}
+use Rattle.av_types.specs.declared.position.Height.{Height}
 use Rattle.av_pack.specs.Nibbles.{nibble_at}
 use Rattle.av_cells.specs.Grid.{cells_of}
 use Rattle.av_flood.specs.Light.{IsLight}

@@ -1,7 +1,7 @@
 use Rattle.std.proofs.Common.{◌≡◌, ◌<◌, ℕ}
 use Rattle.std.specs.Prelude.{Contains, IsTrue}
-use Rattle.av_types.specs.Places.{section_of}
-use Rattle.av_types.specs.declared.place.Pos.{Pos}
+use Rattle.av_types.specs.Positions.{section_of}
+use Rattle.av_types.specs.declared.position.Pos.{Pos}
 use Rattle.av_cells.specs.Grid.{cells_of}
 use Rattle.av_section_light.specs.Light.{terrain_of}
 use Rattle.av_section_light.specs.Lamps.{section_at}

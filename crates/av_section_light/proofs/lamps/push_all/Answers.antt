@@ -1,7 +1,7 @@
 use Rattle.std.proofs.Common.{arith, below_more, sym, subst, ap, ◌∙◌}
 use Rattle.std.specs.Prelude.{Contains}
 use Rattle.std.proofs.lemmas.List.Elements.{Contains-append_left, Contains-push}
-use Rattle.av_types.specs.Places.{block_at}
+use Rattle.av_types.specs.Positions.{block_at}
 use Rattle.av_section_light.proofs.lamps.push_all.Goals as goal
 
 pub loop-index-preserved : goal.loop-index-preserved

@@ -1,7 +1,7 @@
 use Rattle.std.proofs.Common.{◌<◌, ℕ}
 use Rattle.std.specs.Prelude.{Contains}
-use Rattle.av_types.specs.Places.{block_at}
-use Rattle.av_types.specs.declared.place.Pos.{Pos}
+use Rattle.av_types.specs.Positions.{block_at}
+use Rattle.av_types.specs.declared.position.Pos.{Pos}
 use Rattle.av_section_light.proofs.lamps.push_all.Given as goal
 
 abbrev pub invariant-loop-index : goal.invariant-loop-index

@@ -1,6 +1,6 @@
 use Rattle.std.proofs.Common.{arith, below_more, sym, ap, subst, ◌∙◌, ◌<◌, false, length, get_or}
 use Rattle.std.specs.Prelude.{Contains}
-use Rattle.av_types.specs.Places.{block_at}
+use Rattle.av_types.specs.Positions.{block_at}
 use Rattle.av_pack.proofs.Laws.{length-unpacked}
 use Rattle.av_section_light.proofs.LampLemmas.{unpacked_index}
 use Rattle.av_section_light.proofs.lamps.push_shining.Goals as goal

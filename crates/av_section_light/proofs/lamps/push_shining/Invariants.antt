@@ -1,7 +1,7 @@
 use Rattle.std.proofs.Common.{◌≡◌, ◌<◌, ℕ, true, false, get_or}
 use Rattle.std.specs.Prelude.{Contains}
-use Rattle.av_types.specs.Places.{block_at}
-use Rattle.av_types.specs.declared.place.Pos.{Pos}
+use Rattle.av_types.specs.Positions.{block_at}
+use Rattle.av_types.specs.declared.position.Pos.{Pos}
 use Rattle.av_pack.specs.Packing.{packed_at}
 use Rattle.av_section_light.proofs.lamps.push_shining.Given as goal
 

@@ -2,7 +2,7 @@ use Rattle.std.proofs.Common.{◌≡◌, ◌∙◌, ◌++◌, ◌∷◌, [], Lis
 use Rattle.std.specs.List.{All}
 use Rattle.std.specs.Vec.Iter.{into_iter_items}
 use Rattle.std.proofs.lemmas.List.Elements.{All-tail}
-use Rattle.av_types.specs.Places.{IsInLimits}
+use Rattle.av_types.specs.Positions.{IsInLimits}
 use Rattle.av_region_files.specs.declared.files.RegionFile.{RegionFile}
 use Rattle.av_survey.proofs.Gathering.{finds_more}
 use Rattle.av_survey.proofs.surveying.survey_all.Goals as goal

@@ -1,6 +1,6 @@
 use Rattle.std.proofs.Common.{◌≡◌, OnErr, None, Ok, Err, sym, Some}
 use Rattle.av_tags.specs.View.{named_view, named_views}
-use Rattle.av_tags.specs.Place.{tag_of, index_of_name}
+use Rattle.av_tags.specs.ByName.{tag_of, index_of_name}
 use Rattle.av_tags.proofs.Names.{tag_is_missing}
 use Rattle.av_tags.proofs.Slots.{placed_at, placed_after, taken_at}
 use Rattle.av_tags.proofs.Views.{name_in_view}

@@ -1,6 +1,6 @@
 use Rattle.std.proofs.Common.{◌≡◌, drop}
 use Rattle.av_tags.specs.View.{named_views}
-use Rattle.av_tags.specs.Place.{tag_of}
+use Rattle.av_tags.specs.ByName.{tag_of}
 use Rattle.av_tags.proofs.members.find.Given as goal
 
 abbrev pub invariant-loop-named : goal.invariant-loop-named

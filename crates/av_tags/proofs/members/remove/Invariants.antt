@@ -1,6 +1,6 @@
 use Rattle.std.proofs.Common.{◌≡◌, vec_len}
 use Rattle.av_tags.specs.View.{named_views}
-use Rattle.av_tags.specs.Place.{without}
+use Rattle.av_tags.specs.ByName.{without}
 use Rattle.av_tags.proofs.members.remove.Given as goal
 
 abbrev pub invariant-loop-other : goal.invariant-loop-other

@@ -3,8 +3,8 @@ use Rattle.av_types.specs.declared.tick.Entry.{Entry}
 use Rattle.av_rules.specs.Kinds.{kind_count}
 use Rattle.av_land.specs.Tick.{without_due}
 use Rattle.av_world.specs.Lands.{land_of}
-use Rattle.av_serial.specs.Ready.{IsReady, IsSamePlace}
-use Rattle.av_serial.proofs.Keeps.{ready_left, place_on}
+use Rattle.av_serial.specs.Ready.{IsReady, HasSameChunks}
+use Rattle.av_serial.proofs.Keeps.{ready_left, chunks_on}
 use Rattle.av_groups.specs.declared.groups.Groups.{Groups}
 use Rattle.av_lending.specs.Plans.{kinds_in}
 use Rattle.av_lending.proofs.After.{all_turned}
@@ -25,7 +25,7 @@ returns-clause-ready g c =
     subst (λ k. IsReady (kind_count k) c.leave_due.new.self) (sym c.in_ok-desk.ensures.desk.kinds_are)
     (ready_left (kind_count (kinds_in c.in_ok-desk.desk.plan)) c.args.now c.in_ok-turned.turned c.leave_due.new.self c.leave_due.ensures.site c.leave_due.ensures.loaded c.leave_due.ensures.left c.in_ok-turned.ensures.ready)
 
-pub returns-clause-place : goal.returns-clause-place
-returns-clause-place g c =
-    place_on c.args.world.now c.in_ok-turned.turned c.leave_due.new.self (subst (λ w. IsSamePlace w c.in_ok-turned.turned) c.in_ok-desk.ensures.start c.in_ok-turned.ensures.place)
+pub returns-clause-chunks : goal.returns-clause-chunks
+returns-clause-chunks g c =
+    chunks_on c.args.world.now c.in_ok-turned.turned c.leave_due.new.self (subst (λ w. HasSameChunks w c.in_ok-turned.turned) c.in_ok-desk.ensures.start c.in_ok-turned.ensures.chunks)
     (record { site_is = c.leave_due.ensures.site; loaded_is = c.leave_due.ensures.loaded })

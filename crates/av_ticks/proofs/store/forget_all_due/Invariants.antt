@@ -1,5 +1,5 @@
 use Rattle.std.proofs.Common.{◌≡◌, ◌&&◌, not, take, filter}
-use Rattle.av_types.specs.declared.place.Pos.{Pos}
+use Rattle.av_types.specs.declared.position.Pos.{Pos}
 use Rattle.av_ticks.specs.Entries.{is_pending, is_due}
 use Rattle.av_ticks.specs.Held.{holds}
 use Rattle.av_ticks.proofs.store.forget_all_due.Given as goal

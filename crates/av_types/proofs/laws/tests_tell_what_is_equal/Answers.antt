@@ -1,4 +1,4 @@
-use Rattle.av_types.proofs.SamePlaces.{same_pos_is, same_pos_from, same_chunk_is, same_chunk_from, same_section_is, same_section_from}
+use Rattle.av_types.proofs.SamePositions.{same_pos_is, same_pos_from, same_chunk_is, same_chunk_from, same_section_is, same_section_from}
 use Rattle.av_types.proofs.laws.tests_tell_what_is_equal.Goals as goal
 
 pub returns-clause-blocks : goal.returns-clause-blocks

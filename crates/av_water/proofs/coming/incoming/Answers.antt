@@ -1,6 +1,6 @@
 use Rattle.std.proofs.Common.{arith}
 use Rattle.std.proofs.lemmas.Int.{ints}
-use Rattle.av_types.specs.declared.place.Pos.{Pos}
+use Rattle.av_types.specs.declared.position.Pos.{Pos}
 use Rattle.av_cells.specs.Positions.{IsNearOrigin, IsInner}
 use Rattle.av_water.proofs.coming.incoming.Goals as goal
 

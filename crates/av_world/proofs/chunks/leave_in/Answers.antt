@@ -4,7 +4,7 @@ use Rattle.std.specs.List.{list_any}
 use Rattle.av_ticks.specs.Entries.{is_due}
 use Rattle.av_ticks.specs.Ticks.{entries}
 use Rattle.std.proofs.lemmas.List.Elements.{All-take}
-use Rattle.av_types.specs.Places.{is_block_of}
+use Rattle.av_types.specs.Positions.{is_block_of}
 use Rattle.av_types.specs.declared.tick.Entry.{Entry}
 use Rattle.av_world.proofs.Clearing.{nothing_leaves, part_leaves, all_stay}
 use Rattle.av_world.proofs.chunks.leave_in.Goals as goal

@@ -2,8 +2,8 @@
 use Rattle.std.proofs.Common.{◌≡◌, Bool, true, false, List, All, length, get_or, pos, ap, arith, refl}
 use Rattle.std.proofs.lemmas.Int.{ints}
 use Rattle.std.proofs.lemmas.List.Elements.{All-replicate}
-use Rattle.av_types.specs.declared.place.SectionPos.{SectionPos}
-use Rattle.av_types.proofs.SamePlaces.{same_section_is}
+use Rattle.av_types.specs.declared.position.SectionPos.{SectionPos}
+use Rattle.av_types.proofs.SamePositions.{same_section_is}
 use Rattle.av_cells.specs.Positions.{same_section}
 use Rattle.av_world.specs.Parcels.{IsSectionInLimits}
 use Rattle.av_world.specs.Parts.{index}

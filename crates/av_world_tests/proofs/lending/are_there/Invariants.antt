@@ -1,5 +1,5 @@
 use Rattle.std.proofs.Common.{ℕ, ◌<◌, length, get_or}
-use Rattle.av_types.specs.declared.place.ChunkPos.{ChunkPos}
+use Rattle.av_types.specs.declared.position.ChunkPos.{ChunkPos}
 use Rattle.av_world.specs.Index.{slot}
 use Rattle.av_world.specs.Views.{positions_of}
 use Rattle.av_world_tests.proofs.lending.are_there.Given as goal

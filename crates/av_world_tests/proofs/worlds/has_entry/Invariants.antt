@@ -1,5 +1,5 @@
 use Rattle.std.proofs.Common.{◌≡◌, ℕ, ◌<◌, get_or, false}
-use Rattle.av_types.specs.Places.{same_pos}
+use Rattle.av_types.specs.Positions.{same_pos}
 use Rattle.av_types.specs.declared.tick.Made.{Made}
 use Rattle.av_world_tests.proofs.worlds.has_entry.Given as goal
 

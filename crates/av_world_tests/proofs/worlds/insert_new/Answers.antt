@@ -1,5 +1,5 @@
 use Rattle.std.proofs.Common.{subst}
-use Rattle.av_types.specs.declared.place.Height.{Height}
+use Rattle.av_types.specs.declared.position.Height.{Height}
 use Rattle.av_world_tests.specs.Flat.{IsFlat}
 use Rattle.av_world_tests.proofs.Plain.{plain_inserted}
 use Rattle.av_world_tests.proofs.worlds.insert_new.Goals as goal

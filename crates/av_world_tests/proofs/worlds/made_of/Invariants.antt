@@ -1,6 +1,6 @@
 use Rattle.std.proofs.Common.{◌≡◌, IsTrue, false, All}
 use Rattle.std.specs.List.{AllPairs}
-use Rattle.av_types.specs.Places.{same_pos}
+use Rattle.av_types.specs.Positions.{same_pos}
 use Rattle.av_world.specs.Views.{blocks}
 use Rattle.av_world_tests.proofs.worlds.made_of.Given as goal
 

@@ -1,6 +1,6 @@
 use Rattle.std.proofs.Common.{◌≡◌, IsTrue, false, All}
 use Rattle.std.specs.List.{AllPairs}
-use Rattle.av_types.specs.Places.{same_section}
+use Rattle.av_types.specs.Positions.{same_section}
 use Rattle.av_cells.specs.Grid.{is_here}
 use Rattle.av_world.specs.Views.{grid}
 use Rattle.av_world_tests.proofs.worlds.sections_of.Given as goal

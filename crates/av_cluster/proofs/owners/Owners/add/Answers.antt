@@ -51,8 +51,8 @@ invariant_of-self-then-index-eq0 c =
     let free : get_or ns c.slot-slot.result 0 ≡ 0 = omega (arith, at, c.if-index-eq0.true) in
     let empty : get_or ns (slot_of (length ns) k) 0 ≡ 0 = ap (λ i. get_or ns i 0) (sym slot) ∙ free in
     let base = slots_free ns f es k o s.slotted none empty in
-    let placed = subst (λ i. AreSlots (set ns i (length es + 1)) f (es ++ (k, o) ∷ [])) (sym slot) base in
-    let noted = subst (λ n. AreSlots (set ns c.slot-slot.result (n + 1)) f (es ++ (k, o) ∷ [])) (sym last) placed in
+    let due = subst (λ i. AreSlots (set ns i (length es + 1)) f (es ++ (k, o) ∷ [])) (sym slot) base in
+    let noted = subst (λ n. AreSlots (set ns c.slot-slot.result (n + 1)) f (es ++ (k, o) ∷ [])) (sym last) due in
     record { slotted = subst (AreSlots (set ns c.slot-slot.result (c.len-last.result + 1)) f) (sym new) noted }
 
 pub invariant_of-self-2 : goal.invariant_of-self-2

@@ -3,7 +3,7 @@ use Rattle.std.proofs.Math.Seq.{take-suc}
 use Rattle.std.proofs.lemmas.List.{get_or_default}
 use Rattle.std.proofs.lemmas.Bool.{and_parts}
 use Rattle.av_types.specs.Division.{divided}
-use Rattle.av_types.specs.Places.{place_of, section_index}
+use Rattle.av_types.specs.Positions.{place_of, section_index}
 use Rattle.av_types.specs.declared.tick.Entry.{Entry}
 use Rattle.av_codec.specs.Pending.{SlotPending}
 use Rattle.av_codec.proofs.Marking.{MarksPending-step}

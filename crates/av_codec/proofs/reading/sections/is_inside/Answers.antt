@@ -1,5 +1,5 @@
 use Rattle.std.proofs.Common.{◌≡◌, ◌∙◌, ap, rules, to_z-of_z, w32, FitsSigned}
-use Rattle.av_types.specs.Places.{is_section_of}
+use Rattle.av_types.specs.Positions.{is_section_of}
 use Rattle.av_chunk.proofs.Heights.{section_test}
 use Rattle.av_codec.proofs.reading.sections.is_inside.Goals as goal
 

@@ -1,6 +1,6 @@
 use Rattle.std.proofs.Common.{◌≡◌, ◌∙◌, refl, sym, ap, rules, to_z, of_z, to_z-of_z, w8, FitsSigned, IsSome, Some, true, false, codes}
-use Rattle.av_types.specs.Places.{is_section_of}
-use Rattle.av_tags.specs.Place.{emptied}
+use Rattle.av_types.specs.Positions.{is_section_of}
+use Rattle.av_tags.specs.ByName.{emptied}
 use Rattle.av_tags.specs.Shape.{compound_of}
 use Rattle.av_tags.specs.View.{view, named_views}
 use Rattle.av_state.specs.Table.{states}
@@ -55,6 +55,6 @@ returns-clause-ok g c =
     let same : to_z w8 (of_z w8 y) ≡ y = to_z-of_z fits in
     let within : is_section_of c.args.height (to_z w8 (of_z w8 y)) ≡ true = sym c.is_inside.ensures ∙ c.if-not-is_inside.false in
     let read = rw c.in_ok-block_states.ensures.taken at c.in_ok-section.ensures.ok in
-    let kept : named_views c.emptied-2.new.tags.items ≡ emptied (codes "BlockLight") (emptied (codes "block_states") ms) = rw c.in_ok-block_states.ensures.place at c.in_ok-emptied.ensures.place in
+    let kept : named_views c.emptied-2.new.tags.items ≡ emptied (codes "BlockLight") (emptied (codes "block_states") ms) = rw c.in_ok-block_states.ensures.left at c.in_ok-emptied.ensures.left in
     rw is (inside_read c.args.height ms (states (g.N.Numbering.table c.args.numbering.now)) (states (g.N.Numbering.table c.read_states.new.numbering)) (to_z w8 (of_z w8 y)) c.in_ok-section.section
     (record { tags = c.emptied-2.new.tags; states = c.in_ok-section.states }) (number ∙ ap Some (sym same)) within read kept)

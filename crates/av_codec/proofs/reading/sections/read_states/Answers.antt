@@ -1,6 +1,7 @@
-use Rattle.std.proofs.Common.{◌≡◌, sym, Some, true, option_map, codes, rules}
+use Rattle.std.proofs.Common.{◌≡◌, ◌∙◌, sym, Some, true, false, option_map, codes, rules}
+use Rattle.std.proofs.lemmas.Bool.{true≢false}
 use Rattle.std.specs.Option.{option_copied}
-use Rattle.av_tags.specs.Place.{tag_of}
+use Rattle.av_tags.specs.ByName.{tag_of}
 use Rattle.av_tags.specs.View.{view, named_views}
 use Rattle.av_state.specs.Table.{states}
 use Rattle.av_section.specs.Reading.{IsStatesRefusal}
@@ -17,7 +18,7 @@ returns-in_err-section-clause-err g c =
     let is : compound_in (option_map view c.args.block_states) ≡ Some ms = rw c.in-Some.is (sym (rw c.unwrap-others.ensures at c.into_members.ensures)) in
     let palette : option_map view (option_copied c.find-palette.result) ≡ tag_of (codes "palette") ms = rw c.deref.ensures.value at c.find-palette.ensures in
     let longs : option_map view (option_copied c.find.result) ≡ tag_of (codes "data") ms = rw c.deref-2.ensures.value at c.find.ensures in
-    let refused : g.N.Numbering.takes ≡ true → IsStatesRefusal (tag_of (codes "palette") ms) (tag_of (codes "data") ms) old e = rw (palette, longs) at c.in_err-section.ensures.err in
+    let refused : g.N.Numbering.takes ≡ true → IsStatesRefusal (tag_of (codes "palette") ms) (tag_of (codes "data") ms) old e = λ t. (rw (palette, longs) at c.in_err-section.ensures.err) (λ f. absurd (true≢false (sym t ∙ f))) in
     let fact : g.N.Numbering.takes ≡ true → AreStatesRefused (compound_in (option_map view c.args.block_states)) old e = λ t. rw is (record { first = λ ne. judged_of (tag_of (codes "palette") ms) (tag_of (codes "data") ms) old e (refused t) ne }) in
     search (rules, fact)
 

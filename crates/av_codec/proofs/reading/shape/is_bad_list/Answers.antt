@@ -1,5 +1,5 @@
 use Rattle.std.proofs.Common.{codes, ◌∙◌, sym}
-use Rattle.av_tags.specs.Place.{tag_of}
+use Rattle.av_tags.specs.ByName.{tag_of}
 use Rattle.av_tags.specs.View.{views, named_views}
 use Rattle.av_codec.proofs.Numbers.{is_bad_list-at}
 use Rattle.av_codec.proofs.reading.shape.is_bad_list.Goals as goal

@@ -16,13 +16,13 @@ loop-tick-preserved c =
     let rest : List Nbt = views (into_iter_items c.next.new.self) in
     let step : views (into_iter_items c.loop-tick.tick-iterator) ≡ view t ∷ rest = ap views c.in-Some.ensures.steps.0 in
     let is : compound_of (view t) ≡ Some ms = rw c.unwrap-tags.ensures at (sym c.as_members.ensures) in
-    let good : is_bad_tick c.args.place c.args.height ms ≡ false = sym c.is_bad.ensures ∙ c.if-is_bad.false in
+    let good : is_bad_tick c.args.at c.args.height ms ≡ false = sym c.is_bad.ensures ∙ c.if-is_bad.false in
     let none : water_entry ms ≡ None = sym c.in-None-water_entry.ensures in
     let pushed : c.push.new.self.items ≡ c.loop-tick.foreign.items ++ t ∷ [] = c.in_ok-push-in-None-water_entry.ensures.items in
     record {
       water = water_step (entries c.loop-tick.water) t rest ms is none ∙ rw step at inv.water;
       foreign_are = rw pushed (foreign_step c.loop-tick.foreign.items t rest ms is none ∙ rw step at inv.foreign_are);
-      good = good_step c.args.place c.args.height t rest ms is good ∙ rw step at inv.good;
+      good = good_step c.args.at c.args.height t rest ms is good ∙ rw step at inv.good;
       compounds = others_after t rest (rw step at inv.compounds);
       kept = rw pushed (kept_step c.loop-tick.foreign.items t ms is inv.kept);
     }

@@ -15,7 +15,7 @@ invariant-loop-tick l =
     record {
       water : with_water (entries l.water) rest ≡ with_water [] all;
       foreign_are : opened (views l.foreign.items) ++ foreign rest ≡ foreign all;
-      good : list_any (is_bad_tick l.place l.height) rest ≡ list_any (is_bad_tick l.place l.height) all;
+      good : list_any (is_bad_tick l.at l.height) rest ≡ list_any (is_bad_tick l.at l.height) all;
       compounds : has_other (views (into_iter_items l.tick-iterator)) ≡ false;
       kept : has_other (views l.foreign.items) ≡ false;
     }

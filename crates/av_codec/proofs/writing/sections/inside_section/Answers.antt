@@ -4,7 +4,7 @@ use Rattle.av_tags.specs.Nbt.{NamedTag}
 use Rattle.av_tags.specs.View.{named_views}
 use Rattle.av_state.specs.Table.{states}
 use Rattle.av_section.specs.Section.{section_states}
-use Rattle.av_types.specs.Places.{section_index}
+use Rattle.av_types.specs.Positions.{section_index}
 use Rattle.av_chunk.specs.Rest.{tags_of, section_or_missing}
 use Rattle.av_chunk.specs.Views.{section_in}
 use Rattle.av_chunk.specs.Light.{light_section}
@@ -23,7 +23,7 @@ section_tags-requires c =
     let index : c.section_index-index.result ≡ section_index c.args.rest.now.height c.args.y = c.section_index-index.ensures.value ∙ ap (section_index c.args.rest.now.height) same_wide ∙ ap (section_index c.args.rest.now.height) same in
     let there : section_in c.args.rest.now.height c.args.chunk.now c.args.y ≡ Some c.in-Some.section.now =
     ap (λ n. slice_index_or c.args.chunk.now.sections.items n None) (sym index) ∙ sym c.in-Some.ensures in
-    rw c.table.ensures (numbers-of_section (states_of_kinds c.args.kinds.now) c.args.rest.now.place c.args.rest.now.height c.args.chunk.now c.args.y c.in-Some.section.now c.requires.inside there c.requires.can.numbered)
+    rw c.table.ensures (numbers-of_section (states_of_kinds c.args.kinds.now) c.args.rest.now.pos c.args.rest.now.height c.args.chunk.now c.args.y c.in-Some.section.now c.requires.inside there c.requires.can.numbered)
 
 pub returns : goal.returns
 returns c =

@@ -1,5 +1,5 @@
 use Rattle.std.proofs.Common.{rules, to_z, of_z, to_z-of_z, w8, w32, FitsSigned, ◌≡◌, Some, Option, IfOk, List, true, false, sym, ap, ◌∙◌, subst, option_map}
-use Rattle.av_types.specs.Places.{is_section_of}
+use Rattle.av_types.specs.Positions.{is_section_of}
 use Rattle.av_tags.specs.Nbt.{NamedTag}
 use Rattle.av_tags.specs.View.{named_views}
 use Rattle.av_chunk.specs.Rest.{found_outside}

@@ -4,7 +4,7 @@ use Rattle.av_types.specs.Division.{divided}
 use Rattle.av_types.specs.Water.{is_source}
 use Rattle.av_rules.specs.Kinds.{kind_count}
 use Rattle.av_section.specs.Section.{number_at}
-use Rattle.av_types.specs.Places.{section_index}
+use Rattle.av_types.specs.Positions.{section_index}
 use Rattle.av_chunk.specs.Views.{section_in, number_in}
 use Rattle.av_codec.specs.Writing.{is_source_number}
 use Rattle.av_codec.proofs.Written.{number_in-there}

@@ -7,7 +7,7 @@ abbrev pub invariant-loop-middle : goal.invariant-loop-middle
 invariant-loop-middle g l =
     record {
       seen : AreSeen (kinds_of l.kinds) (g.C.Cells.world l.cells) l.middle l.self;
-      left : AreLeft l.fn.places l.self.known l.left;
+      left : AreLeft l.fn.squares l.self.known l.left;
     }
 
 abbrev pub decreases-loop-middle : goal.decreases-loop-middle

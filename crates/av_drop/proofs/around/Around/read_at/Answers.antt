@@ -11,7 +11,7 @@ returns-clause-seen g c =
     let w = g.C.Cells.world c.args.cells.now in
     let p = c.args.middle in
     let s = c.requires.seen in
-    let at = c.args.place in
+    let at = c.args.square in
     let was = c.args.self.now in
     record {
       passes_are = marked_one (λ i. can_pass k w (spot p i)) was.known c.with-self.result was.passes c.with_if-self.result at c.with-self.ensures.others c.with_if-self.ensures.others s.passes_are

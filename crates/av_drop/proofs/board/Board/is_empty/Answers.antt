@@ -15,4 +15,4 @@ returns-clause-some c h =
     let fits : c.args.self.bits < 2 ^ 128 = search rules in
     let some : 0 < c.args.self.bits = grind (arith, nat_tests) in
     let first = bit_at-trailing_zeros w128 c.args.self.bits some fits in
-    record { place = _; bound = first.0; marked = one_on c.args.self _ first.1 }
+    record { square = _; bound = first.0; marked = one_on c.args.self _ first.1 }

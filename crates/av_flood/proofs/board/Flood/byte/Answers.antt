@@ -9,10 +9,10 @@ index-requires c =
     let f = c.args.self.now in
     ⊎_elim (λ p. omega (arith, p.less, f.long)) (λ e. omega (arith, e.less, f.long)) c.requires
 
-pub returns-clause-place : goal.returns-clause-place
-returns-clause-place c =
+pub returns-clause-on_board : goal.returns-clause-on_board
+returns-clause-on_board c =
     let f = c.args.self.now in
-    λ place. get_or_read f.light.items _ _ (omega (arith, place.less, f.long, f.light.ok.0)) c.index.ensures 0 ∙ raw_at f.chunk f.height c.args.spot.pos f.light.items c.args.spot.index place
+    λ on_board. get_or_read f.light.items _ _ (omega (arith, on_board.less, f.long, f.light.ok.0)) c.index.ensures 0 ∙ raw_at f.chunk f.height c.args.spot.pos f.light.items c.args.spot.index on_board
 
 pub returns-clause-far : goal.returns-clause-far
 returns-clause-far c =

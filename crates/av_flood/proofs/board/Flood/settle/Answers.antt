@@ -1,10 +1,10 @@
 use Rattle.std.proofs.Common.{◌≡◌, ◌+◌, false, subst, sym}
-use Rattle.av_flood.specs.Board.{raw_of, is_settled, IsPlace, IsSettled}
+use Rattle.av_flood.specs.Board.{raw_of, is_settled, IsOnBoard, IsSettled}
 use Rattle.av_flood.proofs.Boards.{settled_light, settled_settled, settled_byte, not_seen}
 use Rattle.av_flood.proofs.board.Flood.settle.Goals as goal
 
-pub settle_at-requires-clause-place : goal.settle_at-requires-clause-place
-settle_at-requires-clause-place c = subst (λ p. IsPlace c.args.self.now.chunk c.args.self.now.height p c.spot-spot.result.index) (sym c.spot-spot.ensures.pos) c.spot-spot.ensures.place
+pub settle_at-requires-clause-on_board : goal.settle_at-requires-clause-on_board
+settle_at-requires-clause-on_board c = subst (λ p. IsOnBoard c.args.self.now.chunk c.args.self.now.height p c.spot-spot.result.index) (sym c.spot-spot.ensures.pos) c.spot-spot.ensures.on_board
 
 pub settle_at-requires-clause-unsettled : goal.settle_at-requires-clause-unsettled
 settle_at-requires-clause-unsettled c = not_seen _ (subst (λ p. is_settled c.args.self.now p ≡ false) (sym c.spot-spot.ensures.pos) c.requires.unsettled)

@@ -1,6 +1,6 @@
 use Rattle.std.proofs.Common.{arith, ◌≡◌, ◌+◌, ℕ, Option, Some, None}
 use Rattle.std.specs.Prelude.{MatchOption}
-use Rattle.av_types.specs.declared.place.Pos.{Pos}
+use Rattle.av_types.specs.declared.position.Pos.{Pos}
 use Rattle.av_flood.proofs.Queues.{popped_or_none}
 use Rattle.av_flood.proofs.buckets.Buckets.pop.Goals as goal
 

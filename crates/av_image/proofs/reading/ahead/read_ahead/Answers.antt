@@ -30,6 +30,6 @@ collect-requires-send-C g c κs within = search (sendable, crosses, reading_send
 pub gathered-requires : goal.gathered-requires
 gathered-requires g c =
     let b = c.args.batch.now in
-    let made = IsTaken b.extent.places (IsMadeBy b (states c.args.table.now)) in
+    let made = IsTaken b.extent.count (IsMadeBy b (states c.args.table.now)) in
     let h = c.in_ok-all.ensures {u = tt} in
     subst (All made) (sym h.2) (all_given _ made (λ x y a. rw c.map.ensures.f at a) h.1.0 h.0 h.1.2)

@@ -1,6 +1,6 @@
 use Rattle.std.proofs.Common.{◌≡◌, ◌∙◌, refl, ap, sym, subst, true, false, map, List, [], ◌∷◌, All, Bool}
 use Rattle.std.proofs.lemmas.Bool.{false≢true}
-use Rattle.av_types.specs.Places.{IsInLimits}
+use Rattle.av_types.specs.Positions.{IsInLimits}
 use Rattle.av_files.specs.Files.{File, in_order, regions_rise}
 use Rattle.av_files.specs.FirstFault.{AllInLimits}
 use Rattle.av_region_files.specs.declared.files.RegionFile.{RegionFile}

@@ -1,5 +1,5 @@
 use Rattle.std.proofs.Common.{◌≢◌, subst, map, IfOk, IfErr}
-use Rattle.av_types.specs.declared.place.Height.{Height}
+use Rattle.av_types.specs.declared.position.Height.{Height}
 use Rattle.av_types.specs.declared.fault.Fault.TheVariants.{OutOfMemory}
 use Rattle.av_types.proofs.HeightNumbers.{height_is}
 use Rattle.av_state.specs.Table.{states}

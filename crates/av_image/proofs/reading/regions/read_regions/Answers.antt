@@ -2,13 +2,13 @@ use Rattle.std.proofs.Common.{◌≡◌, ◌≢◌, ◌∙◌, ◌++◌, ◌∷�
 use Rattle.std.specs.Vec.Iter.{into_iter_items}
 use Rattle.std.proofs.lemmas.List.{map-append}
 use Rattle.av_types.specs.declared.fault.Fault.TheVariants.{OutOfMemory}
-use Rattle.av_types.specs.Places.{IsInLimits}
+use Rattle.av_types.specs.Positions.{IsInLimits}
 use Rattle.av_state.specs.Table.{states}
 use Rattle.av_section.proofs.Numbers.{OnlyGrows-trans}
 use Rattle.av_files.specs.Files.{File}
 use Rattle.av_files.specs.FirstFault.{IsFirstOfFiles}
 use Rattle.av_region_files.specs.declared.files.RegionFile.{RegionFile}
-use Rattle.av_image.specs.Placed.{file_of}
+use Rattle.av_image.specs.RegionsRead.{file_of}
 use Rattle.av_image.specs.Ways.{FilesSoFar}
 use Rattle.av_image.proofs.Ways.{files_stop, files_more}
 use Rattle.std.specs.List.{All}

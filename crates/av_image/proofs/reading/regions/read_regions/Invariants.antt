@@ -1,9 +1,9 @@
 use Rattle.std.proofs.Common.{◌≡◌, ◌++◌, map}
 use Rattle.std.specs.List.{All}
 use Rattle.std.specs.Vec.Iter.{into_iter_items}
-use Rattle.av_types.specs.Places.{IsInLimits}
+use Rattle.av_types.specs.Positions.{IsInLimits}
 use Rattle.av_state.specs.Table.{states}
-use Rattle.av_image.specs.Placed.{file_of}
+use Rattle.av_image.specs.RegionsRead.{file_of}
 use Rattle.av_image.specs.Ways.{FilesSoFar}
 use Rattle.av_image.proofs.reading.regions.read_regions.Given as goal
 

@@ -3,7 +3,7 @@ use Rattle.std.proofs.lemmas.List.Elements.{All-push}
 use Rattle.std.proofs.Common.{◌≡◌, ◌∙◌, ◌<◌, ◌^◌, subst, ap, sym, arith, ◌∷◌, [], ◌++◌, ◌+◌, ◌≤◌, List, ℕ}
 use Rattle.std.proofs.lemmas.List.FromFn.{map-range_with_len_more}
 use Rattle.av_region.specs.Region.{stamp_of}
-use Rattle.av_image.specs.Placed.{are_stamps}
+use Rattle.av_image.specs.RegionsRead.{are_stamps}
 use Rattle.av_image.proofs.reading.regions.read_stamps.Goals as goal
 
 one_more : (file xs ys : List ℕ) (n s : ℕ) → ys ≡ xs ++ s ∷ [] → xs ≡ are_stamps file n → s ≡ stamp_of file n → ys ≡ are_stamps file (n + 1)

@@ -1,6 +1,6 @@
 use Rattle.std.proofs.Common.{◌≡◌, ◌<◌, ◌^◌}
 use Rattle.std.specs.List.{All}
-use Rattle.av_image.specs.Placed.{are_stamps}
+use Rattle.av_image.specs.RegionsRead.{are_stamps}
 use Rattle.av_image.proofs.reading.regions.read_stamps.Given as goal
 
 abbrev pub invariant-loop-index : goal.invariant-loop-index

@@ -3,7 +3,7 @@ use Rattle.std.specs.Prelude.{option_map, IfSome}
 use Rattle.av_image.specs.SavingSteps.{payload_items}
 use Rattle.av_image.specs.Making.{IsMade}
 use Rattle.av_image.proofs.PayloadLists.{first_more, first_all}
-use Rattle.av_dealt.proofs.InPlace.{in_place-set}
+use Rattle.av_dealt.proofs.AtIndices.{at_indices-set}
 use Rattle.av_image.proofs.writing.dealt.in_order.Goals as goal
 
 pub loop-index-preserved : goal.loop-index-preserved
@@ -13,7 +13,7 @@ loop-index-preserved c =
     record {
       made = first_more j.world.now j.kinds.now j.lights.now j.elapsed j.region.now c.loop-index.payloads.items c.push.new.self.items c.loop-index.index c.in_ok-payload.payload c.in_ok-push.ensures.items inv.made c.in_ok-payload.ensures;
       long = search rules;
-      placed = in_place-set (IsMade j) c.loop-index.places.items c.loop-index.index c.take.new.self inv.placed (subst (λ o. IfSome o (IsMade j c.loop-index.index)) (sym c.take.ensures.after) tt);
+      own = at_indices-set (IsMade j) c.loop-index.bytes.items c.loop-index.index c.take.new.self inv.own (subst (λ o. IfSome o (IsMade j c.loop-index.index)) (sym c.take.ensures.after) tt);
     }
 
 pub returns : goal.returns

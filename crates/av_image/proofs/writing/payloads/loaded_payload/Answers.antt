@@ -1,7 +1,7 @@
 use Rattle.std.proofs.Common.{◌≡◌, ◌∙◌, ◌<◌, ℕ, List, length, Some, refl, ap, sym, subst, arith}
 use Rattle.std.specs.Prelude.{slice_get, slice_index_or}
 use Rattle.std.proofs.lemmas.Option.{slice_get_within, slice_get_read}
-use Rattle.av_types.specs.declared.place.ChunkPos.{ChunkPos}
+use Rattle.av_types.specs.declared.position.ChunkPos.{ChunkPos}
 use Rattle.av_nbt.specs.Writing.{written_document}
 use Rattle.av_rules.specs.declared.kinds.Kinds.{Kinds}
 use Rattle.av_chunk.specs.Light.{section_count}
@@ -30,7 +30,7 @@ pub written_chunk-requires : goal.written_chunk-requires
 written_chunk-requires c =
     let less = below c.args.world.now c.args.kinds.now c.args.lights.now c.args.elapsed c.in-Some.index c.args.at c.requires.can c.in-Some.ensures.found in
     can_write c.args.world.now c.args.kinds.now c.args.lights.now c.args.elapsed c.requires.can c.args.at c.chunk.result.now c.requires.there (c.chunk.ensures.contents c.args.at c.in-Some.ensures.found)
-    c.args.rest.now c.index-lights-index.result c.requires.place c.requires.height
+    c.args.rest.now c.index-lights-index.result c.requires.own c.requires.height
     (lit c.args.world.now c.args.kinds.now c.args.lights.now c.args.elapsed c.in-Some.index c.index-lights-index.result c.requires.can less c.index-lights-index.is)
 
 pub returns : goal.returns
@@ -38,6 +38,6 @@ returns c =
     let less = below c.args.world.now c.args.kinds.now c.args.lights.now c.args.elapsed c.in-Some.index c.args.at c.requires.can c.in-Some.ensures.found in
     if_ok_then c.written_chunk.result c.written_chunk.ensures (λ bytes is. is ∙ ap written_document
     (written_is c.args.world.now c.args.kinds.now c.args.lights.now c.args.elapsed c.requires.can c.args.at c.chunk.result.now c.requires.there (c.chunk.ensures.contents c.args.at c.in-Some.ensures.found)
-    c.args.rest.now c.index-lights-index.result c.requires.place c.requires.height
+    c.args.rest.now c.index-lights-index.result c.requires.own c.requires.height
     (lit c.args.world.now c.args.kinds.now c.args.lights.now c.args.elapsed c.in-Some.index c.index-lights-index.result c.requires.can less c.index-lights-index.is)
     (here c.args.world.now c.args.lights.now c.in-Some.index c.args.at c.index-lights-index.result c.in-Some.ensures.found less c.index-lights-index.is)))

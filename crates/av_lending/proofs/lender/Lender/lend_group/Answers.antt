@@ -1,6 +1,6 @@
 use Rattle.std.proofs.Common.{◌≡◌, ◌∙◌, List, All, map, length, slice_get, ◌<◌, true, false, sym, ap, subst, None}
 use Rattle.std.specs.List.{AllPairs}
-use Rattle.av_types.specs.declared.place.ChunkPos.{ChunkPos}
+use Rattle.av_types.specs.declared.position.ChunkPos.{ChunkPos}
 use Rattle.av_cells.specs.Positions.{same_chunk}
 use Rattle.av_land.specs.Land.{has_chunk}
 use Rattle.av_world.specs.Index.{slot}
@@ -8,7 +8,7 @@ use Rattle.av_world.specs.Views.{positions_of}
 use Rattle.av_groups.specs.declared.groups.Group.{Group}
 use Rattle.av_groups.specs.declared.groups.Groups.{Groups}
 use Rattle.av_groups.specs.declared.groups.Touch.{Touch}
-use Rattle.av_groups.specs.Groups.{touched, IsPlaced}
+use Rattle.av_groups.specs.Groups.{touched, HasOwnIndex}
 use Rattle.av_lending.specs.Brought.{IsBringing}
 use Rattle.av_lending.proofs.Chunks.{its_group, given, still_under_way, all_there, next_in}
 use Rattle.av_lending.proofs.lender.Lender.lend_group.Goals as goal
@@ -52,6 +52,6 @@ returns-clause-under_way c =
     let brought =
     subst (λ (us : List Touch). IsBringing ps (map (λ t. t.chunk) us) None c.args.self.now c.bring.new.stages.items) ts
     (subst (λ old. IsBringing ps (map (λ (t : Touch). t.chunk) c.as_slice-touches.result.now) None old c.bring.new.stages.items) c.self.view_is
-    (c.bring.ensures p.start.value (subst (All (IsPlaced ps)) (sym ts) (c.requires.plan.is_plan.groups.cut.each c.args.number g at).placed) (ap length c.self.view_is ∙ c.requires.under_way.long))) in
+    (c.bring.ensures p.start.value (subst (All (HasOwnIndex ps)) (sym ts) (c.requires.plan.is_plan.groups.cut.each c.args.number g at).own_index) (ap length c.self.view_is ∙ c.requires.under_way.long))) in
     still_under_way p c.requires.plan.is_plan c.args.number g at c.args.world.now c.lend.new.self c.in_ok-lent.lent c.args.self.now c.requires.under_way
     (next_in c.args.plan.now c.requires.plan.is_plan c.args.number g at c.args.self.now c.requires.next.2) c.in_ok-lent.ensures.lent (λ d. c.in_ok-lent.ensures.chunks d ∙ ap (λ cs. has_chunk cs d) chunks) c.bring.new.stages.items brought.long brought.came

@@ -3,7 +3,7 @@ use Rattle.av_world.specs.Views.{positions_of}
 use Rattle.av_groups.specs.declared.groups.Group.{Group}
 use Rattle.av_groups.specs.declared.groups.Groups.{Groups}
 use Rattle.av_groups.specs.declared.groups.Touch.{Touch}
-use Rattle.av_groups.specs.Groups.{IsPlaced}
+use Rattle.av_groups.specs.Groups.{HasOwnIndex}
 use Rattle.av_lending.specs.Brought.{IsBringing}
 use Rattle.av_lending.proofs.Chunks.{its_group}
 use Rattle.av_lending.proofs.Ends.{back_there, goes_on}
@@ -22,4 +22,4 @@ returns c =
     goes_on p c.requires.plan.is_plan c.args.number c.args.world.now c.take_back.new.self c.args.back c.args.self.now c.requires.under_way c.requires.turned c.take_back.ensures c.bring.new.stages.items
     (subst (λ (us : List Touch). IsBringing ps (map (λ t. t.chunk) us) (Some (c.args.number + 1)) c.args.self.now c.bring.new.stages.items) ts
     (subst (λ old. IsBringing ps (map (λ (t : Touch). t.chunk) c.as_slice-touches.result.now) (Some (c.args.number + 1)) old c.bring.new.stages.items) c.self.view_is
-    (c.bring.ensures p.start.value (subst (All (IsPlaced ps)) (sym ts) (c.requires.plan.is_plan.groups.cut.each c.args.number g c.requires.turned.is).placed) (ap length c.self.view_is ∙ c.requires.under_way.long))))
+    (c.bring.ensures p.start.value (subst (All (HasOwnIndex ps)) (sym ts) (c.requires.plan.is_plan.groups.cut.each c.args.number g c.requires.turned.is).own_index) (ap length c.self.view_is ∙ c.requires.under_way.long))))

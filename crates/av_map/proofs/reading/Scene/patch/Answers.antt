@@ -1,5 +1,5 @@
 use Rattle.std.proofs.Common.{◌≡◌, ◌∙◌, List, ℕ, Err, refl, ap, sym, subst}
-use Rattle.av_types.specs.Places.{chunk_at}
+use Rattle.av_types.specs.Positions.{chunk_at}
 use Rattle.av_region.specs.Region.{IsShort}
 use Rattle.av_codec.proofs.Found.{if_ok_then}
 use Rattle.av_map.specs.Maps.{short, whole}

@@ -1,4 +1,4 @@
-use Rattle.av_types.specs.Places.{chunk_at}
+use Rattle.av_types.specs.Positions.{chunk_at}
 use Rattle.av_region.specs.Region.{Holds}
 use Rattle.av_codec.proofs.Found.{if_ok_then}
 use Rattle.av_survey.specs.Survey.{sectors}

@@ -5,7 +5,7 @@ use Rattle.av_pack.specs.Packing.{bits_for, unpacked}
 use Rattle.av_section.specs.Distinct.{AreEachOnce}
 use Rattle.av_section.specs.Indexed.{HasNumbers}
 use Rattle.av_section.proofs.FromLongs.{from_longs, packed_as_is}
-use Rattle.av_section.proofs.Placing.{placed_numbers}
+use Rattle.av_section.proofs.Ranking.{ranked_numbers}
 use Rattle.av_section.proofs.Ready.{none_below}
 use Rattle.av_section.proofs.section.Section.indexed.Goals as goal
 
@@ -13,26 +13,26 @@ pub repeated-requires-clause-palette : goal.repeated-requires-clause-palette
 repeated-requires-clause-palette c =
     let numbers = c.args.numbers.items in
     let once = c.in_ok-once.once.numbers.items in
-    let places = c.in_ok-once.once.places.items in
-    let p = c.in_ok-once.ensures.places in
-    subst (λ ns. AreEachOnce ns once) (sym (placed_numbers numbers once places p)) c.in_ok-once.ensures.numbers
+    let ranks = c.in_ok-once.once.ranks.items in
+    let p = c.in_ok-once.ensures.ranks in
+    subst (λ ns. AreEachOnce ns once) (sym (ranked_numbers numbers once ranks p)) c.in_ok-once.ensures.numbers
 
 pub returns-then-len : goal.returns-then-len
 returns-then-len c =
     let numbers = c.args.numbers.items in
     let once = c.in_ok-once.once.numbers.items in
-    let places = c.in_ok-once.once.places.items in
-    let p = c.in_ok-once.ensures.places in
+    let ranks = c.in_ok-once.once.ranks.items in
+    let p = c.in_ok-once.ensures.ranks in
     let longs = c.args.longs.now in
-    let named = subst (λ ns. IfOk c.repeated.result (HasNumbers ns (unpacked (bits_for (length places)) longs))) (placed_numbers numbers once places p) c.repeated.ensures.ok in
+    let named = subst (λ ns. IfOk c.repeated.result (HasNumbers ns (unpacked (bits_for (length ranks)) longs))) (ranked_numbers numbers once ranks p) c.repeated.ensures.ok in
     record { ok = subst (λ n. IfOk c.repeated.result (HasNumbers numbers (unpacked (bits_for n) longs))) p.count named }
 
 pub invariant_of-result-clause-packed : goal.invariant_of-result-clause-packed
 invariant_of-result-clause-packed c =
     let numbers = c.args.numbers.items in
     let once = c.in_ok-once.once.numbers.items in
-    let places = c.in_ok-once.once.places.items in
-    let p = c.in_ok-once.ensures.places in
+    let ranks = c.in_ok-once.once.ranks.items in
+    let p = c.in_ok-once.ensures.ranks in
     let indices = unpacked (bits_for (length numbers)) c.args.longs.now in
     let f = from_longs (length numbers) c.args.longs.now indices c.requires.indices in
     let same : length once ≡ length numbers = omega (arith, c.len.ensures, c.len-2.ensures, c.if-len.false, p.count) in
@@ -47,8 +47,8 @@ pub returns : goal.returns
 returns c =
     let numbers = c.args.numbers.items in
     let once = c.in_ok-once.once.numbers.items in
-    let places = c.in_ok-once.once.places.items in
-    let p = c.in_ok-once.ensures.places in
+    let ranks = c.in_ok-once.once.ranks.items in
+    let p = c.in_ok-once.ensures.ranks in
     let indices = unpacked (bits_for (length numbers)) c.args.longs.now in
     let f = from_longs (length numbers) c.args.longs.now indices c.requires.indices in
     let same : length once ≡ length numbers = omega (arith, c.len.ensures, c.len-2.ensures, c.if-len.false, p.count) in

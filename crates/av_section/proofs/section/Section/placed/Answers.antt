@@ -13,8 +13,8 @@ returns-then-is_empty-clause-ok c =
     let s = c.in_ok-section.ensures.ok in
     let number = c.index.ensures ∙ get_or_default numbers 0 c.index.result.now 0 c.requires.some in
     record {
-      places = all_zero;
-      places_are = zeros_there (length numbers) c.args.longs.now (sym c.is_empty.ensures ∙ c.if-is_empty.true) c.requires.fit;
+      found = all_zero;
+      found_are = zeros_there (length numbers) c.args.longs.now (sym c.is_empty.ensures ∙ c.if-is_empty.true) c.requires.fit;
       within = λ i low. rw (zero_at i low) c.requires.some;
       numbers_are = λ i low. rw (s.numbers i low, zero_at i low) number;
       pending = s.pending;
@@ -29,8 +29,8 @@ returns-clause-ok c =
     let indices = unpacked (bits_for count) longs in
     let f = from_longs count longs indices (packed_there count longs some c.requires.fit) in
     record {
-      places = indices;
-      places_are = indices_there count longs some c.requires.fit;
+      found = indices;
+      found_are = indices_there count longs some c.requires.fit;
       within = λ i low. f.below i 0 (omega (arith, f.long, low));
       numbers_are = s.numbers_are;
       pending = s.pending;

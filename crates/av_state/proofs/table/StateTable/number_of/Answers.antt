@@ -14,4 +14,4 @@ returns-in-Fixed-clause-value c =
 pub returns-in-Same-clause-there : goal.returns-in-Same-clause-there
 returns-in-Same-clause-there c =
     let xs = states c.args.self.now in
-    number_of-there xs (meant (state_of c.args.state.now)) c.place.result (c.place.ensures ∙ ap (option_and_then (number_in xs)) (sym c.in-Same.ensures))
+    number_of-there xs (meant (state_of c.args.state.now)) c.find.result (c.find.ensures ∙ ap (option_and_then (number_in xs)) (sym c.in-Same.ensures))

@@ -1,7 +1,7 @@
 -- The place of the position in its section's.
 use Rattle.std.proofs.Common.{◌≡◌, ◌∙◌, rules, sym, ap, Some, None}
 use Rattle.std.specs.BTreeMap.{get}
-use Rattle.av_types.specs.Places.{place_of}
+use Rattle.av_types.specs.Positions.{place_of}
 use Rattle.av_pack.specs.Places.{has_place}
 use Rattle.av_ticks.specs.Marked.{key_cmp, is_marked}
 use Rattle.av_ticks.proofs.Holding.{held_is}

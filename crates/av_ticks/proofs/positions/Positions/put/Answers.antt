@@ -1,7 +1,7 @@
 -- The place of the position is marked, in a section that was there or in a new one.
 use Rattle.std.proofs.Common.{◌||◌, ◌∙◌, ap}
 use Rattle.std.proofs.lemmas.Result.{err_from_is_err_and}
-use Rattle.av_types.specs.Places.{same_pos}
+use Rattle.av_types.specs.Positions.{same_pos}
 use Rattle.av_ticks.specs.declared.positions.Positions.{Positions}
 use Rattle.av_ticks.proofs.Holding.{held_put, held_same}
 use Rattle.av_ticks.proofs.positions.Positions.put.Goals as goal

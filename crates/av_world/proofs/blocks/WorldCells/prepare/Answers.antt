@@ -1,5 +1,5 @@
 use Rattle.std.proofs.Common.{ℕ, List, ◌≤◌, IsTrue, [], ◌∷◌}
-use Rattle.av_types.specs.Places.{section_of, chunk_of_section}
+use Rattle.av_types.specs.Positions.{section_of, chunk_of_section}
 use Rattle.av_cells.specs.Grid.{is_here}
 use Rattle.av_world.specs.Near.{cells_near}
 use Rattle.av_world.specs.Views.{grid, room, CanSetAt}

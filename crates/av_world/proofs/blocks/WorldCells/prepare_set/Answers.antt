@@ -1,5 +1,5 @@
 use Rattle.std.proofs.Common.{arith}
-use Rattle.av_types.specs.Places.{section_of}
+use Rattle.av_types.specs.Positions.{section_of}
 use Rattle.av_world.specs.Near.{cells_near}
 use Rattle.av_world.specs.Views.{CanSetAt}
 use Rattle.av_world.specs.Turned.{HasRoomAt}

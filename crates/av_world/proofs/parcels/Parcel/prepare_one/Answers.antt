@@ -1,5 +1,5 @@
 use Rattle.std.proofs.Common.{IsTrue, OnOk, All, List, ℕ, [], ◌∷◌, subst, sym}
-use Rattle.av_types.specs.declared.place.SectionPos.{SectionPos}
+use Rattle.av_types.specs.declared.position.SectionPos.{SectionPos}
 use Rattle.av_cells.specs.Grid.{is_here}
 use Rattle.av_world.specs.ParcelViews.{kept_grid, CanSetAt}
 use Rattle.av_world.proofs.ParcelSteps.{numbers_last}

@@ -1,6 +1,6 @@
 use Rattle.std.proofs.Common.{◌≡◌, IsTrue, All, true, subst, sym, rules}
-use Rattle.av_types.specs.declared.place.SectionPos.{SectionPos}
-use Rattle.av_types.proofs.SamePlaces.{same_section_is}
+use Rattle.av_types.specs.declared.position.SectionPos.{SectionPos}
+use Rattle.av_types.proofs.SamePositions.{same_section_is}
 use Rattle.av_cells.specs.Grid.{is_here}
 use Rattle.av_cells.specs.Positions.{same_section}
 use Rattle.av_world.specs.ParcelViews.{kept_grid, CanSetAt}

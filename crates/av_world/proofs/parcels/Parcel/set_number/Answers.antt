@@ -1,5 +1,5 @@
 use Rattle.std.proofs.Common.{◌≡◌, ◌<◌, ℕ, IsTrue, Option, length, length-set, slice_set, ap, sym, subst, false, rules}
-use Rattle.av_types.specs.Places.{section_of}
+use Rattle.av_types.specs.Positions.{section_of}
 use Rattle.av_section.specs.declared.section.Section.{Section}
 use Rattle.av_ticks.specs.Ticks.{entries}
 use Rattle.av_cells.specs.World as cells

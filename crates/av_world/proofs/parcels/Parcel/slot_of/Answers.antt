@@ -1,7 +1,7 @@
 use Rattle.std.proofs.Common.{◌≡◌, ◌<◌, pos, get_or, true, sym, ap, ◌∙◌, rules, length}
 use Rattle.std.proofs.lemmas.List.{get_or_default}
-use Rattle.av_types.specs.declared.place.SectionPos.{SectionPos}
-use Rattle.av_types.proofs.SamePlaces.{same_section_is}
+use Rattle.av_types.specs.declared.position.SectionPos.{SectionPos}
+use Rattle.av_types.proofs.SamePositions.{same_section_is}
 use Rattle.av_cells.specs.Positions.{same_section}
 use Rattle.av_world.proofs.Parts.{index_at_index}
 use Rattle.av_world.proofs.parcels.Parcel.slot_of.Goals as goal

@@ -1,6 +1,6 @@
 use Rattle.std.proofs.Common.{◌≡◌, ◌≤◌, ◌+◌, IsTrue, true, List, [], pos, get_or, drop, sym, ap, subst, ◌∙◌, arith}
 use Rattle.std.proofs.lemmas.List.{drop_all}
-use Rattle.av_types.specs.Places.{chunk_of}
+use Rattle.av_types.specs.Positions.{chunk_of}
 use Rattle.av_types.specs.declared.tick.Entry.{Entry}
 use Rattle.av_types.specs.declared.tick.Made.{Made}
 use Rattle.av_cells.specs.World as cells

@@ -1,6 +1,6 @@
 use Rattle.std.proofs.Common.{◌≡◌, ◌≤◌, ◌+◌, ℕ, cond, List, [], pos, length, get_or, drop, sym, ap, subst, ◌∙◌, arith, rules, nat_eq}
 use Rattle.std.proofs.lemmas.List.{drop_all, get_or-replicate, length-replicate}
-use Rattle.av_types.specs.Places.{chunk_of, chunk_of_section}
+use Rattle.av_types.specs.Positions.{chunk_of, chunk_of_section}
 use Rattle.av_types.specs.declared.tick.Entry.{Entry}
 use Rattle.av_types.specs.declared.tick.Made.{Made}
 use Rattle.av_world.specs.Index.{slot}

@@ -1,4 +1,4 @@
-use Rattle.av_types.specs.Places.{section_of, place_of}
+use Rattle.av_types.specs.Positions.{section_of, place_of}
 use Rattle.av_world.specs.Views.{sections}
 use Rattle.av_world.proofs.Whole.{height_of}
 use Rattle.av_world.proofs.LeftNumbers.{same_here, same_number}

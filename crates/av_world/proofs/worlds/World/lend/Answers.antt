@@ -1,5 +1,5 @@
 use Rattle.std.proofs.Common.{◌||◌, get_or, pos, sym, ap, ◌∙◌}
-use Rattle.av_types.specs.declared.place.ChunkPos.{ChunkPos}
+use Rattle.av_types.specs.declared.position.ChunkPos.{ChunkPos}
 use Rattle.av_cells.specs.Positions.{same_chunk}
 use Rattle.av_world.proofs.LentChunks.{has_next, not_before}
 use Rattle.av_world.proofs.worlds.World.lend.Goals as goal

@@ -1,8 +1,8 @@
 use Rattle.std.proofs.Common.{ℕ, sym, All, subst, List, [], ◌∷◌, IsTrue}
 use Rattle.std.proofs.lemmas.List.Elements.{All-weaker}
 use Rattle.std.proofs.lemmas.Result.{on_ok_weaker}
-use Rattle.av_types.specs.declared.place.Pos.{Pos}
-use Rattle.av_types.specs.declared.place.SectionPos.{SectionPos}
+use Rattle.av_types.specs.declared.position.Pos.{Pos}
+use Rattle.av_types.specs.declared.position.SectionPos.{SectionPos}
 use Rattle.av_cells.specs.Grid.{is_here}
 use Rattle.av_cells.specs.Positions.{around}
 use Rattle.av_world.specs.Views.{grid, CanSetAt}

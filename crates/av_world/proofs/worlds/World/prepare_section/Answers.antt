@@ -1,6 +1,6 @@
 use Rattle.std.proofs.Common.{◌≡◌, ◌<◌, ◌≤◌, ℕ, length, slice_set, subst, sym, ap, refl, arith, rules, true, Option, IsTrue, All}
 use Rattle.std.proofs.lemmas.Result.{on_ok_weaker}
-use Rattle.av_types.specs.Places.{is_section_of}
+use Rattle.av_types.specs.Positions.{is_section_of}
 use Rattle.av_ticks.specs.Ticks.{entries, room}
 use Rattle.av_section.specs.declared.section.Section.{Section}
 use Rattle.av_cells.specs.Grid.{cells_of, Grid, is_here}

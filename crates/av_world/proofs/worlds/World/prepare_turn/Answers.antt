@@ -1,7 +1,7 @@
 use Rattle.std.proofs.Common.{ℕ, sym, All, subst, List, [], ◌∷◌}
 use Rattle.std.proofs.lemmas.List.Elements.{All-weaker}
 use Rattle.std.proofs.lemmas.Result.{on_ok_weaker}
-use Rattle.av_types.specs.declared.place.Pos.{Pos}
+use Rattle.av_types.specs.declared.position.Pos.{Pos}
 use Rattle.av_world.specs.Turned.{corners, turned, HasRoomAt, CanSetAll}
 use Rattle.av_world.proofs.Steps.{not_refused, numbers_last, room_lasts, in_ok}
 use Rattle.av_world.proofs.worlds.World.prepare_turn.Goals as goal

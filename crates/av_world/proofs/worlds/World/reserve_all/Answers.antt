@@ -1,7 +1,7 @@
 use Rattle.std.proofs.Common.{◌≡◌, All, List, take, subst, arith}
 use Rattle.std.proofs.lemmas.List.Elements.{All-weaker, All-more}
 use Rattle.std.proofs.lemmas.List.{take_all}
-use Rattle.av_types.specs.declared.place.Pos.{Pos}
+use Rattle.av_types.specs.declared.position.Pos.{Pos}
 use Rattle.av_world.specs.Turned.{HasRoomAt}
 use Rattle.av_world.proofs.Steps.{not_refused, IsWorldKept-trans, room_lasts}
 use Rattle.av_world.proofs.worlds.World.reserve_all.Goals as goal

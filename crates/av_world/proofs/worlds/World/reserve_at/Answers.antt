@@ -1,7 +1,7 @@
 -- A block that is loaded and had room was not refused.
 use Rattle.std.proofs.Common.{◌≡◌, ◌≤◌, IsTrue, sym, subst, ◌∙◌, ap, rules}
-use Rattle.av_types.specs.Places.{chunk_of, chunk_of_section}
-use Rattle.av_types.specs.declared.place.ChunkPos.{ChunkPos}
+use Rattle.av_types.specs.Positions.{chunk_of, chunk_of_section}
+use Rattle.av_types.specs.declared.position.ChunkPos.{ChunkPos}
 use Rattle.av_world.specs.Views.{blocks, room}
 use Rattle.av_world.proofs.Steps.{loaded_before, not_refused}
 use Rattle.av_world.proofs.worlds.World.reserve_at.Goals as goal

@@ -1,7 +1,7 @@
 use Rattle.std.proofs.Common.{◌≡◌, All, List, take, slice_index_or, subst, sym, ◌∙◌, arith, pos}
 use Rattle.std.proofs.lemmas.List.Elements.{All-weaker, All-more}
 use Rattle.std.proofs.lemmas.List.{take_all}
-use Rattle.av_types.specs.declared.place.Pos.{Pos}
+use Rattle.av_types.specs.declared.position.Pos.{Pos}
 use Rattle.av_world.specs.Turned.{HasChunkRoom}
 use Rattle.av_world.proofs.Steps.{IsWorldKept-trans, chunk_room_lasts, chunk_room}
 use Rattle.av_world.proofs.worlds.World.reserve_chunks.Goals as goal

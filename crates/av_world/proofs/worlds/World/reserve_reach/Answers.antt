@@ -1,7 +1,7 @@
 use Rattle.std.proofs.Common.{All, sym, subst, take, List}
 use Rattle.std.proofs.lemmas.List.Elements.{All-weaker}
 use Rattle.std.proofs.lemmas.Result.{on_ok_weaker}
-use Rattle.av_types.specs.declared.place.Pos.{Pos}
+use Rattle.av_types.specs.declared.position.Pos.{Pos}
 use Rattle.av_world.specs.Turned.{corners, HasRoomAt, HasChunkRoom}
 use Rattle.av_world.proofs.Steps.{IsWorldKept-trans, room_lasts, corners_room}
 use Rattle.av_world.proofs.worlds.World.reserve_reach.Goals as goal

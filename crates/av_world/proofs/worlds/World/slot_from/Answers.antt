@@ -1,7 +1,7 @@
 use Rattle.std.proofs.Common.{◌≡◌, ◌<◌, pos, get_or, true, sym, ap, ◌∙◌, rules, length}
 use Rattle.std.proofs.lemmas.List.{get_or_default}
-use Rattle.av_types.specs.declared.place.ChunkPos.{ChunkPos}
-use Rattle.av_types.proofs.SamePlaces.{same_chunk_is}
+use Rattle.av_types.specs.declared.position.ChunkPos.{ChunkPos}
+use Rattle.av_types.proofs.SamePositions.{same_chunk_is}
 use Rattle.av_cells.specs.Positions.{same_chunk}
 use Rattle.av_world.specs.Index.{slot}
 use Rattle.av_world.proofs.Search.{near_is_slot}

@@ -1,9 +1,0 @@
--- The places that came are their own.
-use Rattle.std.proofs.Common.{◌≡◌, ◌<◌, ℕ, length, get_or}
-use Rattle.av_section.proofs.indices.own_places.Given as goal
-
-abbrev pub invariant-loop-index : goal.invariant-loop-index
-invariant-loop-index l = record {
-  many : length l.places.items ≡ length l.fn.list.items;
-  own : (j : ℕ) → j < l.index → get_or l.places.items j 0 ≡ j;
-}
