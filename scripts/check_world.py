@@ -13,6 +13,7 @@ import glob
 import os
 import resource
 import shutil
+import signal
 import subprocess
 import sys
 import tempfile
@@ -255,6 +256,8 @@ def oversized(world):
 def main():
     if len(sys.argv) != 2:
         sys.exit(__doc__)
+    # What a shell runs in the background has INT ignored, and so would the calls.
+    signal.signal(signal.SIGINT, signal.default_int_handler)
     program, asked, wrong = os.path.abspath(sys.argv[1]), 0, 0
     of_others = (check_others.journals_of_others, check_others.by_links, check_others.taken_away, check_others.attributes, check_others.one_backup,
                  check_others.killed, check_others.fixed, check_others.limits, check_others.no_locks, check_others.hung_up,
