@@ -11,7 +11,7 @@ pub data Step : Type 0 where
   Written : (name bytes : List ℕ) → Step
   -- a file was not written: what is left under its name
   Spoiled : (name : List ℕ) (left : Option (List ℕ)) → Step
-  -- a file took another name, where it was there
+  -- a file took the name of another, which it replaced, where it was there
   Moved : (from to : List ℕ) → Step
   Removed : (name : List ℕ) → Step
   -- the names are on the device as well

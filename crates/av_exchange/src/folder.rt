@@ -23,7 +23,7 @@ pub trait Folder {
         ensures err { OnErr result ((left : Option (List ℕ))
             × (history self.new ≡ with_steps (history self.old) (Spoiled name.now left ∷ []))) };
 
-    /// Lets a file take another name, where it is there.
+    /// Lets a file take the name of another, which it replaces, where it is there.
     fn move_over(&mut self, from: &str, to: &str) -> io::Result<()>
         ensures ok { OnOk result (history self.new
             ≡ with_steps (history self.old) (Moved from.now to.now ∷ [])) }

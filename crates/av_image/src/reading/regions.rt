@@ -76,7 +76,7 @@ fn read_batch(
     Ok(())
 }
 
-/// All indices of a region, in the order of their indices. Only a batch is read ahead, by the states that those before it left:
+/// What a region has at all its indices, in order. Only a batch is read ahead, by the states that those before it left:
 /// all would take much memory, and most of the work on a region that is refused early would be for nothing.
 fn read_all(
     rt: &(impl Threads + Sync),
