@@ -58,22 +58,23 @@ cat > "$lab/bin/rt" <<'LINES'
 #!/bin/sh
 name=$(basename "$PWD")
 case $name in low) below= ;; high) below="low left right" ;; *) below=low ;; esac
-for crate in $below; do [ -e "../$crate/out/built" ] || exit 1; done
+for crate in $below; do [ -e "../$crate/out/rlib/built" ] || exit 1; done
 [ "$1" = lib ] && echo "$*: $name" >> "$BUILT"
-mkdir -p out && touch out/built
+mkdir -p out/rlib && touch out/rlib/built
 LINES
 chmod +x "$lab/bin/rt"
 
 # How prove.py ends for the last crate.
 prove() {
   local status=0
-  BUILT=$lab/built PATH="$lab/bin:$PATH" "$lab/tree/scripts/prove.py" high --jobs "$1" > "$lab/out" 2> "$lab/err" || status=$?
+  BUILT=$lab/built XDG_CACHE_HOME=$lab/cache PATH="$lab/bin:$PATH" "$lab/tree/scripts/prove.py" high --jobs "$1" > "$lab/out" 2> "$lab/err" || status=$?
   echo "status $status"
 }
 
 expect "four crates side by side" "status 0" "$(prove 4)"
 expect "its last step is told too" "3 of 4 crates are proved, less than a minute left; proving high" "$(tail -n 1 "$lab/err")"
 expect "each is built once, and the large one by two processes" "lib --jobs 1: low lib --jobs 1: right lib --jobs 2: left" "$(sort "$lab/built" | xargs)"
+expect "and how long each took" "left low right" "$(cut -d ' ' -f 1 "$lab/cache/anvilwater/proof_seconds.txt" | xargs)"
 rm "$lab/built"
 expect "two by two" "status 0" "$(prove 2)"
 expect "each by one process" "lib --jobs 1: left lib --jobs 1: low lib --jobs 1: right" "$(sort "$lab/built" | xargs)"

@@ -15,6 +15,7 @@ command. Status: that of the command; 1 where a check failed before, which then 
 """
 import argparse
 import concurrent.futures
+import contextlib
 import functools
 import os
 import pathlib
@@ -30,8 +31,14 @@ import time
 TOP = pathlib.Path(__file__).resolve().parent.parent
 # There is one job for each processor, and each is given 3 GB, of which it wants some 2.
 MEMORY_OF_A_JOB = 3 << 30
-# How many seconds the proof of each crate took once, and about how many that of one which is not listed takes, by its functions.
+# The folder of a crate's library in what was built of it.
+LIBRARY = "rlib"
+# What the kit says where a check begins with what another kept.
+KEPT_WORK = "begins with what a check kept"
+# How many seconds the proof of each crate took once: where that was committed, and on this machine, which counts where it is known. And about how
+# many that of one which is not listed takes, by its functions.
 SECONDS = TOP / "scripts/proof_seconds.txt"
+SECONDS_HERE = pathlib.Path(os.environ.get("XDG_CACHE_HOME") or pathlib.Path.home() / ".cache") / "anvilwater/proof_seconds.txt"
 SECONDS_OF_A_CRATE = 20
 SECONDS_OF_A_FUNCTION = 2
 # So many functions are worth a second process.
@@ -67,10 +74,30 @@ def functions(name):
     return sum(len(re.findall(r"\bfn ", file.read_text())) for file in (TOP / "crates" / name / "src").rglob("*.rt"))
 
 
+def seconds_in(file):
+    """The seconds that a file has for crates, or none where it can't be read."""
+    try:
+        lines = [line.split() for line in file.read_text().splitlines() if not line.startswith("#")]
+        return {name: int(seconds) for name, seconds in lines}
+    except (OSError, ValueError):
+        return {}
+
+
+def note_time(name, seconds):
+    """Keeps on this machine what the proof of a crate took from nothing. Where that can't be kept, it is only not known."""
+    known = {**seconds_in(SECONDS_HERE), name: max(1, round(seconds))}
+    try:
+        SECONDS_HERE.parent.mkdir(parents=True, exist_ok=True)
+        with tempfile.NamedTemporaryFile("w", dir=SECONDS_HERE.parent, delete=False) as file:
+            file.writelines("%s %d\n" % line for line in sorted(known.items()))
+        os.replace(file.name, SECONDS_HERE)
+    except OSError:
+        pass
+
+
 def sizes(names):
     """About how many seconds the check of each crate takes."""
-    lines = [line.split() for line in SECONDS.read_text().splitlines() if not line.startswith("#")]
-    measured = {name: int(seconds) for name, seconds in lines}
+    measured = {**seconds_in(SECONDS), **seconds_in(SECONDS_HERE)}
     return {name: measured.get(name, SECONDS_OF_A_CRATE + SECONDS_OF_A_FUNCTION * functions(name)) for name in names}
 
 
@@ -105,7 +132,7 @@ def built(tree, name):
 
 
 def hand_on(source, target, copy):
-    """Hands on what was built of a crate to another tree, where it is there."""
+    """Hands on what was built of a crate, or its library alone, to another tree, where it is there."""
     if source.is_dir():
         shutil.rmtree(target, ignore_errors=True)
         shutil.copytree(source, target, symlinks=True, copy_function=copy)
@@ -126,31 +153,48 @@ class Trees:
                 shutil.copy(TOP / name, tree / name)
             self.free.append(tree)
 
-    def prepare(self, tree, name):
-        """Hands a copy what was built below a crate, which is only read, and what an earlier call has kept of the crate itself."""
-        for other in closure(name, self.below) - {name}:
-            if not built(tree, other).exists():
-                hand_on(built(TOP, other), built(tree, other), link)
-        hand_on(built(TOP, name), built(tree, name), shutil.copy2)
-
-    def check(self, name, processes):
-        """Proves a crate in a copy that is free, by so many processes."""
+    @contextlib.contextmanager
+    def borrowed(self):
+        """Gives a copy that is free."""
         with self.lock:
             tree = self.free.pop()
-        self.prepare(tree, name)
+        try:
+            yield tree
+        finally:
+            with self.lock:
+                self.free.append(tree)
+
+    def prepare(self, tree, name):
+        """Hands a copy the libraries below a crate, which are only read, and what an earlier call has kept of the crate itself."""
+        for other in closure(name, self.below) - {name}:
+            if not (built(tree, other) / LIBRARY).exists():
+                hand_on(built(TOP, other) / LIBRARY, built(tree, other) / LIBRARY, link)
+        hand_on(built(TOP, name), built(tree, name), shutil.copy2)
+
+    def run(self, words, folder):
+        """Runs a command of the kit, and answers its status and what it printed."""
         started = subprocess.Popen(
-            ["rt", "lib", "--jobs", str(processes)], cwd=tree / "crates" / name, stdin=subprocess.DEVNULL, stdout=subprocess.PIPE,
-            stderr=subprocess.STDOUT, start_new_session=True)
+            words, cwd=folder, stdin=subprocess.DEVNULL, stdout=subprocess.PIPE, stderr=subprocess.STDOUT, start_new_session=True)
         with self.lock:
             self.running.add(started)
         printed = started.communicate()[0]
-        hand_on(built(tree, name), built(TOP, name), link)
         with self.lock:
             self.running.discard(started)
-            self.free.append(tree)
-        if started.returncode != 0:
-            raise Failed(name, printed.decode(errors="replace"))
-        return name
+        return started.returncode, printed.decode(errors="replace")
+
+    def check(self, name, processes):
+        """Proves a crate in a copy that is free, by so many processes, and builds its library. Answers its name, and the seconds of a processor that
+        this took, where nothing was kept of it."""
+        with self.borrowed() as tree:
+            self.prepare(tree, name)
+            is_new = not built(tree, name).exists()
+            begun = time.monotonic()
+            status, printed = self.run(["rt", "lib", "--jobs", str(processes)], tree / "crates" / name)
+            seconds = processes * (time.monotonic() - begun)
+            hand_on(built(tree, name), built(TOP, name), link)
+        if status != 0:
+            raise Failed(name, printed)
+        return name, seconds if is_new and KEPT_WORK not in printed else None
 
     def stop(self):
         """Ends the checks that are under way."""
@@ -213,7 +257,10 @@ def prove(top, below, jobs, last):
                 say(done, size, height, jobs, [name for name, _ in running.values()], begun)
                 for ended in concurrent.futures.wait(running, return_when=concurrent.futures.FIRST_COMPLETED).done:
                     del running[ended]
-                    done.add(ended.result())
+                    name, seconds = ended.result()
+                    done.add(name)
+                    if seconds:
+                        note_time(name, seconds)
         except BaseException:
             trees.stop()
             raise
