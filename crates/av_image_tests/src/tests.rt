@@ -121,6 +121,26 @@ fn files_that_are_refused(rt: HostRuntime) -> Result<(), Fail> {
     Ok(())
 }
 
+/// Of two files with a fault that of the first is answered, by z and then by x: `BadNbt` of a payload that is cut, and
+/// `ShortHeader`. So the region (1, 0) comes before (0, 1).
+#[test]
+fn the_first_fault_of_files(rt: HostRuntime) -> Result<(), Fail> {
+    let alloc = rt.alloc();
+    for (cut, short, fault) in [
+        ((1, 0), (0, 1), Fault::BadNbt),
+        ((0, 1), (1, 0), Fault::ShortHeader),
+    ] {
+        let mut payloads = Vec::new(alloc);
+        payloads.push(Vec::from_slice(alloc, b"\x0a\0")?)?;
+        let bytes = region(alloc, payloads.as_slice())?;
+        let mut files = zeros(alloc, &[(short.0, short.1, 8191)])?;
+        let pos = RegionPos { x: cut.0, z: cut.1 };
+        files.push(RegionFile { pos, bytes })?;
+        assert!(rt; read(&rt, alloc, files).err() == Some(fault));
+    }
+    Ok(())
+}
+
 /// A region of so many chunks that are not full, from index 0 on, of which some have other payloads.
 fn kept_chunks(
     alloc: Global,

@@ -260,11 +260,12 @@ fn overdue_entries_of_the_file(rt: HostRuntime) -> Result<(), Fail> {
     expect(&rt, rt.alloc(), before, "", (1, 1, 2), after)
 }
 
-/// An entry that is due long after hides the wakings of its block, and is written with what is left of its time.
+/// An entry that is due long after hides the wakings of its block, and is written with what is left of its time, also of the
+/// longest that a file can have.
 #[test]
 fn an_entry_far_off(rt: HostRuntime) -> Result<(), Fail> {
-    let entries = [(at(8, 64, 8), 99, false)];
-    let left = [(at(8, 64, 8), 79, true)];
+    let entries = [(at(8, 64, 8), 99, false), (at(4, 64, 4), 2147483647, false)];
+    let left = [(at(8, 64, 8), 79, true), (at(4, 64, 4), 2147483627, false)];
     let source = [wet(8, 8, 0)];
     let after = flat(source.as_slice(), left.as_slice());
     expect(
