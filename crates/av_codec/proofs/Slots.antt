@@ -1,5 +1,5 @@
 -- Sections put at their indices.
-use Rattle.std.proofs.Common.{◌≡◌, ◌≢◌, ℕ, ◌<◌, ◌≤◌, ◌+◌, ℤ, Bool, true, false, true≢false, Option, Some, None, List, [], ◌∷◌, ◌++◌, length, get_or, slice_set, slice_get, refl, sym, ap, ◌∙◌, arith, if◌then◌else◌, Decides, get_or-set_same, get_or-set_other, length-set, zero, suc, below_more, option_map, take}
+use Rattle.std.proofs.Common.{◌≡◌, ◌≢◌, ℕ, ◌<◌, ◌≤◌, ◌+◌, ℤ, Bool, true, false, true≢false, Option, Some, None, List, [], ◌∷◌, ◌++◌, length, get_or, slice_set, slice_get, refl, sym, ap, ◌∙◌, arith, if◌then◌else◌, Decides, get_or-set_same, get_or-set_other, length-set, zero, suc, below_more, option_map, take, Result, Ok, Err, IfOk, IfErr}
 use Rattle.std.proofs.lemmas.Bool.Decides.{Decides-int_eq}
 use Rattle.std.proofs.lemmas.Option.{same_Some}
 use Rattle.std.specs.Ordering.{int_eq}
@@ -25,7 +25,7 @@ use Rattle.av_codec.specs.declared.reading.sections.SplitSection.{SplitSection}
 use Rattle.av_codec.specs.declared.reading.sections.SplitSection.TheVariants.{Inside, Outside}
 use Rattle.av_codec.specs.declared.reading.sections.Sections.{Sections}
 use Rattle.av_chunk.specs.Rest.{section_or_missing, found_outside}
-use Rattle.av_codec.specs.SectionsRead.{HasCells, IsInside, IsOutside, IsSplitSection, IsSectionRead, IsSectionRefused, or_missing, SlotHas, SlotFinds, SlotFilled, AreFilled, FilledBelow, HoldSections, AreMissing, IsSplitAdded, AreFound, AreSectionsRead, AreJudged, FitsHeight}
+use Rattle.av_codec.specs.SectionsRead.{HasCells, IsInside, IsOutside, IsSplitSection, IsSectionRead, IsSectionRefused, or_missing, SlotHas, SlotFinds, SlotFilled, AreFilled, FilledBelow, HoldSections, AreMissing, IsSplitAdded, IsJudged, AreFound, AreSectionsRead, AreJudged, FitsHeight}
 use Rattle.av_chunk.proofs.Heights.{offset_below, offset_apart}
 use Rattle.av_codec.proofs.Numbers.{HasNewNumber}
 use Rattle.av_codec.proofs.Judging.{with_states-append, first_kept, first_of, first_lesser, memory_first, memory_before}
@@ -164,14 +164,14 @@ AreFound-split h rows ms start old new split r u g read new_number added before 
   held = HoldSections-split h old new rows ms split r u g read.is_split new_number added before.held;
 }
 
-pub AreJudged-split : (takes : Bool) (h : Height) (rows : List (List NamedTag)) (ms : List NamedTag) (start old new : List BlockState) (split : SplitSection) (r u : Sections) (refused : Option Fault)
+AreJudged-split : (takes : Bool) (h : Height) (rows : List (List NamedTag)) (ms : List NamedTag) (start old new : List BlockState) (split : SplitSection) (r u : Sections) (refused : Option Fault)
     → OnlyGrows old new → IsSectionRead h ms old new split → HasNewNumber rows ms → IsSplitAdded h split r u → AreJudged takes h rows start old r refused
     → AreJudged takes h (rows ++ ms ∷ []) start new u refused
 AreJudged-split takes h rows ms start old new split r u None g read new_number added before = AreFound-split h rows ms start old new split r u g read new_number added before
 AreJudged-split takes h rows ms start old new split r u (Some e) g read new_number added before =
     λ t ne. record { first = first_kept h rows ms start (fault_number e) (before t ne).first read.no_fault }
 
-pub AreJudged-refused : (takes : Bool) (h : Height) (rows : List (List NamedTag)) (ms : List NamedTag) (start old new : List BlockState) (r u : Sections) (refused : Option Fault) (e f : Fault)
+AreJudged-refused : (takes : Bool) (h : Height) (rows : List (List NamedTag)) (ms : List NamedTag) (start old new : List BlockState) (r u : Sections) (refused : Option Fault) (e f : Fault)
     → (takes ≡ true → IsSectionRefused h ms old e) → fault_number f ≡ lesser (fault_number e) (option_map fault_number refused) → AreJudged takes h rows start old r refused
     → AreJudged takes h (rows ++ ms ∷ []) start new u (Some f)
 AreJudged-refused takes h rows ms start old new r u None e f bad n before =
@@ -181,6 +181,15 @@ AreJudged-refused takes h rows ms start old new r u (Some d) e f bad n before =
     let early = before t (memory_before e d f n nf) in
     let first = first_lesser h rows ms start old (fault_number d) (fault_number e) early.first ((bad t).first (memory_first e f (Some (fault_number d)) n nf)) in
     record { first = first ∙ ap Some (sym n) }
+
+pub AreJudged-next : (takes : Bool) (h : Height) (rows : List (List NamedTag)) (ms : List NamedTag) (start old new : List BlockState) (read : Result SplitSection Fault) (r u : Sections)
+    (refused now : Option Fault) → OnlyGrows old new → IfOk read (IsSectionRead h ms old new) → IfErr read (λ e. takes ≡ true → IsSectionRefused h ms old e) → HasNewNumber rows ms
+    → IsJudged h read refused r u now → AreJudged takes h rows start old r refused → AreJudged takes h (rows ++ ms ∷ []) start new u now
+AreJudged-next takes h rows ms start old new (Ok split) r u refused now g ok bad new_number judged before =
+    rw judged.1 (AreJudged-split takes h rows ms start old new split r u refused g ok new_number judged.0 before)
+AreJudged-next takes h rows ms start old new (Err e) r u refused None g ok bad new_number judged before = let n = judged.1 in cc
+AreJudged-next takes h rows ms start old new (Err e) r u refused (Some f) g ok bad new_number judged before =
+    AreJudged-refused takes h rows ms start old new r u refused e f bad (same_Some (fault_number f) _ judged.1) before
 
 -- ---- none before the first, and air where there is none after the last
 
@@ -246,13 +255,23 @@ FilledBelow-more old now n new l low f before = record {
 pub FilledBelow-all : (old now : List (Option Section)) (n : ℕ) → length now ≡ length old → length old ≤ n → FilledBelow n old now → AreFilled old now
 FilledBelow-all old now n l past all = record { count = l; slots = λ i p. all.filled i (omega arith) }
 
-pub section_counts : (h : Height) (split : SplitSection) (r u : Sections) → IsSplitAdded h split r u → length r.sections.items ≡ h.sections → length u.sections.items ≡ h.sections
+section_counts : (h : Height) (split : SplitSection) (r u : Sections) → IsSplitAdded h split r u → length r.sections.items ≡ h.sections → length u.sections.items ≡ h.sections
 section_counts h (Inside y s kept) r u p l = ap length p.0 ∙ (length-set r.sections.items (section_index h y) (Some s) ∙ l)
 section_counts h (Outside o) r u p l = ap length p.0 ∙ l
 
-pub kept_counts : (h : Height) (split : SplitSection) (r u : Sections) → IsSplitAdded h split r u → length r.kept.items ≡ h.sections → length u.kept.items ≡ h.sections
+kept_counts : (h : Height) (split : SplitSection) (r u : Sections) → IsSplitAdded h split r u → length r.kept.items ≡ h.sections → length u.kept.items ≡ h.sections
 kept_counts h (Inside y s kept) r u p l = ap length p.1 ∙ (length-set r.kept.items (section_index h y) (Some kept) ∙ l)
 kept_counts h (Outside o) r u p l = ap length p.1 ∙ l
+
+pub judged_sections : (h : Height) (read : Result SplitSection Fault) (r u : Sections) (refused now : Option Fault) → IsJudged h read refused r u now
+    → length r.sections.items ≡ h.sections → length u.sections.items ≡ h.sections
+judged_sections h (Ok split) r u refused now judged l = section_counts h split r u judged.0 l
+judged_sections h (Err e) r u refused now judged l = ap (λ (s : Sections). length s.sections.items) judged.0 ∙ l
+
+pub judged_kept : (h : Height) (read : Result SplitSection Fault) (r u : Sections) (refused now : Option Fault) → IsJudged h read refused r u now
+    → length r.kept.items ≡ h.sections → length u.kept.items ≡ h.sections
+judged_kept h (Ok split) r u refused now judged l = kept_counts h split r u judged.0 l
+judged_kept h (Err e) r u refused now judged l = ap (λ (s : Sections). length s.kept.items) judged.0 ∙ l
 
 pub split_fits : (h : Height) (table : List BlockState) (ms : List NamedTag) (split : SplitSection) → IsSplitSection h table ms split → FitsHeight h split
 split_fits h table ms (Inside y s kept) p = p.within

@@ -1,7 +1,7 @@
 -- What the readers of sections answer. Working definitions: no public clause cites them.
-use Rattle.std.specs.Prelude.{◌≡◌, ◌≢◌, ℕ, ◌<◌, ◌≤◌, ℤ, List, [], ◌∷◌, ◌++◌, Option, Some, None, Bool, true, false, nat_lt, length, slice_get, slice_index_or, slice_set, codes}
+use Rattle.std.specs.Prelude.{◌≡◌, ◌≢◌, ℕ, ◌<◌, ◌≤◌, ℤ, List, [], ◌∷◌, ◌++◌, Option, Some, None, Bool, true, false, nat_lt, length, slice_get, slice_index_or, slice_set, codes, option_map, Result, Ok, Err}
 use Rattle.std.specs.List.{flat_map}
-use Rattle.av_types.specs.Faults.{fault_number, least, IsRefusal}
+use Rattle.av_types.specs.Faults.{fault_number, least, lesser, IsRefusal}
 use Rattle.av_types.specs.Positions.{is_section_of, section_index}
 use Rattle.av_types.specs.declared.position.Height.{Height}
 use Rattle.av_types.specs.declared.fault.Fault.{Fault}
@@ -110,6 +110,11 @@ IsSplitAdded h (Outside o) old new =
 abbrev pub FitsHeight : Height → SplitSection → Type 0
 FitsHeight h (Inside y s kept) = is_section_of h y ≡ true
 FitsHeight h (Outside o) = Unit {0}
+
+-- one more section, or its fault: of several faults the first
+abbrev pub IsJudged : Height → Result SplitSection Fault → Option Fault → Sections → Sections → Option Fault → Type 0
+IsJudged h (Ok split) refused old new now = IsSplitAdded h split old new × (now ≡ refused)
+IsJudged h (Err e) refused old new now = (new ≡ old) × (option_map fault_number now ≡ Some (lesser (fault_number e) (option_map fault_number refused)))
 
 -- what all sections so far are read as
 pub record AreFound (h : Height) (rows : List (List NamedTag)) (old new : List BlockState) (r : Sections) : Type 0 where

@@ -8,7 +8,7 @@ ghost use Rattle.av_tags.specs.View.{view, views, named_view, named_views};
 ghost use Rattle.av_state.specs.Table.{states};
 ghost use Rattle.av_section.specs.Reading.{OnlyGrows};
 ghost use Rattle.av_document.specs.Chunk.{is_other, share_a_number};
-ghost use Rattle.av_codec.specs.SectionsRead.{AreStates, AreStatesRefused, IsSectionRead, IsSectionRefused, AreMissing, IsSplitAdded, FitsHeight, SlotFilled, AreFilled, AreFound, AreSectionsRead, AreRefusedBy};
+ghost use Rattle.av_codec.specs.SectionsRead.{AreStates, AreStatesRefused, IsSectionRead, IsSectionRefused, AreMissing, IsSplitAdded, IsJudged, FitsHeight, SlotFilled, AreFilled, AreFound, AreSectionsRead, AreRefusedBy};
 ghost use Rattle.av_chunk.specs.Rest.{opened};
 ghost use Rattle.av_codec.specs.Working.{checked_number, compound_in, tags_in, has_bad_number};
 
@@ -146,7 +146,7 @@ impl Sections {
     }
 
     /// Puts a section where it belongs.
-    pub(crate) fn add(&mut self, split: SplitSection, height: Height) -> Result<(), AllocError>
+    fn add(&mut self, split: SplitSection, height: Height) -> Result<(), AllocError>
         requires fits { FitsHeight height split }
         requires count { length self.old.sections.items ≡ height.sections }
         requires count_kept { length self.old.kept.items ≡ height.sections }
@@ -161,6 +161,27 @@ impl Sections {
             SplitSection::Outside(section) => self.outside.push(section)?,
         }
         Ok(())
+    }
+
+    /// Puts a section that was read where it belongs. Answers the first fault so far, that of this one among them.
+    fn judge(
+        &mut self,
+        read: Result<SplitSection, Fault>,
+        refused: Option<Fault>,
+        height: Height,
+    ) -> Result<Option<Fault>, AllocError>
+        requires fits { IfOk read (FitsHeight height) }
+        requires count { length self.old.sections.items ≡ height.sections }
+        requires count_kept { length self.old.kept.items ≡ height.sections }
+        ensures { IfOk result (IsJudged height read refused self.old self.new) }
+    {
+        match read {
+            Ok(split) => {
+                self.add(split, height)?;
+                Ok(refused)
+            }
+            Err(fault) => Ok(Some(lesser(refused, fault))),
+        }
     }
 }
 
@@ -204,10 +225,8 @@ fn find_sections<N: Numbering>(
     let mut read = Sections::missing(alloc, height)?;
     let mut refused = None;
     for section in sections {
-        match read_section(alloc, section, height, numbering) {
-            Ok(split) => read.add(split, height)?,
-            Err(fault) => refused = Some(lesser(refused, fault)),
-        }
+        let split = read_section(alloc, section, height, numbering);
+        refused = read.judge(split, refused, height)?;
     }
     match refused {
         None => Ok(read),

@@ -1,10 +1,11 @@
 //! The scheduled fluid ticks of a chunk.
-ghost use Rattle.std.specs.Prelude.{◌≡◌, false, IfOk, IfErr};
-ghost use Rattle.av_tags.specs.View.{views, named_views};
+ghost use Rattle.std.specs.Prelude.{◌≡◌, false, [], ◌∷◌, IfOk, IfErr, OnOk};
+ghost use Rattle.av_tags.specs.Shape.{compound_of, lacks};
+ghost use Rattle.av_tags.specs.View.{view, views, named_views};
 ghost use Rattle.av_document.specs.Ticks.{lies_in, is_water_name, numbers_of, water_entry, is_bad_tick};
-ghost use Rattle.av_codec.specs.Working.{has_other};
+ghost use Rattle.av_codec.specs.Working.{has_other, tags_in};
 ghost use Rattle.av_chunk.specs.Rest.{opened};
-ghost use Rattle.av_codec.specs.TicksRead.{AreTicks, AreBadTicks};
+ghost use Rattle.av_codec.specs.TicksRead.{AreTicks, AreBadTicks, IsTickAdded};
 
 use crate::reading::tags::{int_at, text_at};
 use av_tags::{Named, Tag};
@@ -75,6 +76,27 @@ pub(crate) struct Ticks {
     pub(crate) foreign: Vec<Tag>,
 }
 
+impl Ticks {
+    /// Adds a tick, or answers `BadTick`.
+    fn add(&mut self, tick: Tag, at: ChunkPos, height: Height) -> Result<(), Fault>
+        requires { lacks (compound_of (view tick)) ≡ false }
+        ensures added { OnOk result (IsTickAdded at height (view tick) self.old self.new) }
+        ensures err { IfErr result (AreBadTicks at height (tags_in (view tick) ∷ [])) }
+    {
+        let tags = tick.as_members().unwrap();
+        if is_bad(tags, at, height) {
+            return Err(Fault::BadTick);
+        }
+        match water_entry(tags) {
+            Some(entry) => {
+                self.water.add(entry)?;
+                Ok(())
+            }
+            None => Ok(self.foreign.push(tick)?),
+        }
+    }
+}
+
 /// The scheduled ticks of the Compounds of `fluid_ticks`, or `BadTick`.
 pub(crate) fn read_ticks(
     alloc: Global,
@@ -86,19 +108,12 @@ pub(crate) fn read_ticks(
     ensures ok { IfOk result (AreTicks at height (opened (views ticks.items))) }
     ensures err { IfErr result (AreBadTicks at height (opened (views ticks.items))) }
 {
-    let mut water = TickList::new(alloc);
-    let mut foreign = Vec::new(alloc);
+    let mut read = Ticks {
+        water: TickList::new(alloc),
+        foreign: Vec::new(alloc),
+    };
     for tick in ticks {
-        let tags = tick.as_members().unwrap();
-        if is_bad(tags, at, height) {
-            return Err(Fault::BadTick);
-        }
-        match water_entry(tags) {
-            Some(entry) => {
-                water.add(entry)?;
-            }
-            None => foreign.push(tick)?,
-        }
+        read.add(tick, at, height)?;
     }
-    Ok(Ticks { water, foreign })
+    Ok(read)
 }

@@ -13,9 +13,9 @@ invariant-loop-tick l =
     let rest = opened (views (into_iter_items l.tick-iterator)) in
     let all = opened (views l.fn.ticks.items) in
     record {
-      water : with_water (entries l.water) rest ≡ with_water [] all;
-      foreign_are : opened (views l.foreign.items) ++ foreign rest ≡ foreign all;
+      water : with_water (entries l.read.water) rest ≡ with_water [] all;
+      foreign_are : opened (views l.read.foreign.items) ++ foreign rest ≡ foreign all;
       good : list_any (is_bad_tick l.at l.height) rest ≡ list_any (is_bad_tick l.at l.height) all;
       compounds : has_other (views (into_iter_items l.tick-iterator)) ≡ false;
-      kept : has_other (views l.foreign.items) ≡ false;
+      kept : has_other (views l.read.foreign.items) ≡ false;
     }
