@@ -85,6 +85,31 @@ impl Scene<'_> {
         Ok(Patch::Shown(seen.sights(alloc, self.view)?))
     }
 
+    /// What the chunk of a document shows, by its arrays of light.
+    fn lit_patch(
+        &self,
+        alloc: Global,
+        root: Root,
+        at: ChunkPos,
+        lights: &[Option<Vec<u8>>],
+    ) -> Result<Patch, Fault>
+        requires stored { IsStored (document root) }
+        requires lights { AreLightsFor self.now.view (root_tags (document root)) self.now.height
+            (arrays_of lights.now) }
+        ensures ok { IfOk result (IsDocumentPatch self.now.view
+            (colours_of self.now.colours.now) self.now.height (document root) at) }
+        ensures err { IfErr result (λ e. e ≢ OutOfMemory
+            → first_fault self.now.height at first_states (root_tags (document root))
+            ≡ Some (fault_number e)) }
+    {
+        let mut table = StateTable::new(alloc)?;
+        let read = read_chunk(alloc, root, at, self.height, &mut table)?;
+        match &read {
+            Reading::Kept => Ok(Patch::Clear),
+            Reading::Full { chunk, rest: _ } => Ok(self.shown(alloc, chunk, &table, lights)?),
+        }
+    }
+
     /// What the chunk of a document shows.
     fn document_patch(&self, alloc: Global, root: Root, at: ChunkPos) -> Result<Patch, Fault>
         requires { IsStored (document root) }
@@ -95,13 +120,7 @@ impl Scene<'_> {
             ≡ Some (fault_number e)) }
     {
         let lights = self.lights(alloc, &root)?;
-        let mut table = StateTable::new(alloc)?;
-        match read_chunk(alloc, root, at, self.height, &mut table)? {
-            Reading::Kept => Ok(Patch::Clear),
-            Reading::Full { chunk, rest: _ } => {
-                Ok(self.shown(alloc, &chunk, &table, lights.as_slice())?)
-            }
-        }
+        self.lit_patch(alloc, root, at, lights.as_slice())
     }
 
     /// What the chunk of a payload shows. A payload has at most 1,044,475 bytes.

@@ -1,17 +1,11 @@
+use Rattle.std.proofs.Common.{List, Option, Vec, Global, ℕ, sym, subst}
 use Rattle.av_tags.specs.View.{document}
-use Rattle.av_state.specs.StateList.{first_states}
-use Rattle.av_state.specs.Table.{states}
-use Rattle.av_chunk.specs.Reading.{IsLoaded}
+use Rattle.av_document.specs.Chunk.{root_tags}
 use Rattle.av_map.specs.Arrays.{arrays_of}
-use Rattle.av_map.specs.Views.{colours_of}
-use Rattle.av_map.proofs.Denoted.{document_from}
+use Rattle.av_map.specs.Sections.{AreLightsFor}
 use Rattle.av_map.proofs.reading.Scene.document_patch.Goals as goal
 
-pub returns-clause-ok : goal.returns-clause-ok
-returns-clause-ok c =
+pub lit_patch-requires-clause-lights : goal.lit_patch-requires-clause-lights
+lit_patch-requires-clause-lights c =
     let s = c.args.self.now in
-    let new = states c.read_chunk.new.table in
-    let read = rw c.in_ok-table.ensures.ok at c.in_ok-read_chunk.ensures.ok in
-    let loaded : IsLoaded c.args.at s.height (document c.args.root) first_states new c.in-Full.chunk c.in-Full.rest = rw c.in-Full.is at read in
-    document_from s.view (colours_of s.colours.now) c.args.at s.height (document c.args.root) new c.in-Full.chunk c.in-Full.rest (arrays_of c.in_ok-lights.lights.items) c.in_ok-shown-in-Full.field-0 loaded
-    c.in_ok-lights.ensures (rw c.as_slice.ensures.value at c.in_ok-shown-in-Full.ensures)
+    subst (λ (xs : List (Option (Vec ℕ Global))). AreLightsFor s.view (root_tags (document c.args.root)) s.height (arrays_of xs)) (sym c.as_slice.ensures.value) c.in_ok-lights.ensures
