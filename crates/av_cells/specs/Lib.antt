@@ -5,3 +5,4 @@ pub mod Rule
 pub mod Turn
 pub mod Wakes
 pub mod Grid
+pub mod Sets

@@ -7,7 +7,7 @@ use Rattle.av_types.specs.declared.fault.Fault.{Fault}
 use Rattle.av_types.specs.declared.fault.Fault.TheVariants.{BadEdit, EditTick, EditOutside, TooManyStates}
 use Rattle.av_state.specs.BlockState.{BlockState}
 use Rattle.av_state.specs.StateList.{with_state, most_states}
-use Rattle.av_land.specs.Tick.{Set}
+use Rattle.av_cells.specs.Sets.{Set}
 use Rattle.av_edits.specs.Lines.{split_on, line_edit}
 use Rattle.av_edits.specs.declared.edit.Edit.{Edit}
 

@@ -5,7 +5,7 @@ use Rattle.av_types.specs.declared.position.Pos.{Pos}
 use Rattle.av_types.specs.Options.{◌>>=◌}
 use Rattle.av_tags.specs.Shape.{each}
 use Rattle.av_state.specs.BlockState.{BlockState, Property, storable, meant, in_order}
-use Rattle.av_land.specs.Tick.{Set}
+use Rattle.av_cells.specs.Sets.{Set}
 
 -- the parts between separators, one more than there are separators
 abbrev pub split_on : ℕ → List ℕ → List (List ℕ)

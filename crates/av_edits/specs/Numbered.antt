@@ -1,6 +1,6 @@
 -- Edits with states by their numbers.
 use Rattle.std.specs.Prelude.{ℕ, List, map}
-use Rattle.av_land.specs.Tick.{Set}
+use Rattle.av_cells.specs.Sets.{Set}
 use Rattle.av_edits.specs.declared.edit.Edit.{Edit}
 
 abbrev pub number_set : Edit → Set ℕ

@@ -10,7 +10,8 @@ use Rattle.av_state.specs.BlockState.{BlockState, air}
 use Rattle.av_rules.specs.Rows.{BlockTable}
 use Rattle.av_cells.specs.declared.kind.Kind.{Kind}
 use Rattle.av_land.specs.Land.{Land, is_loaded}
-use Rattle.av_land.specs.Tick.{Set, set_in, turned, edited, turned_all, run_after, run, run_count, due_entries, without_due}
+use Rattle.av_cells.specs.Sets.{Set}
+use Rattle.av_land.specs.Tick.{set_in, turned, edited, turned_all, run_after, run, run_count, due_entries, without_due}
 use Rattle.av_files.specs.Files.{File}
 use Rattle.av_files.specs.Denotes.{Rest, Denotes}
 use Rattle.av_files.specs.Layout.{Lights, layout, too_large}

@@ -5,7 +5,8 @@ use Rattle.std.specs.List.{AllByRecursion, filter}
 use Rattle.std.proofs.lemmas.List.{length-take}
 use Rattle.av_state.specs.BlockState.{BlockState}
 use Rattle.av_state.specs.StateList.{first_states}
-use Rattle.av_land.specs.Tick.{Set, run, run_count}
+use Rattle.av_cells.specs.Sets.{Set}
+use Rattle.av_land.specs.Tick.{run, run_count}
 use Rattle.av_land.specs.Resumed.{shifted, early, earlier, late}
 use Rattle.av_land.proofs.Resumed.{run_resumes}
 use Rattle.av_land.proofs.Numbers.{run_below}

@@ -13,7 +13,8 @@ use Rattle.av_state.specs.StateList.{IsStateList, first_states, number_in, same_
 use Rattle.av_state.proofs.Numbering.{number_in-there, number_in-append, number_in-first, list-begins, slice_get-append, same_state-refl, first_state}
 use Rattle.av_rules.specs.Rows.{BlockTable}
 use Rattle.av_land.specs.Land.{Land}
-use Rattle.av_land.specs.Tick.{Set, run, run_after, run_count, count_after}
+use Rattle.av_cells.specs.Sets.{Set}
+use Rattle.av_land.specs.Tick.{run, run_after, run_count, count_after}
 use Rattle.av_land.specs.Moved.{later, moved, moved_set, KeepsFirst}
 use Rattle.av_land.proofs.Runs.{run_moved, count_moved}
 use Rattle.av_files.specs.Run.{kind_or_shut, kinds_in, stated, stated_set, OneRun}

@@ -1,7 +1,7 @@
 -- The same files are written.
 use Rattle.std.proofs.Common.{◌≡◌, ◌∙◌, ℕ, ◌+◌, ◌<◌, ℤ, pos, ◌-ℤ◌, List, [], ◌∷◌, ◌++◌, Bool, true, false, ◌||◌, cond, Option, Some, refl, ap, sym, subst, arith}
 use Rattle.std.specs.Prelude.{map, codes}
-use Rattle.av_land.specs.Tick.{Set}
+use Rattle.av_cells.specs.Sets.{Set}
 use Rattle.std.specs.List.{AllByRecursion, list_any}
 use Rattle.std.proofs.lemmas.Int.{ints}
 use Rattle.std.proofs.Math.Bool.{or-true}

@@ -6,7 +6,7 @@ use Rattle.av_types.specs.declared.position.Pos.{Pos}
 use Rattle.av_state.specs.BlockState.{BlockState}
 use Rattle.av_state.specs.StateList.{IsStateList, first_states}
 use Rattle.av_land.specs.Land.{Land, is_loaded}
-use Rattle.av_land.specs.Tick.{Set}
+use Rattle.av_cells.specs.Sets.{Set}
 use Rattle.av_files.specs.Files.{File}
 use Rattle.av_files.specs.Denotes.{Rest, Denotes}
 use Rattle.av_files.specs.Lawful.{AreStorable}

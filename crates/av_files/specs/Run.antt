@@ -8,7 +8,8 @@ use Rattle.av_state.specs.BlockState.{BlockState, air}
 use Rattle.av_state.specs.StateList.{IsStateList}
 use Rattle.av_rules.specs.Rows.{BlockTable, row_of, wet_in}
 use Rattle.av_land.specs.Land.{Land}
-use Rattle.av_land.specs.Tick.{Set, run, run_count}
+use Rattle.av_cells.specs.Sets.{Set}
+use Rattle.av_land.specs.Tick.{run, run_count}
 use Rattle.av_land.specs.Resumed.{shifted, early, late}
 
 -- what water asks of a state

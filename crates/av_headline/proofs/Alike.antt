@@ -8,7 +8,7 @@ use Rattle.av_types.specs.declared.fault.Fault.TheVariants.{ChunkTooLarge}
 use Rattle.av_state.specs.BlockState.{BlockState}
 use Rattle.av_rules.specs.Rows.{BlockTable}
 use Rattle.av_land.specs.Land.{Land, has_chunk}
-use Rattle.av_land.specs.Tick.{Set}
+use Rattle.av_cells.specs.Sets.{Set}
 use Rattle.av_edits.specs.Edits.{edits_of}
 use Rattle.av_files.specs.Files.{File}
 use Rattle.av_files.specs.Denotes.{Rest}

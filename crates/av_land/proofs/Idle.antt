@@ -12,7 +12,8 @@ use Rattle.av_ticks.specs.Entries.{is_due, due_order}
 use Rattle.av_types.specs.Order.{inserted, ordered}
 use Rattle.av_cells.specs.declared.kind.Kind.{Kind}
 use Rattle.av_land.specs.Land.{Land}
-use Rattle.av_land.specs.Tick.{Set, edited, due_entries, without_due, turned_all, ticked, tick_count, run_after}
+use Rattle.av_cells.specs.Sets.{Set}
+use Rattle.av_land.specs.Tick.{edited, due_entries, without_due, turned_all, ticked, tick_count, run_after}
 use Rattle.av_land.specs.Idle.{edits_at, NothingDue, TicksIdly, NothingDueBefore, OtherEditsDoNothing, RunByTicks, tick_order, RunSorted}
 use Rattle.av_land.proofs.Resumed.{filtered}
 

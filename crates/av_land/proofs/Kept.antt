@@ -20,7 +20,8 @@ use Rattle.av_cells.specs.Positions.{same_pos, same_chunk}
 use Rattle.av_cells.specs.World.{Lists, with_entry_if, listed_if, listed_all}
 use Rattle.av_cells.specs.Turn.{Change, change, entry_of, set_awake, turn}
 use Rattle.av_land.specs.Land.{Land, has_chunk, is_loaded, cells_of}
-use Rattle.av_land.specs.Tick.{Set, after, turned, set_in, edited, due_entries, without_due, turned_all, ticked, run_after}
+use Rattle.av_cells.specs.Sets.{Set}
+use Rattle.av_land.specs.Tick.{after, turned, set_in, edited, due_entries, without_due, turned_all, ticked, run_after}
 use Rattle.av_land.specs.Good.{IsEntryOf, Good, IsTimely, HasIntCoordinates, IsSetOf, RunKeeps}
 use Rattle.av_land.proofs.Steps.{IsClosed, turn_keeps, set_keeps}
 

@@ -9,7 +9,8 @@ use Rattle.av_cells.specs.Positions.{same_pos, around}
 use Rattle.av_cells.specs.World.{with_number}
 use Rattle.av_cells.specs.Turn.{Change, change, woken, woken_all, set_awake}
 use Rattle.av_land.specs.Land.{Land, is_loaded, cells_of}
-use Rattle.av_land.specs.Tick.{Set, set_in, turned, edited, due_entries, without_due, turned_all, run_after}
+use Rattle.av_cells.specs.Sets.{Set}
+use Rattle.av_land.specs.Tick.{set_in, turned, edited, due_entries, without_due, turned_all, run_after}
 use Rattle.av_land.proofs.Steps.{IsClosed, turn_keeps}
 
 abbrev AreBelow : ℕ → Land ℕ → Type 0

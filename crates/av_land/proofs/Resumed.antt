@@ -7,7 +7,8 @@ use Rattle.std.proofs.lemmas.Bool.Decides.{nat_tests}
 use Rattle.av_types.specs.declared.tick.Entry.{Entry}
 use Rattle.av_cells.specs.declared.kind.Kind.{Kind}
 use Rattle.av_land.specs.Land.{Land}
-use Rattle.av_land.specs.Tick.{Set, set_in, edited, due_entries, without_due, turned_all, ticked, tick_count, run_after, count_after, run, run_count}
+use Rattle.av_cells.specs.Sets.{Set}
+use Rattle.av_land.specs.Tick.{set_in, edited, due_entries, without_due, turned_all, ticked, tick_count, run_after, count_after, run, run_count}
 use Rattle.av_land.specs.Moved.{later, moved, moved_set}
 use Rattle.av_land.specs.Resumed.{sooner, shifted, early, earlier, late, RunResumes}
 use Rattle.av_land.proofs.Runs.{run_moved, count_moved}

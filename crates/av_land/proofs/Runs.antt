@@ -20,7 +20,8 @@ use Rattle.av_cells.specs.Positions.{same_chunk}
 use Rattle.av_cells.specs.World.{Lists, listed_if, listed_all}
 use Rattle.av_cells.specs.Turn.{Change, change, set_awake, turn}
 use Rattle.av_land.specs.Land.{Land, is_loaded, cells_of}
-use Rattle.av_land.specs.Tick.{Set, after, turned, set_in, edited, due_entries, without_due, turned_all, ticked, tick_count, run_after}
+use Rattle.av_cells.specs.Sets.{Set}
+use Rattle.av_land.specs.Tick.{after, turned, set_in, edited, due_entries, without_due, turned_all, ticked, tick_count, run_after}
 use Rattle.av_land.specs.Moved.{later, renumbered, moved_change, moved, moved_set, KeepsFirst, RunMoves, CountMoves}
 use Rattle.av_land.proofs.Turns.{turn_moved, set_awake_moved}
 

@@ -11,7 +11,8 @@ use Rattle.av_ticks.specs.Entries.{are_apart}
 use Rattle.av_cells.specs.Positions.{same_chunk}
 use Rattle.av_cells.specs.declared.kind.Kind.{Kind}
 use Rattle.av_land.specs.Land.{Land, has_chunk, is_loaded}
-use Rattle.av_land.specs.Tick.{Set, run}
+use Rattle.av_cells.specs.Sets.{Set}
+use Rattle.av_land.specs.Tick.{run}
 
 -- the entry lies in the chunk, and the test holds of it
 pub record IsEntryOf (Q : Entry → Type 0) (loaded : Pos → Bool) (c : ChunkPos) (e : Entry) : Type 0 where

@@ -8,7 +8,8 @@ use Rattle.av_ticks.specs.Entries.{is_due}
 use Rattle.av_types.specs.Order.{ordered}
 use Rattle.av_cells.specs.declared.kind.Kind.{Kind}
 use Rattle.av_land.specs.Land.{Land}
-use Rattle.av_land.specs.Tick.{Set, ticked, tick_count, run, run_count}
+use Rattle.av_cells.specs.Sets.{Set}
+use Rattle.av_land.specs.Tick.{ticked, tick_count, run, run_count}
 
 -- the edits of tick now, in their order
 abbrev pub edits_at : {S : Type 0} → ℕ → List (Set S) → List (Set S)

@@ -6,7 +6,8 @@ use Rattle.av_cells.specs.declared.kind.Kind.{Kind}
 use Rattle.av_cells.specs.World.{World}
 use Rattle.av_cells.specs.Turn.{Change, change, turn}
 use Rattle.av_land.specs.Land.{Land}
-use Rattle.av_land.specs.Tick.{Set, run_after, count_after}
+use Rattle.av_cells.specs.Sets.{Set}
+use Rattle.av_land.specs.Tick.{run_after, count_after}
 
 abbrev pub later : ℕ → Entry → Entry
 later n e = record { pos = e.pos; due = e.due +ℤ pos n; priority = e.priority }

@@ -4,7 +4,8 @@ use Rattle.std.specs.List.{filter}
 use Rattle.av_types.specs.declared.tick.Entry.{Entry}
 use Rattle.av_cells.specs.declared.kind.Kind.{Kind}
 use Rattle.av_land.specs.Land.{Land}
-use Rattle.av_land.specs.Tick.{Set, run, run_count}
+use Rattle.av_cells.specs.Sets.{Set}
+use Rattle.av_land.specs.Tick.{run, run_count}
 
 abbrev pub sooner : ℕ → Entry → Entry
 sooner n e = record { pos = e.pos; due = e.due -ℤ pos n; priority = e.priority }

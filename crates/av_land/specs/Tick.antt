@@ -6,6 +6,7 @@ use Rattle.av_types.specs.declared.tick.Entry.{Entry}
 use Rattle.av_ticks.specs.Entries.{is_due, due_order}
 use Rattle.av_types.specs.Order.{ordered}
 use Rattle.av_cells.specs.declared.kind.Kind.{Kind}
+use Rattle.av_cells.specs.Sets.{Set}
 use Rattle.av_cells.specs.World.{listed_all}
 use Rattle.av_cells.specs.Turn.{Change, change, set_awake, turn}
 use Rattle.av_land.specs.Land.{Land, cells_of}
@@ -19,12 +20,6 @@ turned k now p w = after w (turn k now p (cells_of w))
 
 abbrev pub set_in : (ℕ → Kind) → ℕ → Pos → ℕ → Land ℕ → Land ℕ
 set_in k now p n w = after w (set_awake k now p n (change (cells_of w) []))
-
--- an edit: in that tick the block is set to that state
-pub record Set (S : Type 0) : Type 0 where
-  pub tick : ℕ
-  pub pos : Pos
-  pub what : S
 
 -- the edits of tick now, in order
 abbrev pub edited : (ℕ → Kind) → ℕ → List (Set ℕ) → Land ℕ → Land ℕ

@@ -20,7 +20,8 @@ use Rattle.av_types.proofs.OrderLemmas.{sorted_is_ordered}
 use Rattle.av_water.specs.Frame.{Agree, InLoadedReach, AreApart, Commute, SameCells}
 use Rattle.av_water.proofs.Apart.{apart_commute, loaded_reach_or}
 use Rattle.av_land.specs.Land.{Land, cells_of}
-use Rattle.av_land.specs.Tick.{Set, ticked}
+use Rattle.av_cells.specs.Sets.{Set}
+use Rattle.av_land.specs.Tick.{ticked}
 use Rattle.av_play.specs.declared.event.DueEntry.{DueEntry}
 use Rattle.av_play.specs.declared.event.Stage.{Stage}
 use Rattle.av_play.specs.declared.event.Event.{Event}

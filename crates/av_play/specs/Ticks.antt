@@ -3,7 +3,8 @@ use Rattle.std.specs.Prelude.{ℕ, List}
 use Rattle.av_types.specs.declared.tick.Entry.{Entry}
 use Rattle.av_cells.specs.declared.kind.Kind.{Kind}
 use Rattle.av_land.specs.Land.{Land, cells_of}
-use Rattle.av_land.specs.Tick.{Set, edited, due_entries, without_due}
+use Rattle.av_cells.specs.Sets.{Set}
+use Rattle.av_land.specs.Tick.{edited, due_entries, without_due}
 use Rattle.av_play.specs.Play.{Outcome}
 
 -- after the edits of tick now, with the due entries taken out

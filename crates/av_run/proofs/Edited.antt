@@ -11,7 +11,7 @@ use Rattle.av_state.specs.StateList.{same_state}
 use Rattle.av_state.specs.Table.{states}
 use Rattle.av_state.specs.declared.table.StateTable.{StateTable}
 use Rattle.av_state.proofs.Storable.{table-storable}
-use Rattle.av_land.specs.Tick.{Set}
+use Rattle.av_cells.specs.Sets.{Set}
 use Rattle.av_edits.specs.declared.edit.Edit.{Edit}
 use Rattle.av_edits.specs.Lines.{line_edit}
 use Rattle.av_edits.specs.Edits.{is_skipped, lines_of, line_fault, fault_of, table_after, table_of, if_edit, edits_in, or_later, first_in_lines, first_in_edits, table_after_lines, edits_of, stated_in}

@@ -10,7 +10,7 @@ use Rattle.av_state.specs.BlockState.{BlockState}
 use Rattle.av_state.specs.StateList.{first_states, with_state, most_states}
 use Rattle.av_document.specs.Chunk.{root_tags}
 use Rattle.av_land.specs.Land.{is_loaded}
-use Rattle.av_land.specs.Tick.{Set}
+use Rattle.av_cells.specs.Sets.{Set}
 use Rattle.av_edits.specs.Lines.{line_edit}
 use Rattle.av_edits.specs.Edits.{line_fault, or_later, fault_of, is_skipped, table_of, first_in_lines, lines_of}
 use Rattle.av_files.specs.Files.{File, in_order}

@@ -14,7 +14,7 @@ use Rattle.av_rules.specs.Kinds.{table_in, kind_count}
 use Rattle.av_rules.specs.declared.kinds.Kinds.{Kinds}
 use Rattle.av_cells.specs.Kinds.{kinds_of}
 use Rattle.av_land.specs.Land.{Land, is_loaded}
-use Rattle.av_land.specs.Tick.{Set}
+use Rattle.av_cells.specs.Sets.{Set}
 use Rattle.av_land.specs.Good.{Good, IsTimely, IsSetOf}
 use Rattle.av_edits.specs.declared.edit.Edit.{Edit}
 use Rattle.av_edits.specs.Edits.{first_in_edits}

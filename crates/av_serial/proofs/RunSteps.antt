@@ -9,7 +9,8 @@ use Rattle.av_ticks.specs.Ticks.{entries}
 use Rattle.av_chunk.specs.declared.chunk.Chunk.{Chunk}
 use Rattle.av_cells.specs.declared.kind.Kind.{Kind}
 use Rattle.av_land.specs.Land.{Land}
-use Rattle.av_land.specs.Tick.{Set, ticked, tick_count, run, run_count}
+use Rattle.av_cells.specs.Sets.{Set}
+use Rattle.av_land.specs.Tick.{ticked, tick_count, run, run_count}
 use Rattle.av_land.specs.Idle.{IsIdle}
 use Rattle.av_land.proofs.Idle.{ticks_idly}
 use Rattle.av_world.specs.Due.{at_least, tick_of}
