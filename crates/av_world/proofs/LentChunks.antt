@@ -159,4 +159,4 @@ not_before ps i c apart l = none_of ps (get_or ps i c) i (λ k d m. subst (λ x.
 pub record IsLending (old now lent : World) (at : List ChunkPos) (i : ℕ) : Type 0 where
   pub lent_is : IsLent old now lent
   pub chunks : (c : ChunkPos) → has_chunk (positions_of lent) c ≡ has_chunk (take i at) c
-  pub sound : is_broken lent ≡ false
+  pub broken : is_broken lent ≡ is_broken old

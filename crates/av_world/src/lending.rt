@@ -112,7 +112,7 @@ impl World {
             → IsLent old self.new lent.new) }
         ensures chunks { OnOk result ((c : ChunkPos) → has_chunk (positions_of lent.new) c
             ≡ (same_chunk at c || has_chunk (positions_of lent.old) c)) }
-        ensures sound { is_broken lent.new ≡ is_broken lent.old }
+        ensures broken { is_broken lent.new ≡ is_broken lent.old }
     {
         let alloc = *self.positions.allocator();
         let bare = bare_chunk(&mut self.spares, alloc, self.height)?;
@@ -123,8 +123,8 @@ impl World {
         Ok(())
     }
 
-    /// Lends chunks that are there, each named once, as a world of their own. Until they are taken back their sections are
-    /// out here, and they have no entries.
+    /// Lends chunks that are there, each named once, as a world of their own, which is broken if this one is. Until they are taken
+    /// back their sections are out here, and they have no entries.
     ///
     /// # Errors
     /// Where memory is refused. Then chunks may be gone, and the world is to be given up.
@@ -135,9 +135,10 @@ impl World {
         ensures lent { IfOk result (IsLent self.old self.new) }
         ensures chunks { IfOk result (λ lent. (c : ChunkPos) → has_chunk (positions_of lent) c
             ≡ has_chunk at.now c) }
-        ensures sound { IfOk result (λ lent. is_broken lent ≡ false) }
+        ensures broken { IfOk result (λ lent. is_broken lent ≡ is_broken self.old) }
     {
         let mut lent = World::new(*self.positions.allocator(), self.height);
+        lent.broken = self.broken;
         lent.make_room(at.len())?;
         for at in at {
             self.lend_one(*at, &mut lent)?;

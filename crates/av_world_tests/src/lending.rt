@@ -185,6 +185,19 @@ fn lent_chunks_are_a_world_of_their_own(rt: HostRuntime) -> Result<(), Fail> {
     Ok(())
 }
 
+/// What a broken world lends is broken too, and refuses what a broken world refuses.
+#[test]
+fn a_broken_world_lends_a_broken_part(rt: HostRuntime) -> Result<(), Fail> {
+    let mut world = three_chunks(rt.alloc())?;
+    world.give_up();
+    let mut lent = lend_one(&mut world, EAST)?;
+    assert_eq!(rt; (world.broken(), lent.broken()), (true, true));
+    assert!(rt; lent.take_due(7).err() == Some(Fault::Broken));
+    expect_numbers(&rt, &lent, &[(AT_SOURCE.pos, Some(SOURCE))]);
+    expect_lists(&rt, &lent, &[], &[AT_SOURCE], &[]);
+    Ok(())
+}
+
 /// In the world that lent them, chunks keep their places, but neither blocks nor entries. The others are as before.
 #[test]
 fn lent_chunks_are_out(rt: HostRuntime) -> Result<(), Fail> {

@@ -19,5 +19,5 @@ loop-at-preserved c =
     record {
       lent_is = c.in_ok-lend_one.ensures.lent c.args.self.now c.loop-at.invariant.lent_is;
       chunks = λ d. c.in_ok-lend_one.ensures.chunks d ∙ ap (λ t. same_chunk (get_or at i origin) d || t) (c.loop-at.invariant.chunks d) ∙ sym (has_next at i origin d c.loop-at-test.true);
-      sound = c.in_ok-lend_one.ensures.sound ∙ c.loop-at.invariant.sound;
+      broken = c.in_ok-lend_one.ensures.broken ∙ c.loop-at.invariant.broken;
     }
