@@ -6,14 +6,15 @@ import itertools
 import os
 import shutil
 import signal
+import subprocess
 import time
 
 import world_places
-from check_ends import OLD, ends_at, forked, has_journal, region_of, traced
+from check_ends import OLD, begun_world, ends_at, forked, has_journal, region_of, traced
 from holding import held
 from kept_worlds import small_world, write_world
 from stored_chunks import write
-from world_calls import backup, begun, call, contents, ended, others, refused, shots
+from world_calls import GUARD, backup, begun, call, contents, ended, others, refused, shots
 
 
 def waited(path):
@@ -83,9 +84,24 @@ def runs_of_the_program(world):
         yield "a run of the program", refused("another program works on %s; nothing is done" % region_of(world)), call(world)[::2]
     yield "nothing is another", was, shots(world)
     write(region_of(world), ".anvilwater-journal", b"anvilwater journal 2\nr.0.1.mca\n\n-\n")
-    was, line = shots(world), "in %s a run of the program was cut off, which `anvilwater check` of it finishes; nothing is done"
-    yield "one that was cut off", refused(line % region_of(world)), call(world)[::2]
+    was, line = shots(world), "a run of the program was cut off and left %s/.anvilwater-journal, and `anvilwater check --in %s` finishes it; nothing is done"
+    yield "one that was cut off", refused(line % (region_of(world), region_of(world))), call(world)[::2]
     yield "nothing is another", was, shots(world)
+
+
+def kept_from_it(work, program):
+    """The program refuses a folder in which a call ended while files took their places, and the next call finishes that."""
+    world, folder = begun_world(work, "world", lambda line: line.startswith("replace ") and line.endswith(" region/r.0.0.mca"))
+    region, out = region_of(world), os.path.join(work, "out")
+    os.mkdir(out)
+    was = shots(world)
+    for words in (("check", "--in", region), ("run", "--in", region, "--out", region, "--ticks", "0"), ("run", "--in", region, "--out", out, "--ticks", "0")):
+        done = subprocess.run([program, *words, "--explain"], capture_output=True, text=True, timeout=60)
+        yield words, (1, "fault 25: Device .anvilwater-journal"), (done.returncode, (done.stderr.splitlines() or [""])[0])
+        yield "nothing is another", was, shots(world)
+    done = call(world)
+    yield "it is finished", (0, "finished a call that was interrupted; nothing else was done"), (done[0], done[1][1])
+    yield "and nothing keeps the program from it", False, os.path.exists(os.path.join(region, GUARD))
 
 
 def is_made_anew(world):

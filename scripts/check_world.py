@@ -262,8 +262,8 @@ def main():
     of_others = (check_others.journals_of_others, check_others.by_links, check_others.taken_away, check_others.attributes, check_others.one_backup,
                  check_others.killed, check_others.fixed, check_others.limits, check_others.no_locks, check_others.hung_up,
                  check_others.heights_of_tables, check_others.tables)
-    for examples in (whole, words, folders, hostile, check_hindrances.locks, check_hindrances.signals,
-                     check_hindrances.changed_by_others, check_hindrances.devices, *of_others, check_ends.syncs, check_ends.going_back,
+    for examples in (whole, words, folders, hostile, check_hindrances.locks, check_hindrances.kept_from_it,
+                     check_hindrances.signals, check_hindrances.changed_by_others, check_hindrances.devices, *of_others, check_ends.syncs, check_ends.names_lost, check_ends.going_back,
                      check_ends.ends, check_pieces.same_light, check_pieces.sizes, check_pieces.beside, check_pieces.refusals,
                      check_pieces.memory):
         with tempfile.TemporaryDirectory() as work:

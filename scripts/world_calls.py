@@ -5,6 +5,7 @@ import stat
 import subprocess
 
 TOP = os.path.dirname(os.path.dirname(os.path.abspath(__file__)))
+GUARD = ".anvilwater-journal"
 COMMAND, STAND_IN = os.path.join(TOP, "anvilwater-world"), os.path.join(TOP, "scripts", "stand_in.py")
 
 
@@ -54,5 +55,6 @@ def backup(world):
 
 
 def others(world):
-    """What a world has besides its region files and their backups."""
-    return sorted(name for name in os.listdir(world) if name != "region" and not name.startswith("region.before-"))
+    """What a world has besides its region files and their backups, and what keeps the program from these."""
+    found = [name for name in os.listdir(world) if name != "region" and not name.startswith("region.before-")]
+    return sorted(found + [name for name in os.listdir(os.path.join(world, "region")) if name == GUARD])

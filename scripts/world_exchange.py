@@ -1,7 +1,8 @@
 """New region files take the places of old ones, so that each is whole whenever it ends, and the old ones are kept.
 
-A working folder beside the region files has the new files in `packed`, the old ones in `old` by links, and a journal, which is synced
-before the first file takes its place. With it the next call goes on where one ended; a folder without it is only taken away.
+A working folder beside the region files has the new files in `packed`, the old ones in `old` by links, and a journal. All these names are
+synced before the first file takes its place, by whoever lets it. With the journal the next call goes on where one ended; a folder without it
+is only taken away.
 """
 import contextlib
 import errno
@@ -15,7 +16,7 @@ import stat
 
 from chunk_data import SECTOR
 from region_files import EXTERNAL_NAME, HEADER, REGION_NAME, externals, give_attributes, make_alike
-from world_places import Problem, Stuck, is_ours
+from world_places import GUARD, JOURNAL, Problem, Stuck, is_guard, is_ours
 
 FORM = 1
 NO_LINKS = {errno.EPERM, errno.EXDEV, errno.EMLINK, errno.EOPNOTSUPP, errno.ENOSYS}
@@ -50,12 +51,14 @@ def stamps(path):
 
 
 def copied(source, target):
-    """Copies a file with its owner, mode and time, and syncs it."""
-    shutil.copyfile(source, target, follow_symlinks=False)
-    with open(target, "rb") as file:
+    """Copies a file with its owner, mode and time, and syncs it. What has the name is whole."""
+    part = target + ".part"
+    shutil.copyfile(source, part, follow_symlinks=False)
+    with open(part, "rb") as file:
         make_alike(file.fileno(), os.lstat(source))
-        shutil.copystat(source, target, follow_symlinks=False)
+        shutil.copystat(source, part, follow_symlinks=False)
         os.fsync(file.fileno())
+    os.rename(part, target)
 
 
 def linked(source, target):
@@ -111,13 +114,20 @@ def is_own(path):
 # ---------------------------------------------------------------- the exchange
 
 
+def unguard(region):
+    """Takes away what keeps the program from the folder."""
+    path = os.path.join(region, JOURNAL)
+    if os.path.lexists(path) and is_guard(path):
+        os.unlink(path)
+        sync(region)
+
+
 class Exchange:
     """An exchange of files by a working folder."""
 
     def __init__(self, world, work):
         self.world, self.region, self.work = world, world.region, work
-        self.packed, self.old = os.path.join(work, "packed"), os.path.join(work, "old")
-        self.journal = os.path.join(work, "journal")
+        self.packed, self.old, self.journal, self.next = (os.path.join(work, name) for name in ("packed", "old", "journal", "next"))
         # How many owners could not be kept.
         self.foreign = 0
 
@@ -133,7 +143,7 @@ class Exchange:
         # What a region names is there before it, and goes after it.
         new.sort(key=lambda name: (REGION_NAME.fullmatch(name) is not None, name))
         self.foreign = [self.like_old(name, files) for name in new].count(False)
-        self.keep([name for name in new + gone if name in files], files)
+        self.keep([name for name in new + gone if name in files])
         for name, status in files.items():
             self.check_same(name, status)
         for name in new:
@@ -163,9 +173,9 @@ class Exchange:
             os.fsync(file.fileno())
         return given
 
-    def keep(self, names, files):
-        """Gives the old files second names in a folder that is like theirs."""
-        os.mkdir(self.old)
+    def keep(self, names):
+        """Gives old files second names in a folder that is like theirs."""
+        os.makedirs(self.old, exist_ok=True)
         for name in names:
             linked(os.path.join(self.region, name), os.path.join(self.old, name))
         descriptor = os.open(self.old, os.O_RDONLY)
@@ -185,10 +195,25 @@ class Exchange:
             json.dump(content, file)
             file.flush()
             os.fsync(file.fileno())
-        for folder in (self.packed, self.world.parent):
-            sync(folder)
+        self.guard()
+        self.sync_names()
         os.rename(part, self.journal)
-        sync(self.work)
+
+    def guard(self):
+        """Has the program refuse the folder until this is at its end: what stands in the place of its journal is none."""
+        path = os.path.join(self.region, JOURNAL)
+        if not os.path.lexists(path):
+            with open(self.next, "wb") as file:
+                file.write(b"%s is at work by %s; call it again, and it finishes that\n" % (GUARD, os.fsencode(self.work)))
+                file.flush()
+                os.fsync(file.fileno())
+            os.rename(self.next, path)
+            sync(self.region)
+
+    def sync_names(self):
+        """The names of old and new files and of the journal are on the device behind this, each before that of the folder that has it."""
+        for folder in filter(os.path.lexists, (self.old, self.packed, self.work, self.world.parent)):
+            sync(folder)
 
     # ------------------------------------------------------------ places
 
@@ -205,29 +230,53 @@ class Exchange:
 
     def place(self):
         """Lets each new file take its place by a rename, then removes those that no region names any more, and answers the journal.
-        What was done before is not done again."""
+        What was done before is not done again. The journal may be that of a call which was killed before it synced its name."""
         content = self.read_journal()
-        parts = {name: os.path.join(self.packed, name) for name, _ in content["new"]}
-        for name, before in content["new"]:
-            self.check_part(name, os.path.lexists(parts[name]), before)
-        for name, _ in content["new"]:
-            if os.path.lexists(parts[name]):
-                os.replace(parts[name], os.path.join(self.region, name))
-        for name, before in content["gone"]:
-            path = os.path.join(self.region, name)
-            if seen(path) == before:
-                os.unlink(path)
-        sync(self.region)
+        waiting = [(name, before) for name, before in content["new"] if self.waits(name, before)]
+        going = [name for name, before in content["gone"] if seen(os.path.join(self.region, name)) == before]
+        kept = [name for name, before in waiting if before is not None] + going
+        if lost := [name for name in kept if not os.path.lexists(os.path.join(self.old, name))]:
+            self.keep(lost)
+        if waiting:
+            self.guard()
+        self.sync_names()
+        for name, before in waiting:
+            if self.waits(name, before):
+                self.put(name)
+        for name in going:
+            os.unlink(os.path.join(self.region, name))
+        for folder in filter(os.path.lexists, (self.region, self.packed, self.work)):
+            sync(folder)
         return content
 
-    def check_part(self, name, waits, before):
-        """Refuses to go on where a file is another than it was when the journal was written, or where its new one is lost."""
-        is_old = seen(os.path.join(self.region, name)) == before
-        if waits != is_old:
+    def waits(self, name, before):
+        """Whether a new file has still to take its place. Refuses to go on where a file is another than it was when the journal was written, or
+        where its new one is lost. One that has its place keeps its name in `packed`, or had that alone where there are no links; a file system
+        without a journal can also leave it both names of a rename, and in a copy of the world they are two files."""
+        part, path = os.path.join(self.packed, name), os.path.join(self.region, name)
+        has_part, is_old, is_there = os.path.lexists(part), seen(path) == before, os.path.lexists(path)
+        if has_part and is_there and os.path.samestat(os.lstat(part), os.lstat(path)):
+            return False
+        if has_part != is_old and not (has_part and is_there and filecmp.cmp(part, path, shallow=False)):
             raise Stuck("%s %s; nothing is done. To go on with the files as they are, move %s to another place, since it alone has the old files "
-                        "of those that were replaced, and then remove %s" % (
-                            name, "was changed since it began to be replaced" if waits else "is to be replaced, but its new file is lost",
-                            self.old, self.work))
+                        "of those that were replaced, and then remove %s and %s" % (
+                            name, "was changed since it began to be replaced" if has_part else "is to be replaced, but its new file is lost",
+                            self.old, self.work, os.path.join(self.region, JOURNAL)))
+        return has_part and is_old
+
+    def put(self, name):
+        """Lets a new file take its place by a second name, so that it has one in the working folder whichever half of the rename is lost."""
+        part, path = os.path.join(self.packed, name), os.path.join(self.region, name)
+        if os.path.lexists(self.next):
+            os.unlink(self.next)
+        try:
+            os.link(part, self.next, follow_symlinks=False)
+        except OSError as why:
+            if why.errno not in NO_LINKS:
+                raise
+            os.replace(part, path)
+        else:
+            os.replace(self.next, path)
 
     def deliver(self, backup, chosen):
         """Moves the old files to the folder in which they are to be kept: one beside the region files, or that which this call names
@@ -281,6 +330,7 @@ class Exchange:
                 shutil.rmtree(path) if os.path.isdir(path) else os.unlink(path)
 
     def forget(self):
+        unguard(self.region)
         os.unlink(self.journal)
         os.rmdir(self.work)
         sync(self.world.parent)

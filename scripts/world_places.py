@@ -1,8 +1,10 @@
 """The region files that a world's name means, the locks that keep others from them, and a first look at them."""
+import contextlib
 import fcntl
 import os
 import pathlib
 import re
+import shlex
 import stat
 import sys
 import typing
@@ -21,8 +23,8 @@ MOST_PLACE = 60_000
 # which another tag begins, or compounds end: an array can have the same bytes.
 VERSION, LOWEST, SECTION = b"\x03\x00\x0bDataVersion", b"\x03\x00\x04yPos", \
     re.compile(rb"\x01\x00\x01Y(.)(?=\x00{0,2}[\x01-\x0c]\x00[\x01-\x20][A-Za-z]|\x00{1,3}\Z)", re.DOTALL)
-# The journal of a run of the program in the folder itself.
-JOURNAL = ".anvilwater-journal"
+# The journal of a run of the program in the folder itself, and how that begins by which this command keeps the program from the folder.
+JOURNAL, GUARD = ".anvilwater-journal", b"anvilwater-world"
 
 
 class Problem(Exception):
@@ -173,8 +175,16 @@ def hold_folder(world, stack):
     except OSError:
         # A file system that has no locks of folders is worked on without one, as by the program.
         pass
-    if os.path.lexists(os.path.join(world.region, JOURNAL)):
-        raise Problem("in %s a run of the program was cut off, which `anvilwater check` of it finishes; nothing is done" % world.region)
+    journal = os.path.join(world.region, JOURNAL)
+    if os.path.lexists(journal) and not is_guard(journal):
+        raise Problem("a run of the program was cut off and left %s, and `anvilwater check --in %s` finishes it; nothing is done" % (
+            journal, shlex.quote(world.region)))
+
+
+def is_guard(path):
+    with contextlib.suppress(OSError), opened(path) as file:
+        return file.read(len(GUARD)) == GUARD
+    return False
 
 
 def remove_own(descriptor, path):

@@ -33,7 +33,7 @@ import world_pieces
 import world_tables
 import worlds
 from stops import STOPS, held
-from world_exchange import Exchange, check_near, left_behind, working_folder
+from world_exchange import Exchange, check_near, left_behind, unguard, working_folder
 from world_places import MIB, Problem, Stuck, check_held, find_world, hold_region, hold_session, surveyed
 from world_program import Program, Refused
 
@@ -192,6 +192,7 @@ class Call:
             else:
                 shutil.rmtree(path)
                 complain("%s, which a call that was interrupted left behind, is taken away" % path)
+        unguard(self.world.region)
         return finished
 
     def work(self):
@@ -311,6 +312,8 @@ class Call:
         replaced = sum(before is not None for _, before in content["new"])
         lines.append("replaced %d added %d removed %d" % (replaced, len(content["new"]) - replaced, len(content["gone"])))
         say("\n".join([*lines, "before %s" % target]))
+        if not os.path.lexists(target):
+            complain("%s, which had the old files, is not there any more" % target)
         exchange.forget()
 
 
