@@ -5,7 +5,7 @@ import shutil
 import sys
 import threading
 
-import world_run
+import world_verbs
 from kept_worlds import payload, small_world, stored_chunks_of, write_world
 from world_calls import GUARD, STAND_IN, backup, call, contents, others
 
@@ -35,7 +35,7 @@ def ends_at(number, names=CHANGES):
         setattr(os, name, counted(getattr(os, name)))
 
 
-def forked(world, work, patch, *words):
+def forked(world, work, patch, *words, verb=()):
     """The status of a call in this process's image, in which something was replaced before, and its lines."""
     output = os.path.join(work, "output")
     sys.stdout.flush()
@@ -46,7 +46,7 @@ def forked(world, work, patch, *words):
             for stream in (1, 2):
                 os.dup2(descriptor, stream)
             patch()
-            os._exit(world_run.main([world, "--program", STAND_IN, *words]))
+            os._exit(world_verbs.main([*verb, world, "--program", STAND_IN, *words]))
         finally:
             os._exit(FAILED)
     status = os.waitstatus_to_exitcode(os.waitpid(child, 0)[1])
@@ -102,7 +102,7 @@ def syncs(work, _):
     yield "files that no region names yet come first", NEW, [lines[number].split("/")[-1] for number in taken]
     parent, names = "fsync %s/world" % os.path.basename(work), ["fsync packed/" + name for name in NEW]
     folders = ["fsync %s/old" % folder, "fsync %s/packed" % folder, "fsync world/" + folder, parent]
-    guard = lines.index("rename %s/next region/%s" % (folder, GUARD))
+    guard = lines.index("rename %s/guard region/%s" % (folder, GUARD))
     journal = lines.index("rename %s/journal.part %s/journal" % (folder, folder))
     yield "the program is kept from the folder before", "fsync world/region", lines[guard:journal][1]
     files = [line for line in lines[:journal] if line in names]
@@ -134,8 +134,8 @@ def names_lost(work, _):
 
     def finished(what, world):
         status, lines = forked(world, work, lambda: None)
-        return what, (0, "finished a call that was interrupted; nothing else was done", sorted(NEW + ["r.1.1.mca", "r.5.5.mca"]), old), \
-            (status, lines[1] if len(lines) > 1 else lines, sorted(contents(region_of(world))), backup(world))
+        return what, (0, "finished a call that was interrupted; nothing else was done", contents(region_of(world + "-tried")), old), \
+            (status, lines[1] if len(lines) > 1 else lines, contents(region_of(world)), backup(world))
 
     def to(name):
         return lambda line: line.startswith("replace ") and line.endswith(" region/" + name)
@@ -155,6 +155,10 @@ def names_lost(work, _):
             os.unlink(place)
             os.link(kept, place)
         yield finished(what, world)
+    world, folder = begun_world(work, "second", to("r.0.1.mca"))
+    yield "a second name of a new file", True, os.path.samefile(os.path.join(folder, "packed", "r.0.1.mca"), os.path.join(folder, "next"))
+    os.unlink(os.path.join(region_of(world), GUARD))
+    yield finished("and nothing that keeps the program from the folder", world)
     world, folder = begun_world(work, "again", to("r.0.0.mca"))
     status, lines = logged(world, work)
     taken = places_taken(lines)[0][0]
