@@ -171,6 +171,11 @@ def dimensions(work, _):
     yield "and brought back", (0, [was] * 4), (call("undo", world, "--dimension", "all")[0], [contents(folder) for folder in folders.values()])
     status, lines, _ = call("check", world, "--dimension", "all")
     yield "checked", (0, [line for folder in folders.values() for line in ("folder " + folder, "5 files, 8 chunks, 0 findings")]), (status, lines)
+    server = os.path.join(work, "server")
+    shutil.copytree(region_of(world), os.path.join(server, "region"))
+    shutil.copytree(region_of(world), os.path.join(server + "_nether", "DIM-1", "region"))
+    yield "a server's", refused("%s has no region files of the dimension nether; region files are in %s/region, %s_nether/DIM-1/region" % (
+        server, server, server)), call("check", server, "--dimension", "nether")[::2]
     with open(os.path.join(world, "session.lock"), "r+b") as file:
         fcntl.lockf(file, fcntl.LOCK_EX)
         yield "in use", (5, []), call("light", world, "--dimension", "all")[:2]

@@ -1,5 +1,5 @@
-"""What calls of anvilwater-world refuse or pass over, for check_world.py: wrong paths, states that are not known, bad chunks, edits outside; and the way
-back."""
+"""What calls of anvilwater-world refuse or pass over, for check_world.py: wrong paths, states that are not known, bad chunks, edits outside; and
+the way back."""
 import json
 import os
 import shutil
@@ -143,6 +143,21 @@ def bad_chunks(work, _):
     yield "objects", ["folder", "bad", "bad", "bad", "error"], [one["kind"] for one in objects]
     yield "one of them", {"kind": "bad", "path": os.path.join(region_of(world), "r.0.1.mca"), "chunk": [0, 32], "fault": 10, "name": "BadNbt",
                           "cause": "its bytes are no NBT document", "found": None}, objects[3]
+
+
+def too_large(work, _):
+    """Chunks that light makes too large end a call, or stay as they are."""
+    world = os.path.join(work, "world")
+    write_world(world, {(-1, 0): {(-1, 3): (ZLIB, zlib.compress(b"large")), (-2, 0): (ZLIB, zlib.compress(b"chunk")),
+                                  (-7, 1): (ZLIB, zlib.compress(b"large too"))}})
+    was = shots(world)
+    yield "refused", (1, ["fault 24: ChunkTooLarge -7 1"]), call("light", world)[::2]
+    yield "nothing is another", was, shots(world)
+    told = ["r.-1.0.mca %s fault 24: ChunkTooLarge: light makes it larger than a region holds; it stays as it was, not lit" % at
+            for at in ("-7 1", "-1 3")]
+    yield "left as they are", (4, told), call("light", world, "--skip-bad")[::2]
+    found = {at: payload(chunk) for at, chunk in stored_chunks_of(region_of(world), -1, 0).items()}
+    yield "each chunk", {(-1, 3): b"large", (-2, 0): b"chunk+", (-7, 1): b"large too"}, found
 
 
 def edits_outside(work, _):

@@ -162,7 +162,8 @@ def folders(work, program):
     missing = os.path.join(work, "missing")
     no_world = "%s is no world, which has a folder region, and no folder of region files r.X.Z.mca"
     below = "; region files are in %s/world/DIM-1/region, %s/world/region" % (work, work)
-    for given, line in (((missing,), missing + ": No such file or directory"), ((work,), no_world % work + below), ((edits,), edits + ": Not a directory"),
+    for given, line in (((missing,), missing + ": No such file or directory"), ((work,), no_world % work + below),
+                        ((edits,), edits + ": Not a directory"),
                         ((world, "--edits", missing, "--ticks", "1"), missing + ": No such file or directory"),
                         ((world, "--table", missing), missing + ": No such file or directory"),
                         ((world, "--backup", region), region + " is there already, and --backup is to name a new folder; nothing is done"),
@@ -266,10 +267,11 @@ def main():
     of_others = (check_others.journals_of_others, check_others.by_links, check_others.taken_away, check_others.attributes, check_others.one_backup,
                  check_others.killed, check_others.fixed, check_others.limits, check_others.no_locks, check_others.hung_up,
                  check_others.heights_of_tables, check_others.tables)
-    for examples in (whole, words, folders, hostile, check_hindrances.locks, check_hindrances.kept_from_it,
-                     check_hindrances.signals, check_hindrances.changed_by_others, check_hindrances.behind_the_journal, check_hindrances.devices,
-                     *of_others, check_ends.syncs, check_ends.names_lost, check_ends.going_back, check_ends.ends, check_pieces.same_light, check_pieces.sizes, check_pieces.beside,
-                     check_pieces.refusals, check_pieces.memory, check_verbs.wrong_paths, check_verbs.unknown_states, check_verbs.bad_chunks, check_verbs.edits_outside,
+    for examples in (whole, words, folders, hostile, check_hindrances.locks, check_hindrances.kept_from_it, check_hindrances.signals,
+                     check_hindrances.changed_by_others, check_hindrances.behind_the_journal, check_hindrances.devices, *of_others,
+                     check_ends.syncs, check_ends.names_lost, check_ends.going_back, check_ends.ends, check_pieces.same_light,
+                     check_pieces.sizes, check_pieces.beside, check_pieces.refusals, check_pieces.memory, check_verbs.wrong_paths,
+                     check_verbs.unknown_states, check_verbs.bad_chunks, check_verbs.too_large, check_verbs.edits_outside,
                      check_verbs.undone, check_verbs.undone_in_parts, check_readers.read, check_readers.drawn, check_readers.dimensions,
                      check_readers.helps):
         with tempfile.TemporaryDirectory() as work:

@@ -118,8 +118,8 @@ def check_states(edits, known, path, complain):
     for edit, fault in wrong[:NAMED]:
         complain("%s, line %d: %s" % (path, edit.line, fault.told()))
     more = ", the first %d of which are named" % NAMED if len(wrong) > NAMED else ""
-    raise Problem("%d of %d edits have states that are not known%s, and the game would make others of them; --allow-unknown sets them; nothing is done" % (
-        len(wrong), len(edits), more))
+    raise Problem("%d of %d edits have states that are not known%s, and the game would make others of them; --allow-unknown sets them; "
+                  "nothing is done" % (len(wrong), len(edits), more))
 
 
 # ---------------------------------------------------------------- places

@@ -12,6 +12,8 @@ LEVEL, SESSION = "level.dat", "session.lock"
 # Where the game keeps a world's dimensions, each in one of these folders.
 DIMENSIONS = {"overworld": ("", "dimensions/minecraft/overworld"), "nether": ("DIM-1", "dimensions/minecraft/the_nether"),
               "end": ("DIM1", "dimensions/minecraft/the_end")}
+# What some servers name the worlds of a world's Nether and End by.
+BESIDE = "_nether", "_the_end"
 # Folders that have files of a region's name without blocks, by their names.
 OTHERS = {"entities": "entities", "poi": "points of interest"}
 # How far below a folder region files are looked for, and in how many folders; and how many are named.
@@ -133,9 +135,11 @@ def kind_of(payload):
 
 
 def elsewhere(named):
-    """Which folders have region files, below a folder or else above it, as the end of a line."""
-    found = below(named) or [path for path in (os.path.join(folder, "region") for folder in upwards(os.path.abspath(named))[1:4])
-                             if has_regions(path)]
+    """Which folders have region files, below a folder and those of its dimensions that servers keep beside it, or else above it, as the end of a
+    line."""
+    path = os.path.abspath(named)
+    found = below(named) + [one for ending in BESIDE for one in below(path + ending)]
+    found = found or [one for one in (os.path.join(folder, "region") for folder in upwards(path)[1:4]) if has_regions(one)]
     if not found:
         return ""
     more = " and %d more" % (len(found) - NAMED) if len(found) > NAMED else ""

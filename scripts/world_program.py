@@ -18,14 +18,20 @@ class Refused(Exception):
     """The program refused, and said why."""
 
 
+class TooLarge(Exception):
+    """The program refused a chunk, by its coordinates, which light makes larger than a region holds."""
+
+
 LIBRARY, DEATH_SIGNAL = ctypes.CDLL(None), 1
 # A line of `check` of a chunk.
 FINDING = re.compile(r"r\.(-?[0-9]+)\.(-?[0-9]+)\.mca (-?[0-9]+) (-?[0-9]+) fault ([0-9]+): (.*)")
+TOO_LARGE = re.compile(rb"fault 24: ChunkTooLarge (-?[0-9]+) (-?[0-9]+)\n")
 # What the faults of a chunk mean that can be read.
 CAUSES = {10: "its bytes are no NBT document", 11: "it has the layout before 1.18", 12: "a tag that it needs is missing or of another kind",
           13: "its own coordinates are not those of its place", 14: "a section's palette is of another form",
           15: "a section's indices are too few, too many or not in the palette",
-          16: "a fluid tick names no fluid, or is of water outside the chunk or the height", 17: "water has a level that is none"}
+          16: "a fluid tick names no fluid, or is of water outside the chunk or the height", 17: "water has a level that is none",
+          24: "light makes it larger than a region holds"}
 
 
 class Finding(typing.NamedTuple):
@@ -68,12 +74,13 @@ class Program:
         return self.edits
 
     def called(self, words, **streams):
-        """The status of the program with these words, and what it prints. Where no stream is given its other lines go where those of this command go."""
+        """The status of the program with these words, and what it prints on its streams. Where no stream is given its other lines go where those of
+        this command go."""
         with held(), subprocess.Popen([self.path, *words], stdin=subprocess.DEVNULL, stdout=subprocess.PIPE, start_new_session=True,
                                       preexec_fn=end_with_caller, **streams) as process:
             try:
                 with heeded():
-                    printed = process.communicate()[0]
+                    printed, self.told = process.communicate()
             except BaseException:
                 with contextlib.suppress(ProcessLookupError):
                     os.killpg(process.pid, signal.SIGTERM)
@@ -82,11 +89,15 @@ class Program:
             raise Problem("the program was ended by signal %d; nothing is done" % -process.returncode)
         return process.returncode, printed
 
-    def run(self, source, target, edits, ticks):
-        """What a run prints."""
+    def run(self, source, target, edits, ticks, streams={}):
+        """What a run prints. Of a chunk that becomes too large nothing is told where its other lines are taken."""
         # This command holds session.lock itself.
         status, printed = self.called(["run", "--in", source, "--out", target, "--table", self.table, "--edits", edits, "--ticks", str(ticks),
-                                       "--workers", self.workers, "--in-use", *self.strict, *self.explain])
+                                       "--workers", self.workers, "--in-use", *self.strict, *self.explain], **streams)
+        if self.told and (found := TOO_LARGE.search(self.told)):
+            raise TooLarge(int(found[1]), int(found[2]))
+        if self.told:
+            os.write(2, self.told)
         if status > 0:
             raise Refused(status)
         return os.fsdecode(printed.rstrip(b"\n"))

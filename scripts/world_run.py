@@ -3,6 +3,7 @@ import contextlib
 import os
 import re
 import shutil
+import subprocess
 import time
 
 import world_edits
@@ -13,7 +14,7 @@ from stops import ignore_stops, unstopped_behind
 from world_exchange import Exchange, check_near, left_behind, unguard, working_folder
 from world_faults import DONE, PARTLY, Problem
 from world_places import MIB, check_folder, check_held, hold_region, hold_session, surveyed
-from world_program import Program, Refused
+from world_program import CAUSES, Program, Refused, TooLarge
 from world_steps import NO_ROW, Bad, converted, faults_of, leave_out, made, packed_words, plain_words, states_of, unread_of
 from world_telling import Progress, complain
 
@@ -69,7 +70,8 @@ class Call:
         """Lets new files take the places of these, by the changes that are found, and tells of it."""
         content = exchange.prepare(files, *changes, backup)
         if content is None:
-            self.teller.tell("%s\nnothing changed" % told, kind="result", finished=False, **counts_of(told), replaced=0, added=0, removed=0, before=None)
+            self.teller.tell("%s\nnothing changed" % told, kind="result", finished=False, **counts_of(told), replaced=0, added=0, removed=0,
+                             before=None)
             return
         ignore_stops()
         check_held(self.locks)
@@ -204,11 +206,23 @@ class Call:
         return stored
 
     def run_program(self, program, source, target):
-        os.mkdir(target)
+        """Runs a piece. A chunk that light makes too large is left as it is, where the words say so, and the piece is run without it."""
         self.progress.begin("%srun, step 2 of 3" % self.part)
-        printed = program.run(source, target, program.edits_given(), self.words.ticks or 0)
-        self.progress.end()
-        return printed
+        streams = {"stderr": subprocess.PIPE} if self.words.skip_bad else {}
+        while True:
+            os.mkdir(target)
+            try:
+                printed = program.run(source, target, program.edits_given(), self.words.ticks or 0, streams)
+            except TooLarge as why:
+                x, z = why.args
+                bad = Bad(Place(z >> 5, x >> 5), x % 32 + 32 * (z % 32), 24, "ChunkTooLarge", CAUSES[24])
+                leave_out(source, [bad])
+                shutil.rmtree(target)
+                self.tell_bad(bad, STAYS)
+                self.partly = True
+            else:
+                self.progress.end()
+                return printed
 
     # ------------------------------------------------------------ bad chunks, and edits outside
 

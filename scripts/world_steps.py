@@ -16,8 +16,8 @@ COORDINATES = b"\x03\x00\x04xPos", b"\x03\x00\x04zPos"
 
 
 class Bad(typing.NamedTuple):
-    """What is wrong with a chunk, or where there is no index with a file: the fault's number or None, its name, and the cause; and for a chunk that says
-    other coordinates than those of its place these."""
+    """What is wrong with a chunk, or where there is no index with a file: the fault's number or None, its name, and the cause; and of a chunk that
+    says other coordinates than those of its place these."""
     place: Place
     index: typing.Optional[int]
     fault: typing.Optional[int]
