@@ -9,7 +9,9 @@ calls end before changes of the file system and are made again, with stand_in.py
 module lz4 (Debian: python3-lz4) no chunk is LZ4.
 """
 import contextlib
+import functools
 import glob
+import multiprocessing
 import os
 import resource
 import shutil
@@ -28,6 +30,7 @@ import check_readers
 import check_verbs
 import flat_runs
 import kept_worlds
+import worlds
 from check_packed import difference
 from flat_runs import WATER, edit
 from kept_worlds import HAS_LZ4, LOADED, SPRING, Document, game_world, lit, payload, small_world, stamps_of, stored_chunks_of, write_world
@@ -258,28 +261,41 @@ def oversized(world):
     yield "nothing is another", was, shots(world)
 
 
+OF_OTHERS = (check_others.journals_of_others, check_others.by_links, check_others.taken_away, check_others.attributes, check_others.one_backup,
+             check_others.killed, check_others.fixed, check_others.limits, check_others.no_locks, check_others.hung_up, check_others.heights_of_tables,
+             check_others.tables)
+# Those that take long come first.
+EXAMPLES = (check_ends.ends, check_verbs.undone_in_parts, whole, words, folders, hostile, check_hindrances.locks, check_hindrances.kept_from_it,
+            check_hindrances.signals, check_hindrances.changed_by_others, check_hindrances.behind_the_journal, check_hindrances.devices, *OF_OTHERS,
+            check_ends.syncs, check_ends.names_lost, check_ends.going_back, check_pieces.same_light, check_pieces.sizes, check_pieces.beside,
+            check_pieces.refusals, check_pieces.memory, check_verbs.wrong_paths, check_verbs.unknown_states, check_verbs.bad_chunks,
+            check_verbs.too_large, check_verbs.edits_outside, check_verbs.undone, check_readers.read, check_readers.drawn, check_readers.dimensions,
+            check_readers.helps)
+
+
+def found_of(examples, program):
+    """How many examples were asked, and a line for each that is wrong."""
+    # What a shell runs in the background has INT ignored, and so would the calls.
+    signal.signal(signal.SIGINT, signal.default_int_handler)
+    asked, lines = 0, []
+    with tempfile.TemporaryDirectory() as work:
+        for what, want, got in examples(os.path.realpath(work), program):
+            asked += 1
+            if want != got:
+                lines.append("%s, %s: %s" % (examples.__name__, what, difference(want, got)))
+    return asked, lines
+
+
 def main():
     if len(sys.argv) != 2:
         sys.exit(__doc__)
-    # What a shell runs in the background has INT ignored, and so would the calls.
-    signal.signal(signal.SIGINT, signal.default_int_handler)
     program, asked, wrong = os.path.abspath(sys.argv[1]), 0, 0
-    of_others = (check_others.journals_of_others, check_others.by_links, check_others.taken_away, check_others.attributes, check_others.one_backup,
-                 check_others.killed, check_others.fixed, check_others.limits, check_others.no_locks, check_others.hung_up,
-                 check_others.heights_of_tables, check_others.tables)
-    for examples in (whole, words, folders, hostile, check_hindrances.locks, check_hindrances.kept_from_it, check_hindrances.signals,
-                     check_hindrances.changed_by_others, check_hindrances.behind_the_journal, check_hindrances.devices, *of_others,
-                     check_ends.syncs, check_ends.names_lost, check_ends.going_back, check_ends.ends, check_pieces.same_light,
-                     check_pieces.sizes, check_pieces.beside, check_pieces.refusals, check_pieces.memory, check_verbs.wrong_paths,
-                     check_verbs.unknown_states, check_verbs.bad_chunks, check_verbs.too_large, check_verbs.edits_outside,
-                     check_verbs.undone, check_verbs.undone_in_parts, check_readers.read, check_readers.drawn, check_readers.dimensions,
-                     check_readers.helps):
-        with tempfile.TemporaryDirectory() as work:
-            for what, want, got in examples(os.path.realpath(work), program):
-                asked += 1
-                if want != got:
-                    wrong += 1
-                    print("%s, %s: %s" % (examples.__name__, what, difference(want, got)))
+    # Calls mostly wait for the device, so that some side by side take less.
+    with multiprocessing.get_context("fork").Pool(max(2, worlds.processors()), maxtasksperchild=1) as pool:
+        for count, lines in pool.imap_unordered(functools.partial(found_of, program=program), EXAMPLES):
+            asked, wrong = asked + count, wrong + len(lines)
+            for line in lines:
+                print(line)
     print("%d asked of worlds in place%s, %d wrong" % (asked, "" if HAS_LZ4 else ", without LZ4", wrong))
     sys.exit(1 if wrong else 0)
 
