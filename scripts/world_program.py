@@ -89,7 +89,7 @@ class Program:
             raise Problem("the program was ended by signal %d; nothing is done" % -process.returncode)
         return process.returncode, printed
 
-    def run(self, source, target, edits, ticks, streams={}):
+    def run(self, source, target, edits, ticks, **streams):
         """What a run prints. Of a chunk that becomes too large nothing is told where its other lines are taken."""
         # This command holds session.lock itself.
         status, printed = self.called(["run", "--in", source, "--out", target, "--table", self.table, "--edits", edits, "--ticks", str(ticks),

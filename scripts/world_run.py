@@ -212,7 +212,7 @@ class Call:
         while True:
             os.mkdir(target)
             try:
-                printed = program.run(source, target, program.edits_given(), self.words.ticks or 0, streams)
+                printed = program.run(source, target, program.edits_given(), self.words.ticks or 0, **streams)
             except TooLarge as why:
                 x, z = why.args
                 bad = Bad(Place(z >> 5, x >> 5), x % 32 + 32 * (z % 32), 24, "ChunkTooLarge", CAUSES[24])
