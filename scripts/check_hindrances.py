@@ -2,18 +2,20 @@
 import contextlib
 import errno
 import fcntl
+import glob
 import itertools
 import os
 import shutil
 import signal
+import subprocess
 import time
 
 import world_places
-from check_ends import OLD, ends_at, forked, has_journal, region_of, traced
+from check_ends import OLD, begun_world, ends_at, forked, has_journal, region_of, traced
 from holding import held
 from kept_worlds import small_world, write_world
 from stored_chunks import write
-from world_calls import backup, begun, call, contents, ended, others, refused, shots
+from world_calls import GUARD, backup, begun, call, contents, ended, in_use, others, refused, shots
 
 
 def waited(path):
@@ -49,12 +51,12 @@ def locks(work, _):
     with open(session, "r+b") as file:
         fcntl.lockf(file, fcntl.LOCK_EX)
         for where in (world, region_of(world), os.path.join(world, "DIM1"), deep, os.path.dirname(deep)):
-            yield "the game has it open: " + where, refused(held), call(where)[::2]
+            yield "the game has it open: " + where, in_use(held), call(where)[::2]
     first = begun(world, what="wait " + marker)
     yield "a call works", True, waited(marker)
     yield "the game can't open it", True, is_locked(session)
     twice = "process %d works on %s already; nothing is done" % (first.pid, region_of(world))
-    yield "two at once", refused(twice), call(world)[::2]
+    yield "two at once", in_use(twice), call(world)[::2]
     first.terminate()
     yield "the first ends", (143, ["anvilwater-world: interrupted"]), ended(first)[::2]
     yield "nothing is another", was, shots(world)
@@ -80,12 +82,27 @@ def runs_of_the_program(world):
         os.unlink(os.path.join(world, name))
     was = shots(world)
     with held(region_of(world)):
-        yield "a run of the program", refused("another program works on %s; nothing is done" % region_of(world)), call(world)[::2]
+        yield "a run of the program", in_use("another program works on %s; nothing is done" % region_of(world)), call(world)[::2]
     yield "nothing is another", was, shots(world)
     write(region_of(world), ".anvilwater-journal", b"anvilwater journal 2\nr.0.1.mca\n\n-\n")
-    was, line = shots(world), "in %s a run of the program was cut off, which `anvilwater check` of it finishes; nothing is done"
-    yield "one that was cut off", refused(line % region_of(world)), call(world)[::2]
+    was, line = shots(world), "a run of the program was cut off and left %s/.anvilwater-journal, and `anvilwater check --in %s` finishes it; nothing is done"
+    yield "one that was cut off", refused(line % (region_of(world), region_of(world))), call(world)[::2]
     yield "nothing is another", was, shots(world)
+
+
+def kept_from_it(work, program):
+    """The program refuses a folder in which a call ended while files took their places, and the next call finishes that."""
+    world, folder = begun_world(work, "world", lambda line: line.startswith("replace ") and line.endswith(" region/r.0.0.mca"))
+    region, out = region_of(world), os.path.join(work, "out")
+    os.mkdir(out)
+    was = shots(world)
+    for words in (("check", "--in", region), *(("run", "--in", region, "--out", folder, "--ticks", "0") for folder in (region, out))):
+        done = subprocess.run([program, *words, "--explain"], capture_output=True, text=True, timeout=60)
+        yield words, (1, True), (done.returncode, "it is no journal of this program" in done.stderr)
+        yield "nothing is another", was, shots(world)
+    done = call(world)
+    yield "it is finished", (0, "finished a call that was interrupted; nothing else was done"), (done[0], done[1][1])
+    yield "and nothing keeps the program from it", False, os.path.exists(os.path.join(region, GUARD))
 
 
 def is_made_anew(world):
@@ -171,6 +188,37 @@ def changed_by_others(work, _):
     begins = "anvilwater-world: r.0.1.mca was changed since it began to be replaced; nothing is done. To go on with the files as they are, move "
     yield "and is told", begins, found[2][0][:len(begins)]
     yield "nothing is another", was, shots(world)
+
+
+def behind_the_journal(work, _):
+    """Other programs that write, or take the game's lock away, when the journal has its name and no file has its place: all is as it was."""
+    def then(function):
+        rename = os.rename
+
+        def renaming(*given):
+            rename(*given)
+            if given[1].endswith("/journal"):
+                function()
+        os.rename = renaming
+    held = "anvilwater-world: %s was taken away while the world was worked on, and the game may have it open; nothing is done"
+    changed = "anvilwater-world: r.0.1.mca was changed by another program before it was replaced; nothing is done"
+    for name in ("changed", "held"):
+        world = os.path.join(work, name)
+        write_world(world, small_world())
+        old, path, session = contents(region_of(world)), os.path.join(region_of(world), "r.0.1.mca"), os.path.join(world, "session.lock")
+
+        def other():
+            if name == "changed":
+                with open(path, "ab") as file:
+                    file.write(bytes(4096))
+            else:
+                os.unlink(session)
+                write(world, "session.lock", b"of the game")
+        status, lines = forked(world, work, lambda: then(other))
+        yield name, (1, changed if name == "changed" else held % session), (status, lines[-1])
+        want = {**old, "r.0.1.mca": old["r.0.1.mca"] + bytes(4096)} if name == "changed" else old
+        yield "nothing else is another", (want, ["level.dat", "session.lock"], []), (contents(region_of(world)), others(world), backup(world))
+        yield "then all is done", (0, 1), (call(world)[0], len(glob.glob(os.path.join(world, "region.before-*"))))
 
 
 def always(answer):

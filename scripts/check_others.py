@@ -13,7 +13,7 @@ from check_ends import OLD, forked, region_of
 from check_hindrances import always, waited
 from kept_worlds import small_world, write_world
 from stored_chunks import ZLIB, write
-from world_calls import backup, begun, call, contents, ended, others, refused, shots
+from world_calls import backup, begun, call, contents, ended, in_use, left, others, refused, shots
 from written_regions import BYTE, BYTES, INT, Tag, compound, compounds, named
 
 
@@ -48,7 +48,7 @@ def by_links(work, _):
     with open(session, "r+b") as file:
         fcntl.lockf(file, fcntl.LOCK_EX)
         for where in (os.path.join(work, "nether"), os.path.join(world, "DIM1"), os.path.join(world, "DIM1", "region")):
-            yield where, refused(held), call(where)[::2]
+            yield where, in_use(held), call(where)[::2]
 
 
 def taken_away(work, _):
@@ -150,8 +150,8 @@ def fixed(work, _):
     if os.geteuid() != 0 or shutil.which("chattr") is None or subprocess.run(["chattr", "+i", path], stderr=subprocess.DEVNULL).returncode:
         return
     was = shots(world)
-    line = "r.0.1.mca can't be replaced, since it has the attribute i or a (chattr); nothing is done"
-    yield line, refused(line), call(world)[::2]
+    line = "r.0.1.mca can't be replaced, since it has the attribute i or a (chattr)"
+    yield line, left(line), call(world)[::2]
     yield "nothing is another", was, shots(world)
     subprocess.run(["chattr", "-i", path], check=True)
 
@@ -162,7 +162,7 @@ def limits(work, _):
     write_world(world, small_world())
     write(world, "region/r.60001.0.mca", b"")
     write(world, "region/r.-60000.60000.mca", b"")
-    yield "far", refused("r.60001.0.mca is farther out than the program goes; nothing is done"), call(world)[::2]
+    yield "far", left("r.60001.0.mca is farther out than the program goes"), call(world)[::2]
     os.unlink(os.path.join(region_of(world), "r.60001.0.mca"))
     yield "as far as it goes", 0, call(world, what="same")[0]
 

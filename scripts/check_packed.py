@@ -287,7 +287,7 @@ def without_lz4(work):
     write(module, "lz4.py", b"raise ImportError")
     write_region(source, 0, 0, {0: (ZLIB, zlib.compress(CHUNK)), 7: (LZ4, RAW)})
     write_region(source, 1, 0, {0: (ZLIB, zlib.compress(CHUNK))})
-    line = "r.0.0.mca: LZ4 needs the Python module lz4 (Debian: python3-lz4); nothing is written for it"
+    line = "r.0.0.mca: LZ4 needs the module lz4 for %s (Debian: python3-lz4); nothing is written for it" % sys.executable
     yield "no module", (1, ["regions 1 chunks 1 left out 0"], [line]), worlds("plain", source, plain, paths=[module])
     yield "its files", ["r.1.0.mca"], os.listdir(plain)
 

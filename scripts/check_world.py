@@ -9,7 +9,9 @@ calls end before changes of the file system and are made again, with stand_in.py
 module lz4 (Debian: python3-lz4) no chunk is LZ4.
 """
 import contextlib
+import functools
 import glob
+import multiprocessing
 import os
 import resource
 import shutil
@@ -24,18 +26,22 @@ import check_ends
 import check_hindrances
 import check_others
 import check_pieces
+import check_readers
+import check_verbs
 import flat_runs
 import kept_worlds
+import worlds
 from check_packed import difference
 from flat_runs import WATER, edit
 from kept_worlds import HAS_LZ4, LOADED, SPRING, Document, game_world, lit, payload, small_world, stamps_of, stored_chunks_of, write_world
 from stored_chunks import LZ4, RAW, STAMPS, ZLIB, write
-from world_calls import COMMAND, STAND_IN, backup, begun, call, contents, others, refused, shots
+from world_calls import COMMAND, STAND_IN, backup, begun, call, contents, left, others, refused, shots
 
 # ---------------------------------------------------------------- a whole run
 
 EDITS = edit(1, 8, 70, 8, "minecraft:glowstone") + edit(1, -8, 64, -8, WATER)
-TOLD = ["r.0.0.mca 4 0: its plain bytes are more than 1044475; it is left out", "r.0.0.mca 3 1: its zlib stream is cut short; it is left out"]
+TOLD = ["r.0.0.mca 4 0: its plain bytes are more than 1044475; it stays as it was, not lit",
+        "r.0.0.mca 3 1: its zlib stream is cut short; it stays as it was, not lit"]
 TOUCHED = ["c.2.0.mcc", "r.-1.-1.mca", "r.0.0.mca", "r.0.1.mca"]
 
 
@@ -74,7 +80,7 @@ def whole(work, program):
     own(world)
     files = contents(region)
     status, out, err = call(*words, "--edits", os.path.join(work, "edits"), "--ticks", "6", program=program)
-    yield "told", (1, ["folder " + region, "chunks 8 turns 2", "replaced 3 added 0 removed 1"], TOLD), (status, out[:-1], err)
+    yield "told", (4, ["folder " + region, "chunks 8 turns 2", "replaced 3 added 0 removed 1"], TOLD), (status, out[:-1], err)
     yield "files", sorted({*files} - {"c.2.0.mcc"}), sorted(os.listdir(region))
     yield "the old files", {name: files[name] for name in TOUCHED}, backup(world)
     yield "where they are", out[-1:], ["before " + path for path in glob.glob(os.path.join(world, "region.before-*"))]
@@ -85,7 +91,7 @@ def whole(work, program):
         [now[name][0:5:4] for name in ("region/r.2.-3.mca", "region/c.70.-93.mcc", "region/r.5.5.mca")]
     yield from compared(region, old)
     was = shots(world)
-    yield "once more", (1, ["folder " + region, "chunks 8 turns 0", "nothing changed"], TOLD), call(*words, program=program)
+    yield "once more", (4, ["folder " + region, "chunks 8 turns 0", "nothing changed"], TOLD), call(*words, program=program)
     yield "nothing is another", was, shots(world)
 
 
@@ -158,7 +164,9 @@ def folders(work, program):
         yield where, (0, ["folder " + taken, "chunks 5 turns 0", "nothing changed"], []), call(where, what="same")
     missing = os.path.join(work, "missing")
     no_world = "%s is no world, which has a folder region, and no folder of region files r.X.Z.mca"
-    for given, line in (((missing,), missing + ": No such file or directory"), ((work,), no_world % work), ((edits,), edits + ": Not a directory"),
+    below = "; region files are in %s/world/DIM-1/region, %s/world/region" % (work, work)
+    for given, line in (((missing,), missing + ": No such file or directory"), ((work,), no_world % work + below),
+                        ((edits,), edits + ": Not a directory"),
                         ((world, "--edits", missing, "--ticks", "1"), missing + ": No such file or directory"),
                         ((world, "--table", missing), missing + ": No such file or directory"),
                         ((world, "--backup", region), region + " is there already, and --backup is to name a new folder; nothing is done"),
@@ -171,7 +179,7 @@ def folders(work, program):
         call(valid, "--edits", "/dev/stdin", "--ticks", "1", program=program, stdin=piped("1 2 3\n"))[::2]
     form = "  a line is TICK X Y Z STATE with single spaces, as `1 8 75 8 minecraft:water[level=0]`"
     told = call(valid, "--edits", edits, "--ticks", "1", "--explain", program=program)[2]
-    yield "a fault that is explained", (["fault 20: BadEdit 1", form], True), ([told[-3], told[-1]], told[-2].endswith("/edits, line 1: 1 2 3"))
+    yield "a fault that is explained", (["fault 20: BadEdit 1", form], True), ([told[-3], told[-1]], told[-2].endswith(" %s, line 1: 1 2 3" % edits))
     yield "a table", (1, ["fault 19: BadTable"]), call(world, "--table", edits, program=program)[::2]
     yield "another status", (7, ["fault 99: StandIn"]), call(world, what="refuse")[::2]
     yield "a program that dies", refused("the program was ended by signal 9; nothing is done"), call(world, what="die")[::2]
@@ -204,18 +212,18 @@ def on_terminal(world):
 
 def hostile(work, program):
     """Files that a call refuses, and what it does where a device fails: the world is as it was."""
-    link, is_link = lambda path: os.symlink("r.0.0.mca", path), "%s is a symbolic link, in whose place a file would come; nothing is done"
+    link, is_link = lambda path: os.symlink("r.0.0.mca", path), "%s is a symbolic link, in whose place a file would come"
     odd = [("r.7.0.mca", link, is_link % "r.7.0.mca"), ("c.1.1.mcc", link, is_link % "c.1.1.mcc"),
-           ("r.7.0.mca", os.mkfifo, "r.7.0.mca is no file; nothing is done"), ("r.7.0.mca", os.mkdir, "r.7.0.mca is no file; nothing is done"),
-           ("r.7.0.mca", lambda path: write(*os.path.split(path), b"bytes"), "r.7.0.mca: its 5 bytes are less than a header; nothing is done"),
+           ("r.7.0.mca", os.mkfifo, "r.7.0.mca is no file"), ("r.7.0.mca", os.mkdir, "r.7.0.mca is no file"),
+           ("r.7.0.mca", lambda path: write(*os.path.split(path), b"bytes"), "r.7.0.mca: its 5 bytes are less than a header"),
            ("r.0.0.mca", lambda path: os.truncate(path, os.path.getsize(path) - 4096),
-            "r.0.0.mca: chunk 0 0 can't be brought back, its sectors are not in the file; nothing is done")]
+            "r.0.0.mca: chunk 0 0 can't be brought back, its sectors are not in the file")]
     for number, (name, make, line) in enumerate(odd):
         world = os.path.join(work, "world%d" % number)
         write_world(world, small_world())
         make(os.path.join(world, "region", name))
         was = shots(world)
-        yield line, refused(line), call(world)[::2]
+        yield line, left(line), call(world)[::2]
         yield "nothing is another", was, shots(world)
     world = os.path.join(work, "world")
     write_world(world, small_world())
@@ -227,7 +235,7 @@ def hostile(work, program):
     lz4 = os.path.join(work, "lz4")
     write_world(lz4, {(0, 0): {(0, 0): (LZ4, RAW)}})
     yield from oversized(os.path.join(work, "oversized"))
-    yield "no module", refused("r.0.0.mca: LZ4 needs the Python module lz4 (Debian: python3-lz4); nothing is done"), \
+    yield "no module", left("r.0.0.mca: LZ4 needs the module lz4 for %s (Debian: python3-lz4)" % sys.executable), \
         call(lz4, paths=[module])[::2]
     small = lambda: resource.setrlimit(resource.RLIMIT_FSIZE, (1 << 20, 1 << 20))
     yield "a device that fails", refused(line), call(world, preexec_fn=small)[::2]
@@ -249,29 +257,45 @@ def oversized(world):
         file.seek(7)
         file.write(b"\xff")
     was = shots(world)
-    yield "more than 255 sectors", refused("r.0.0.mca: chunk 1 0 can't be brought back, it has more than 255 sectors; nothing is done"), call(world)[::2]
+    yield "more than 255 sectors", left("r.0.0.mca: chunk 1 0 can't be brought back, it has more than 255 sectors"), call(world)[::2]
     yield "nothing is another", was, shots(world)
+
+
+OF_OTHERS = (check_others.journals_of_others, check_others.by_links, check_others.taken_away, check_others.attributes, check_others.one_backup,
+             check_others.killed, check_others.fixed, check_others.limits, check_others.no_locks, check_others.hung_up, check_others.heights_of_tables,
+             check_others.tables)
+# Those that take long come first.
+EXAMPLES = (check_ends.ends, check_verbs.undone_in_parts, whole, words, folders, hostile, check_hindrances.locks, check_hindrances.kept_from_it,
+            check_hindrances.signals, check_hindrances.changed_by_others, check_hindrances.behind_the_journal, check_hindrances.devices, *OF_OTHERS,
+            check_ends.syncs, check_ends.names_lost, check_ends.going_back, check_pieces.same_light, check_pieces.sizes, check_pieces.beside,
+            check_pieces.refusals, check_pieces.memory, check_verbs.wrong_paths, check_verbs.unknown_states, check_verbs.bad_chunks,
+            check_verbs.too_large, check_verbs.edits_outside, check_verbs.undone, check_readers.read, check_readers.drawn, check_readers.dimensions,
+            check_readers.helps)
+
+
+def found_of(examples, program):
+    """How many examples were asked, and a line for each that is wrong."""
+    # What a shell runs in the background has INT ignored, and so would the calls.
+    signal.signal(signal.SIGINT, signal.default_int_handler)
+    asked, lines = 0, []
+    with tempfile.TemporaryDirectory() as work:
+        for what, want, got in examples(os.path.realpath(work), program):
+            asked += 1
+            if want != got:
+                lines.append("%s, %s: %s" % (examples.__name__, what, difference(want, got)))
+    return asked, lines
 
 
 def main():
     if len(sys.argv) != 2:
         sys.exit(__doc__)
-    # What a shell runs in the background has INT ignored, and so would the calls.
-    signal.signal(signal.SIGINT, signal.default_int_handler)
     program, asked, wrong = os.path.abspath(sys.argv[1]), 0, 0
-    of_others = (check_others.journals_of_others, check_others.by_links, check_others.taken_away, check_others.attributes, check_others.one_backup,
-                 check_others.killed, check_others.fixed, check_others.limits, check_others.no_locks, check_others.hung_up,
-                 check_others.heights_of_tables, check_others.tables)
-    for examples in (whole, words, folders, hostile, check_hindrances.locks, check_hindrances.signals,
-                     check_hindrances.changed_by_others, check_hindrances.devices, *of_others, check_ends.syncs, check_ends.going_back,
-                     check_ends.ends, check_pieces.same_light, check_pieces.sizes, check_pieces.beside, check_pieces.refusals,
-                     check_pieces.memory):
-        with tempfile.TemporaryDirectory() as work:
-            for what, want, got in examples(os.path.realpath(work), program):
-                asked += 1
-                if want != got:
-                    wrong += 1
-                    print("%s, %s: %s" % (examples.__name__, what, difference(want, got)))
+    # Calls mostly wait for the device, so that some side by side take less.
+    with multiprocessing.get_context("fork").Pool(max(2, worlds.processors()), maxtasksperchild=1) as pool:
+        for count, lines in pool.imap_unordered(functools.partial(found_of, program=program), EXAMPLES):
+            asked, wrong = asked + count, wrong + len(lines)
+            for line in lines:
+                print(line)
     print("%d asked of worlds in place%s, %d wrong" % (asked, "" if HAS_LZ4 else ", without LZ4", wrong))
     sys.exit(1 if wrong else 0)
 

@@ -22,3 +22,37 @@ def held():
 def heeded():
     """They are heeded, also those that waited."""
     return masked(signal.SIG_UNBLOCK)
+
+
+class Stopped(BaseException):
+    """A signal asks for an end."""
+
+
+def stops_to_heed():
+    """Those that are not ignored already, as by nohup."""
+    return [which for which in STOPS if signal.getsignal(which) is not signal.SIG_IGN]
+
+
+def heed_stops(stops):
+    """Each of these raises Stopped, once."""
+    def stop(which, _):
+        ignore_stops()
+        raise Stopped(which)
+    for which in stops:
+        signal.signal(which, stop)
+
+
+def ignore_stops():
+    """One that came before this raises Stopped here."""
+    with held():
+        for which in STOPS:
+            signal.signal(which, signal.SIG_IGN)
+
+
+@contextlib.contextmanager
+def unstopped_behind():
+    """What is cleared away behind this is not stopped."""
+    try:
+        yield
+    finally:
+        ignore_stops()

@@ -5,6 +5,7 @@ import stat
 import subprocess
 
 TOP = os.path.dirname(os.path.dirname(os.path.abspath(__file__)))
+GUARD, RECORD = ".anvilwater-journal", ".anvilwater-record"
 COMMAND, STAND_IN = os.path.join(TOP, "anvilwater-world"), os.path.join(TOP, "scripts", "stand_in.py")
 
 
@@ -30,6 +31,16 @@ def refused(line):
     return 1, ["anvilwater-world: " + line]
 
 
+def in_use(line):
+    """The same of a world that another has."""
+    return 5, ["anvilwater-world: " + line]
+
+
+def left(line):
+    """The same of a file by which a call ends that would leave it with another word."""
+    return refused(line + "; --skip-bad leaves it as it is; nothing is done")
+
+
 def shots(folder):
     """All that is in a folder: each file with its bytes, mode, owner and time, and each other thing with its kind."""
     found = {}
@@ -44,7 +55,8 @@ def shots(folder):
 
 
 def contents(folder):
-    return {name: open(os.path.join(folder, name), "rb").read() for name in os.listdir(folder)}
+    """The files of a folder, but for the record that old files have."""
+    return {name: open(os.path.join(folder, name), "rb").read() for name in os.listdir(folder) if name != RECORD}
 
 
 def backup(world):
@@ -54,5 +66,6 @@ def backup(world):
 
 
 def others(world):
-    """What a world has besides its region files and their backups."""
-    return sorted(name for name in os.listdir(world) if name != "region" and not name.startswith("region.before-"))
+    """What a world has besides its region files and their backups, and what keeps the program from these."""
+    found = [name for name in os.listdir(world) if name != "region" and not name.startswith("region.before-")]
+    return sorted(found + [name for name in os.listdir(os.path.join(world, "region")) if name == GUARD])

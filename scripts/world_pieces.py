@@ -10,7 +10,8 @@ import pathlib
 import typing
 
 from region_files import Place
-from world_places import MIB, Problem, Size
+from world_faults import Problem
+from world_places import MIB, Size
 
 # About what a run without ticks takes: beside its regions, for each plain byte of them, and for each chunk, which is written with the light
 # of 24 sections. It is somewhat more than was measured (docs/BENCHMARKS.md).

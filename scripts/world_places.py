@@ -1,16 +1,19 @@
-"""The region files that a world's name means, the locks that keep others from them, and a first look at them."""
+"""The locks that keep others from a world's region files, and a first look at these."""
+import contextlib
+import errno
 import fcntl
 import os
-import pathlib
 import re
+import shlex
 import stat
 import sys
 import typing
 
 from chunk_data import SECTOR, Refused, Unread
-from region_files import EXTERNAL_NAME, HEADER, MOST_SECTORS, REGION_NAME, Region, externals, make_alike, opened, places
+from region_files import EXTERNAL_NAME, HEADER, MOST_SECTORS, REGION_NAME, Region, externals, make_alike, opened
+from world_faults import Held, Problem
+from world_folders import LEVEL, SESSION
 
-LEVEL, SESSION = "level.dat", "session.lock"
 SNOWMAN = "\u2603".encode()
 # About how many chunks of a world are looked at, and of each region at least.
 SAMPLES, LEAST = 64, 4
@@ -21,85 +24,10 @@ MOST_PLACE = 60_000
 # which another tag begins, or compounds end: an array can have the same bytes.
 VERSION, LOWEST, SECTION = b"\x03\x00\x0bDataVersion", b"\x03\x00\x04yPos", \
     re.compile(rb"\x01\x00\x01Y(.)(?=\x00{0,2}[\x01-\x0c]\x00[\x01-\x20][A-Za-z]|\x00{1,3}\Z)", re.DOTALL)
-# The journal of a run of the program in the folder itself.
-JOURNAL = ".anvilwater-journal"
-
-
-class Problem(Exception):
-    """Why the work ends, in a line."""
-
-
-class Stuck(Problem):
-    """Why what was begun can't be finished."""
-
-
-# ---------------------------------------------------------------- names
-
-
-class World(typing.NamedTuple):
-    """A folder of region files, by its real path, and the folders of the worlds that it may be of."""
-    region: str
-    tops: list
-
-    @property
-    def parent(self):
-        return os.path.dirname(self.region)
-
-    @property
-    def name(self):
-        return os.path.basename(self.region)
-
-    @property
-    def mark(self):
-        """How the names of this command's own files begin, which are beside the folder."""
-        return ".anvilwater-%s." % self.name
-
-    def beside(self, ending):
-        return os.path.join(self.parent, self.mark + ending)
-
-
-def find_world(named):
-    """What a name means: a world or a dimension, which has a folder region, or a folder of region files."""
-    inner, has_files = os.path.join(named, "region"), bool(places(named))
-    has_inner = os.path.isdir(inner)
-    if has_inner and has_files:
-        raise Problem("%s has region files and a folder region; name the one that is meant" % named)
-    if has_inner and not places(inner):
-        raise Problem("%s has no region files r.X.Z.mca" % inner)
-    if not has_inner and not has_files:
-        raise Problem("%s is no world, which has a folder region, and no folder of region files r.X.Z.mca" % named)
-    region = os.path.realpath(inner if has_inner else named)
-    if os.path.ismount(region):
-        raise Problem("%s is where a file system is mounted, so that nothing of it is beside the folder" % region)
-    return World(region, tops([*ways(os.path.abspath(inner if has_inner else named)), region]))
-
-
-def upwards(path):
-    return [path, *map(str, pathlib.PurePath(path).parents)]
-
-
-def ways(path):
-    """A path, and each that it becomes as its links are followed."""
-    found, waiting = [], [path]
-    while waiting:
-        path = waiting.pop()
-        if path not in found:
-            found.append(path)
-            links = [folder for folder in upwards(path) if os.path.islink(folder)]
-            waiting += [os.path.normpath(os.path.join(os.path.realpath(os.path.dirname(link)), os.readlink(link), os.path.relpath(path, link)))
-                        for link in links]
-    return found
-
-
-def tops(paths):
-    """The folders of worlds that these paths lie in: above each, the nearest that has a file of a world, and all that have both."""
-    found = set()
-    for path in paths:
-        has = [[os.path.lexists(os.path.join(folder, name)) for name in (LEVEL, SESSION)] for folder in upwards(path)]
-        nearest = next((number for number, files in enumerate(has) if any(files)), None)
-        found |= {os.path.realpath(folder) for number, folder in enumerate(upwards(path)) if number == nearest or all(has[number])}
-    return sorted(found)
-
+# Why nothing can be written to a folder.
+CLOSED = errno.EACCES, errno.EPERM, errno.EROFS
+# The journal of a run of the program in the folder itself, and how that begins by which this command keeps the program from the folder.
+JOURNAL, GUARD = ".anvilwater-journal", b"anvilwater-world"
 
 # ---------------------------------------------------------------- locks
 
@@ -125,7 +53,7 @@ def hold_session(top, stack):
         try:
             fcntl.lockf(descriptor, fcntl.LOCK_EX | fcntl.LOCK_NB)
         except (BlockingIOError, PermissionError) as why:
-            raise Problem("%s is locked: the game has the world open, or another program works on it; nothing is done" % path) from why
+            raise Held("%s is locked: the game has the world open, or another program works on it; nothing is done" % path) from why
         if is_at(descriptor, path):
             break
     if made:
@@ -145,7 +73,7 @@ def hold_region(world, stack):
         except BlockingIOError as why:
             number = os.pread(descriptor, 20, 0).decode("ascii", "replace").strip()
             os.close(descriptor)
-            raise Problem("process %s works on %s already; nothing is done" % (number, world.region)) from why
+            raise Held("process %s works on %s already; nothing is done" % (number, world.region)) from why
         except OSError as why:
             # One that another call holds has its number.
             if os.fstat(descriptor).st_size == 0:
@@ -169,12 +97,46 @@ def hold_folder(world, stack):
     try:
         fcntl.flock(descriptor, fcntl.LOCK_EX | fcntl.LOCK_NB)
     except BlockingIOError as why:
-        raise Problem("another program works on %s; nothing is done" % world.region) from why
+        raise Held("another program works on %s; nothing is done" % world.region) from why
     except OSError:
         # A file system that has no locks of folders is worked on without one, as by the program.
         pass
-    if os.path.lexists(os.path.join(world.region, JOURNAL)):
-        raise Problem("in %s a run of the program was cut off, which `anvilwater check` of it finishes; nothing is done" % world.region)
+    journal = os.path.join(world.region, JOURNAL)
+    if os.path.lexists(journal) and not is_guard(journal):
+        raise Problem("a run of the program was cut off and left %s, and `anvilwater check --in %s` finishes it; nothing is done" % (
+            journal, shlex.quote(world.region)))
+
+
+def hold_reading(world, stack):
+    """Keeps the game, and calls that change it, from a world that is only read, as far as this user may. Answers the locks of the game that are held,
+    or None where what a call left behind may not be finished."""
+    try:
+        hold_region(world, stack)
+        return [hold_session(top, stack) for top in world.tops]
+    except OSError as why:
+        if why.errno not in CLOSED:
+            raise
+        for top in world.tops:
+            share_session(top, stack)
+        return None
+
+
+def share_session(top, stack):
+    """Refuses a world that the game has open, by a lock for which a file need only be read."""
+    path = os.path.join(top, SESSION)
+    with contextlib.suppress(FileNotFoundError, PermissionError):
+        descriptor = os.open(path, os.O_RDONLY | os.O_NONBLOCK)
+        stack.callback(os.close, descriptor)
+        try:
+            fcntl.lockf(descriptor, fcntl.LOCK_SH | fcntl.LOCK_NB)
+        except (BlockingIOError, PermissionError) as why:
+            raise Held("%s is locked: the game has the world open, or another program works on it; nothing is done" % path) from why
+
+
+def is_guard(path):
+    with contextlib.suppress(OSError), opened(path) as file:
+        return file.read(len(GUARD)) == GUARD
+    return False
 
 
 def remove_own(descriptor, path):
@@ -213,10 +175,12 @@ class Size(typing.NamedTuple):
 
 
 class Survey(typing.NamedTuple):
-    """What the files of a folder are: the status of each by its name, the size of each region, and what some chunks say of their world."""
+    """What the files of a folder are: the status of each by its name, the size of each region, and what some chunks say of their world; and of
+    regions that can't be read, or taken there and back, why not."""
     files: dict
     sizes: dict
     marks: set
+    bad: dict
 
     @property
     def stored(self):
@@ -241,29 +205,37 @@ def int_behind(payload, name):
     return None if at < 0 else int.from_bytes(payload[at + len(name):at + len(name) + 4], "big", signed=True)
 
 
-def surveyed(folder):
-    """Looks at each region file and each file c.X.Z.mcc of these regions. None may be a link, or have a chunk that can't be brought
-    back."""
-    found, beside = sorted(places(folder)), externals(folder)
-    for place in found:
-        if max(map(abs, place)) > MOST_PLACE:
-            raise Problem("%s is farther out than the program goes; nothing is done" % place.name)
-    names = [name for place in found for name in (place.name, *sorted(beside[place]))]
-    files = {name: plain_file(folder, name) for name in names}
-    check_folder(folder, files)
-    sizes, marks = {}, set()
-    for place in found:
+def surveyed(folder, found, is_read_alone=False):
+    """Looks at these region files and each file c.X.Z.mcc of them. One that is not only read may be no link, and have no chunk that can't be
+    brought back."""
+    survey, beside = Survey({}, {}, set(), {}), externals(folder)
+    for place in sorted(found):
+        names = [place.name, *sorted(beside[place])]
         try:
-            with opened(os.path.join(folder, place.name)) as file:
-                region = Region(folder, place, file)
-                indices = [index for index in range(1024) if region.locations[index]]
-                check_chunks(region, indices)
-                payloads = sampled(region, indices[::max(1, len(indices) // max(LEAST, SAMPLES // len(found)))])
-                marks.update(map(mark_of, payloads))
-        except (OSError, Refused) as why:
-            raise Problem("%s: %s; nothing is done" % (place.name, getattr(why, "strerror", None) or why)) from why
-        sizes[place] = size_of(len(indices), payloads)
-    return Survey(files, sizes, marks)
+            if max(map(abs, place)) > MOST_PLACE:
+                raise Refused("%s is farther out than the program goes" % place.name)
+            files = {} if is_read_alone else {name: replaceable(folder, name) for name in names}
+            size, marks = looked_at(folder, place, len(found), is_read_alone)
+        except (OSError, Unread) as why:
+            survey.bad[place] = "%s: %s" % (place.name, getattr(why, "strerror", None) or why)
+        except Refused as why:
+            survey.bad[place] = str(why) if str(why).startswith(tuple(names)) else "%s: %s" % (place.name, why)
+        else:
+            survey.files.update(files)
+            survey.sizes[place] = size
+            survey.marks.update(marks)
+    return survey
+
+
+def looked_at(folder, place, count, is_read_alone):
+    """The size of a region that is one of so many, and what some of its chunks say."""
+    with opened(os.path.join(folder, place.name)) as file:
+        region = Region(folder, place, file)
+        indices = [index for index in range(1024) if region.locations[index]]
+        if not is_read_alone:
+            check_chunks(region, indices)
+        payloads = sampled(region, indices[::max(1, len(indices) // max(LEAST, SAMPLES // count))])
+    return size_of(len(indices), payloads), set(map(mark_of, payloads))
 
 
 def size_of(count, payloads):
@@ -272,12 +244,16 @@ def size_of(count, payloads):
     return Size(count, HEADER + count * (mean // SECTOR + 1) * SECTOR)
 
 
-def plain_file(folder, name):
-    status = os.lstat(os.path.join(folder, name))
+def replaceable(folder, name):
+    """The status of a file in whose place another can come."""
+    path = os.path.join(folder, name)
+    status = os.lstat(path)
     if stat.S_ISLNK(status.st_mode):
-        raise Problem("%s is a symbolic link, in whose place a file would come; nothing is done" % name)
+        raise Refused("%s is a symbolic link, in whose place a file would come" % name)
     if not stat.S_ISREG(status.st_mode):
-        raise Problem("%s is no file; nothing is done" % name)
+        raise Refused("%s is no file" % name)
+    if is_fixed(path):
+        raise Refused("%s can't be replaced, since it has the attribute i or a (chattr)" % name)
     return status
 
 
@@ -287,9 +263,6 @@ def check_folder(folder, files):
     is_sticky = status.st_mode & stat.S_ISVTX and user not in (0, status.st_uid)
     if not os.access(folder, os.W_OK | os.X_OK) or is_sticky and any(file.st_uid != user for file in files.values()):
         raise Problem("%s: its files can't be replaced by this user; nothing is done" % folder)
-    for name in files:
-        if is_fixed(os.path.join(folder, name)):
-            raise Problem("%s can't be replaced, since it has the attribute i or a (chattr); nothing is done" % name)
 
 
 # FS_IOC_GETFLAGS, and FS_IMMUTABLE_FL and FS_APPEND_FL.

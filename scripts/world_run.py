@@ -1,184 +1,41 @@
-#!/usr/bin/env python3
-"""Runs the program over a world as the game keeps it, in place.
-
-    anvilwater-world WORLD [--edits FILE] [--ticks N] [--table FILE] [--workers N] [--backup FOLDER] [--explain]
-
-WORLD is a world's folder or a dimension's (world, world/DIM-1), whose folder `region` is taken, or a folder of region files
-r.X.Z.mca itself. Its chunks may have any compression. The game must not have the world open, and can't open it meanwhile.
-
-The region files are made plain in a working folder beside them, the program sets the edits, runs the ticks and lights all chunks, and
-what it wrote is packed as it was before. Then each file that changed takes the place of the old one by a rename; the old files come
-to the folder of --backup, by default one beside the region files that is named with date and time. To go back, move them back.
-
-A world that is only lit, and that two thirds of the free memory don't hold, or that has more than 1,024 files, is lit in pieces, to the
-same light; one in which edits are set or ticks run is refused where there is not half of the memory that it takes. --memory names how
-much the program may take; one region it always takes.
-
-A chunk that can't be read, or is too large for the program, is named, counts as not loaded, and comes back as it was; a file that
-can't be taken there and back ends the call, and the world is as it was. A call that was interrupted while files took their places is
-finished by the next one, which then does nothing else, and keeps the old files beside the region files unless it names the same
---backup. Status 0: all was done; 1: something was wrong, and a line says what; 2: other words are needed; another: that of the program
-where it refuses, 128 and the signal's number after INT, TERM or HUP.
-"""
-import argparse
+"""Edits, ticks and light over a world in place: light and run of anvilwater-world, and each call without a verb."""
 import contextlib
 import os
+import re
 import shutil
-import signal
-import sys
+import subprocess
 import time
 
-sys.dont_write_bytecode = True
+import world_edits
 import world_pieces
 import world_tables
-import worlds
-from stops import STOPS, held
-from world_exchange import Exchange, check_near, left_behind, working_folder
-from world_places import MIB, Problem, Stuck, check_held, find_world, hold_region, hold_session, surveyed
-from world_program import Program, Refused
+from region_files import REGION_NAME, Place, places
+from stops import ignore_stops, unstopped_behind
+from world_exchange import Exchange, check_near, left_behind, unguard, working_folder
+from world_faults import DONE, PARTLY, Problem
+from world_places import MIB, check_folder, check_held, hold_region, hold_session, surveyed
+from world_program import CAUSES, Program, Refused, TooLarge
+from world_steps import NO_ROW, Bad, converted, faults_of, leave_out, made, packed_words, plain_words, states_of, unread_of
+from world_telling import Progress, complain
 
-TOP = os.path.dirname(os.path.dirname(os.path.abspath(__file__)))
-
-
-class Stopped(BaseException):
-    """A signal asks for an end."""
-
-
-# ---------------------------------------------------------------- words
-
-
-def number(least, most):
-    def read(text):
-        if not text.isdecimal() or not least <= int(text) <= most:
-            raise argparse.ArgumentTypeError("%r is no number from %d to %d" % (text, least, most))
-        return int(text)
-    return read
-
-
-def words_read(given):
-    parser = argparse.ArgumentParser(prog="anvilwater-world", description=__doc__, allow_abbrev=False,
-                                     formatter_class=argparse.RawDescriptionHelpFormatter)
-    parser.add_argument("world", metavar="WORLD", help="the folder of a world, of a dimension, or of region files")
-    parser.add_argument("--edits", metavar="FILE", help="blocks to be set, each in a tick of the run (docs/FORMATS.md)")
-    parser.add_argument("--ticks", metavar="N", type=number(0, 1_000_000), help="ticks to be run; 0 without --edits")
-    parser.add_argument("--table", metavar="FILE",
-                        help="the block table; without it that of tables/ for the version of the game that wrote the world, and a world is "
-                             "refused that has a block which it lacks")
-    parser.add_argument("--workers", metavar="N", type=number(1, 8), default=min(8, worlds.processors()),
-                        help="threads that turn ticks, 1 to 8; without it as many as there are processors")
-    parser.add_argument("--memory", metavar="MIB", type=number(1, 1 << 24),
-                        help="memory that the program may take, in MiB, though one region it always takes; without it what is free")
-    parser.add_argument("--backup", metavar="FOLDER", help="a new folder for the old files")
-    parser.add_argument("--program", metavar="FILE", default=os.path.join(TOP, "anvilwater"), help="another program than ./anvilwater")
-    parser.add_argument("--progress", action="store_true", help="says how far it is on standard error, as it does on a terminal")
-    parser.add_argument("--explain", action="store_true",
-                        help="says behind a fault of the program where it is and what can be done, as it does on a terminal")
-    words = parser.parse_args(given)
-    if words.edits is not None and words.ticks is None:
-        parser.error("--edits needs --ticks N, since each edit is set in one of the run's ticks")
-    return words
-
-
-# ---------------------------------------------------------------- what is told
-
-
-def say(line):
-    """Tells a result. It is written at once, so that a device that fails is noticed."""
-    try:
-        os.write(1, os.fsencode(line + "\n"))
-    except OSError as why:
-        raise Problem("standard output: %s" % why.strerror) from why
-
-
-def note(line):
-    clear = "\r\033[K" if os.isatty(2) else ""
-    with contextlib.suppress(OSError):
-        os.write(2, os.fsencode(clear + line + "\n"))
-
-
-def complain(line):
-    note("anvilwater-world: " + line)
-
-
-class Progress:
-    """Tells which step is done, how many of its files are, and about how long it still takes."""
-
-    def __init__(self, shown):
-        self.terminal = os.isatty(2)
-        self.shown = shown or self.terminal
-        self.name, self.total, self.files, self.start = "", 0, 0, 0.0
-
-    def begin(self, name, total=0):
-        self.name, self.total, self.files, self.start = name, total, 0, time.monotonic()
-        self.show("%s: begins" % name, not total)
-
-    def step(self, lines):
-        """One file more is done, with what is to be told of it."""
-        self.files += 1
-        for line in lines:
-            note(line)
-        rest = (time.monotonic() - self.start) / self.files * (self.total - self.files)
-        self.show("%s: %d of %d files, about %.0f s left" % (self.name, self.files, self.total, rest))
-
-    def end(self):
-        self.show("%s: done in %.0f s" % (self.name, time.monotonic() - self.start), True)
-
-    def show(self, text, stays=False):
-        """On a terminal what stays not is written over."""
-        if self.shown and self.terminal and not stays:
-            with contextlib.suppress(OSError):
-                os.write(2, ("\r\033[K" + text).encode())
-        elif self.shown:
-            note(text)
-
-
-# ---------------------------------------------------------------- signals
-
-
-def heed_stops():
-    """INT, TERM and HUP raise Stopped, once, but for those that are ignored already."""
-    def stop(which, _):
-        ignore_stops()
-        raise Stopped(which)
-    for which in STOPS:
-        if signal.getsignal(which) is not signal.SIG_IGN:
-            signal.signal(which, stop)
-
-
-def ignore_stops():
-    """One that came before this raises Stopped here."""
-    with held():
-        for which in STOPS:
-            signal.signal(which, signal.SIG_IGN)
-
-
-@contextlib.contextmanager
-def unstopped_behind():
-    """What is cleared away behind this is not stopped."""
-    try:
-        yield
-    finally:
-        ignore_stops()
-
-
-# ---------------------------------------------------------------- the call
+STAYS = "; it stays as it was, not lit"
 
 
 class Call:
-    """A call of the command."""
+    """A call of the command over a folder of region files."""
 
-    def __init__(self, words):
-        self.words, self.progress, self.world, self.wrong, self.part = words, Progress(words.progress), None, False, ""
+    def __init__(self, words, world, teller, locks=()):
+        self.words, self.world, self.teller, self.progress = words, world, teller, Progress(words.progress)
+        self.locks, self.partly, self.part = locks, False, ""
 
     def run(self, stack):
         """Does what the words say, under the locks, and answers the status."""
-        self.world = find_world(self.words.world)
         hold_region(self.world, stack)
         self.locks = [hold_session(top, stack) for top in self.world.tops]
-        say("folder %s" % self.world.region)
+        self.teller.tell("folder %s" % self.world.region, kind="folder", folder=self.world.region)
         if not self.finish_left():
             self.work()
-        return 1 if self.wrong else 0
+        return PARTLY if self.partly else DONE
 
     def finish_left(self):
         """Finishes exchanges that calls before left behind, and answers whether there were any. What else they left goes."""
@@ -187,16 +44,19 @@ class Call:
             exchange = Exchange(self.world, path)
             if os.path.lexists(exchange.journal):
                 ignore_stops()
-                self.exchange(exchange, ["finished a call that was interrupted; nothing else was done"])
+                self.exchange(exchange, "finished a call that was interrupted; nothing else was done", finished=True)
                 finished = True
             else:
                 shutil.rmtree(path)
                 complain("%s, which a call that was interrupted left behind, is taken away" % path)
+        unguard(self.world.region)
         return finished
 
     def work(self):
-        region = self.world.region
-        survey, backup = surveyed(region), self.backup()
+        region, backup = self.world.region, self.backup()
+        survey = surveyed(region, self.wanted())
+        self.leave_files(survey)
+        check_folder(region, survey.files)
         pieces = self.divided(survey)
         self.check_room(survey, pieces, backup)
         with working_folder(self.world) as work, unstopped_behind():
@@ -204,36 +64,51 @@ class Call:
             program, exchange = self.program(work, survey), Exchange(self.world, work)
             os.mkdir(exchange.packed)
             told, stored = self.work_pieces(program, pieces, work, exchange.packed)
-            content = exchange.prepare(survey.files, stored, backup)
-            if content is None:
-                say("%s\nnothing changed" % told)
-                return
-            ignore_stops()
-            check_held(self.locks)
-            exchange.write_journal(content)
-            self.exchange(exchange, [told])
-            if exchange.foreign:
-                complain("the owners of %d files could not be kept" % exchange.foreign)
+            self.exchange_files(exchange, survey.files, exchange.changes(survey.files, stored), backup, told)
+
+    def exchange_files(self, exchange, files, changes, backup, told):
+        """Lets new files take the places of these, by the changes that are found, and tells of it."""
+        content = exchange.prepare(files, *changes, backup)
+        if content is None:
+            self.teller.tell("%s\nnothing changed" % told, kind="result", finished=False, **counts_of(told), replaced=0, added=0, removed=0,
+                             before=None)
+            return
+        ignore_stops()
+        check_held(self.locks)
+        exchange.write_journal(content)
+        self.exchange(exchange, told, finished=False)
+        if exchange.foreign:
+            complain("the owners of %d files could not be kept" % exchange.foreign)
+
+    # ------------------------------------------------------------ what is worked on
+
+    def wanted(self):
+        """The region files but for those that are to be skipped."""
+        found = places(self.world.region)
+        for name in self.words.skip:
+            match = REGION_NAME.fullmatch(name)
+            if match is None or Place(int(match[2]), int(match[1])) not in found:
+                raise Problem("%s is no region file of %s; nothing is done" % (name, self.world.region))
+            found.discard(Place(int(match[2]), int(match[1])))
+            complain("%s is left as it is" % name)
+            self.partly = True
+        return found
+
+    def leave_files(self, survey):
+        """Refuses files that can't be taken there and back, and names all; or leaves them as they are."""
+        for place, cause in sorted(survey.bad.items()) if self.words.skip_bad or len(survey.bad) > 1 else ():
+            self.tell_bad(Bad(place, None, None, None, cause), STAYS if self.words.skip_bad else "")
+        if survey.bad and not self.words.skip_bad:
+            few = next(iter(survey.bad.values())) if len(survey.bad) == 1 else "%d region files can't be taken there and back" % len(survey.bad)
+            raise Problem(few + "; --skip-bad leaves %s; nothing is done" % ("it as it is" if len(survey.bad) == 1 else "them as they are"))
+        if not survey.sizes:
+            raise Problem("%s has no other region files; nothing is done" % self.world.region)
+        self.partly |= bool(survey.bad)
 
     def divided(self, survey):
         """The pieces in which the world is worked on."""
         is_lit_alone = not self.words.ticks and self.words.edits is None
         return world_pieces.divided(survey.sizes, self.words.memory and self.words.memory * MIB, is_lit_alone)
-
-    def work_pieces(self, program, pieces, work, packed):
-        """Works on each piece, and answers what is told of all and the regions whose chunks are all as they were stored."""
-        plain, out, stored = os.path.join(work, "plain"), os.path.join(work, "out"), []
-        for number, piece in enumerate(pieces, 1):
-            self.part = "piece %d of %d, " % (number, len(pieces)) if len(pieces) > 1 else ""
-            os.mkdir(plain)
-            self.convert("plain", self.world.region, plain, piece)
-            printed = self.run_program(program, plain, out)
-            shutil.rmtree(plain)
-            stored += self.convert("packed", out, packed, piece._replace(beside={}), self.world.region)
-            shutil.rmtree(out)
-        if len(pieces) > 1:
-            printed = "regions %d pieces %d" % (sum(len(piece.own) for piece in pieces), len(pieces))
-        return printed, stored
 
     def backup(self):
         """The folder for the old files, by its name beside the region files or by its path."""
@@ -257,100 +132,186 @@ class Call:
         if os.stat(parent).st_dev != os.stat(beside).st_dev:
             needed[beside] = survey.stored
         for folder, size in needed.items():
-            status = os.statvfs(folder)
-            free = status.f_bavail * status.f_frsize
-            if free < size // 2:
-                raise Problem("%s has room for %d MiB, and about %d MiB are needed; nothing is done" % (folder, free // MIB, size // MIB))
-
-    # ------------------------------------------------------------ steps
-
-    def convert(self, way, source, target, piece, like=None):
-        """Makes the files of a piece plain, or packs them, and answers the regions whose chunks are all as they were stored. A file that
-        can't be made ends the call. What is wrong with a chunk is told where its region is one of the piece's own."""
-        found, stored = {*piece.own, *piece.beside}, []
-        self.progress.begin("%s%s, step %d of 3" % (self.part, way, 3 if like else 1), len(found))
-        words = argparse.Namespace(way=way, source=source, target=target, like=like, picked=piece.beside)
-        with contextlib.closing(worlds.reports(words, found)) as reports:
-            for report in reports:
-                made, is_own = report.counts["regions"], report.place not in piece.beside
-                self.progress.step(report.lines[:None if made else -1] if is_own else [])
-                if not made:
-                    raise Problem(report.lines[-1])
-                self.wrong |= report.wrong and is_own
-                if report.counts["kept"] == report.counts["chunks"]:
-                    stored.append(report.place)
-        self.progress.end()
-        return stored
+            check_free(folder, size)
 
     def program(self, work, survey):
-        """The program with its table and edits, which are copied, since a pipe can be read once. It is run over a file without chunks, so
-        that it is built, and tells of a table that it refuses, before the work."""
-        table = world_tables.named(self.words.table, survey.marks) if self.words.table else world_tables.of_world(survey.marks)
+        """The program with its table and edits. It is run over a file without chunks, so that it is built, and tells of a table that it refuses,
+        before the work."""
+        table = world_tables.of_call(self.words.table, survey.marks)
         if table.name:
-            say("table %s (another by --table, which need not have all blocks)" % table.name)
+            self.teller.tell("table %s (another by --table, which need not have all blocks)" % table.name, kind="table", table=table.name)
+        program = Program(self.words, work, table, self.edits(table, survey))
         nothing = os.path.join(work, "nothing")
         os.mkdir(nothing)
         open(os.path.join(nothing, "r.0.0.mca"), "xb").close()
-        program = Program(self.words, work, table)
         program.run(nothing, nothing, os.devnull, 0)
         return program
 
-    def run_program(self, program, source, target):
-        os.mkdir(target)
-        self.progress.begin("%srun, step 2 of 3" % self.part)
-        printed = program.run(source, target, program.edits, self.words.ticks or 0)
-        self.progress.end()
-        return printed
+    def edits(self, table, survey):
+        """The text of the edits, whose states are known."""
+        text = world_edits.text_of(self.words.edits)
+        if not self.words.allow_unknown:
+            world_edits.check_states([*world_edits.edits_of(text)], world_edits.Known(table, survey.marks), self.edits_name(), complain)
+        return text
 
-    def exchange(self, exchange, lines):
+    def edits_name(self):
+        return "standard input" if self.words.edits == "-" else self.words.edits
+
+    # ------------------------------------------------------------ steps
+
+    def work_pieces(self, program, pieces, work, packed):
+        """Works on each piece, and answers what is told of all and the regions whose chunks are all as they were stored."""
+        plain, out, stored = os.path.join(work, "plain"), os.path.join(work, "out"), []
+        for number, piece in enumerate(pieces, 1):
+            self.part = "piece %d of %d, " % (number, len(pieces)) if len(pieces) > 1 else ""
+            self.make_plain(piece, plain)
+            if self.words.skip_bad:
+                self.leave_chunks(program, plain, piece)
+            self.leave_edits(program, plain)
+            try:
+                printed = self.run_program(program, plain, out)
+            except Refused:
+                self.name_causes(program, plain, pieces[number - 1:])
+                raise
+            shutil.rmtree(plain)
+            stored += self.pack(piece, out, packed)
+            shutil.rmtree(out)
+        if len(pieces) > 1:
+            printed = "regions %d pieces %d" % (sum(len(piece.own) for piece in pieces), len(pieces))
+        return printed, stored
+
+    def make_plain(self, piece, plain, is_told=True):
+        """Makes the files of a piece plain. A file that can't be made ends the call. Chunks that are left out are told where their region is one of the
+        piece's own."""
+        os.mkdir(plain)
+        found = {*piece.own, *piece.beside}
+        for report in converted(plain_words(self.world.region, plain, piece.beside), found, self.progress, self.part + "plain, step 1 of 3"):
+            if report.place not in piece.beside and is_told:
+                for bad in unread_of(made(report)):
+                    self.tell_bad(bad, STAYS)
+                    self.partly = True
+            made(report)
+            self.progress.step()
+
+    def pack(self, piece, out, packed):
+        """Packs the files of a piece, and answers the regions whose chunks are all as they were stored."""
+        stored = []
+        for report in converted(packed_words(out, packed, self.world.region), {*piece.own}, self.progress, self.part + "packed, step 3 of 3"):
+            for line in made(report).lines:
+                complain(line)
+            self.partly |= report.wrong
+            if report.counts["kept"] == report.counts["chunks"]:
+                stored.append(report.place)
+            self.progress.step()
+        return stored
+
+    def run_program(self, program, source, target):
+        """Runs a piece. A chunk that light makes too large is left as it is, where the words say so, and the piece is run without it."""
+        self.progress.begin("%srun, step 2 of 3" % self.part)
+        streams = {"stderr": subprocess.PIPE} if self.words.skip_bad else {}
+        while True:
+            os.mkdir(target)
+            try:
+                printed = program.run(source, target, program.edits_given(), self.words.ticks or 0, **streams)
+            except TooLarge as why:
+                x, z = why.args
+                bad = Bad(Place(z >> 5, x >> 5), x % 32 + 32 * (z % 32), 24, "ChunkTooLarge", CAUSES[24])
+                leave_out(source, [bad])
+                shutil.rmtree(target)
+                self.tell_bad(bad, STAYS)
+                self.partly = True
+            else:
+                self.progress.end()
+                return printed
+
+    # ------------------------------------------------------------ bad chunks, and edits outside
+
+    def tell_bad(self, bad, ending=""):
+        """Tells of a chunk or file that is left as it is, or else, by its path, why the call ends."""
+        self.teller.complain(bad.text(ending, "" if ending else self.world.region), **bad.fields(self.world.region, "bad"))
+
+    def leave_chunks(self, program, plain, piece):
+        """Takes the chunks that have a fault out of a piece."""
+        bad = faults_of(program, plain)
+        leave_out(plain, bad)
+        for chunk in bad:
+            if chunk.place not in piece.beside:
+                self.tell_bad(chunk, STAYS)
+                self.partly = True
+
+    def name_causes(self, program, plain, pieces):
+        """Names all that the program can have refused a piece for, of which it names the first."""
+        if program.strict and not faults_of(program, plain):
+            self.name_states(program, plain)
+        self.name_all(program, plain, pieces)
+
+    def name_states(self, program, plain):
+        """Names the states that the table of the game's version doesn't know, with rows for them."""
+        found = [(count, state) for count, state, row in states_of(program, plain) if row == NO_ROW]
+        for count, state in found[:world_edits.NAMED]:
+            complain("%d blocks are %s, which has no row" % (count, state))
+        if found:
+            lines = [world_tables.row_for(name) for name in sorted({state.partition("[")[0] for _, state in found})]
+            complain("rows for them, which stop all light until they are changed, are\n" + "\n".join(lines[:world_edits.NAMED]))
+            raise Problem("%d states of the world have no row in tables/%s; name a copy of it that has rows for them by --table; nothing is done" % (
+                len(found), program.table_name))
+
+    def name_all(self, program, plain, pieces):
+        """Names all chunks that have a fault, of this piece and of those that follow, where the program refused the first of them."""
+        found = []
+        for piece in pieces:
+            if not os.path.exists(plain):
+                self.make_plain(piece, plain, is_told=False)
+            found += [bad for bad in faults_of(program, plain) if bad.place not in piece.beside]
+            shutil.rmtree(plain)
+        for bad in found:
+            self.tell_bad(bad)
+        if found:
+            raise Problem("%d chunks have a fault; --skip-bad leaves them as they are; nothing is done" % len(found))
+
+    def leave_edits(self, program, plain):
+        """Refuses edits outside the chunks that are loaded, or leaves them out."""
+        with open(program.edits, "rb") as file:
+            text = file.read()
+        edits = [*world_edits.edits_of(text)]
+        found = world_edits.outside(edits, plain, program.heights)
+        world_edits.check_places(found, len(edits), self.edits_name(), self.words.skip_outside, complain)
+        if found:
+            with open(program.edits, "wb") as file:
+                file.write(world_edits.without(text, [edit.line for edit in found]))
+
+    # ------------------------------------------------------------ the end
+
+    def exchange(self, exchange, told, finished):
         """Lets the new files take their places. What is told is told before the journal goes: so a call that told nothing is finished by
         the next one, and no call does its work twice."""
-        content = exchange.place()
+        content = exchange.place(lambda: check_held(self.locks))
         target = exchange.deliver(content["backup"], self.words.backup and os.path.abspath(self.words.backup))
         exchange.clear()
         replaced = sum(before is not None for _, before in content["new"])
-        lines.append("replaced %d added %d removed %d" % (replaced, len(content["new"]) - replaced, len(content["gone"])))
-        say("\n".join([*lines, "before %s" % target]))
+        added, removed = len(content["new"]) - replaced, len(content["gone"])
+        self.teller.tell("%s\nreplaced %d added %d removed %d\nbefore %s" % (told, replaced, added, removed, target), kind="result", finished=finished,
+                         **counts_of(told), replaced=replaced, added=added, removed=removed, before=target)
+        if not os.path.lexists(target):
+            complain("%s, which had the old files, is not there any more" % target)
         exchange.forget()
+
+
+def counts_of(told):
+    """The counts of a line, by the words before them."""
+    return {name: int(count) for name, count in re.findall("([a-z]+) ([0-9]+)", told)}
+
+
+def check_free(folder, size):
+    """Refuses a file system that has not half of this room."""
+    status = os.statvfs(folder)
+    free = status.f_bavail * status.f_frsize
+    if free < size // 2:
+        raise Problem("%s has room for %d MiB, and about %d MiB are needed; nothing is done" % (folder, free // MIB, size // MIB))
 
 
 def is_unfinished(world):
     """Whether the next call has something to finish."""
     with contextlib.suppress(OSError, Problem):
-        return world is not None and any(os.path.lexists(Exchange(world, path).journal) for path in left_behind(world))
+        return any(os.path.lexists(Exchange(world, path).journal) for path in left_behind(world))
     return False
-
-
-def streams_opened():
-    """Standard streams that are closed lead nowhere from now on: else a file that is opened would take the number of one, and what is
-    told would be written into it."""
-    while (descriptor := os.open(os.devnull, os.O_RDWR)) <= 2:
-        os.set_inheritable(descriptor, True)
-    os.close(descriptor)
-
-
-def main(given=None):
-    streams_opened()
-    call, status = Call(words_read(given)), 1
-    try:
-        heed_stops()
-        with contextlib.ExitStack() as stack, unstopped_behind():
-            return call.run(stack)
-    except Refused as why:
-        return why.args[0]
-    except Stuck as why:
-        complain(str(why))
-        return status
-    except Problem as why:
-        line = str(why)
-    except OSError as why:
-        line = ": ".join(filter(None, (os.fsdecode(why.filename or ""), why.strerror or str(why))))
-    except Stopped as why:
-        line, status = "interrupted", 128 + why.args[0]
-    more = "; call again, which finishes what was begun" if is_unfinished(call.world) else ""
-    complain(line + more)
-    return status
-
-
-if __name__ == "__main__":
-    sys.exit(main())

@@ -1,9 +1,10 @@
 """The block table of a call: the one that it names, or that of the game's version and dimension, by what some chunks of the world say."""
+import codecs
 import os
 import re
 import typing
 
-from world_places import Problem
+from world_faults import Problem
 
 TABLES = os.path.join(os.path.dirname(os.path.dirname(os.path.abspath(__file__))), "tables")
 SHORT = "blocks.toml"
@@ -13,6 +14,7 @@ VERSIONS = (3953, "java-1.21.toml"), (3698, "java-1.20.3.toml"), (3463, "java-1.
 SECTIONS = {-4: 24, 0: 16}
 HEIGHT = b"min_section = %d\nsections = %d\n"
 ROW, LEFT_OUT = (re.compile(pattern, re.MULTILINE) for pattern in (rb'^  {name = "([^"]+)".*},$', rb"^#   (minecraft:[a-z_]+) "))
+ANY_ROW = re.compile(rb'^  {name = "([^"]+)"', re.MULTILINE)
 ADVICE = "name a table of its height by --table, which docs/FORMATS.md says how to make; nothing is done"
 # What the program takes a block for that has no row.
 SHUT = b'  {name = "%s", open = false, floor = true, opacity = 15, emission = 0},'
@@ -27,9 +29,10 @@ class Table(typing.NamedTuple):
 
 
 def named(path, marks):
-    """The table that a call names, which has to have the world's lowest section."""
+    """The table that a call names, which has to have the world's lowest section. A byte-order mark is passed over."""
     with open(path, "rb") as file:
         text = file.read()
+    text = text[len(codecs.BOM_UTF8):] if text.startswith(codecs.BOM_UTF8) else text
     lowest = {mark.lowest for mark in marks} - {None}
     if lowest and lowest_of(text) not in lowest:
         refuse(min(lowest), text)
@@ -38,11 +41,10 @@ def named(path, marks):
 
 def of_world(marks):
     """The table of the newest version that chunks of a world say, with the height of their dimension; or the short one, where they say none."""
-    versions = {mark.version for mark in marks} - {None}
-    if not versions:
+    names = names_for(marks)
+    if not names:
         table = named(os.path.join(TABLES, SHORT), marks)
         return table._replace(is_strict=True)
-    names = [name for first, name in VERSIONS if first <= max(versions)] or [VERSIONS[-1][1]]
     text = whole(*names)
     found = {mark.lowest for mark in marks} - {None}
     lowest = min(found, default=-4)
@@ -53,6 +55,21 @@ def of_world(marks):
     if highest > lowest + SECTIONS[lowest]:
         raise Problem("the world has the section %d, which is above the game's own height: %s" % (highest, ADVICE))
     return Table(names[0], text.replace(HEIGHT % (-4, SECTIONS[-4]), HEIGHT % (lowest, SECTIONS[lowest])), True)
+
+
+def of_call(path, marks):
+    return named(path, marks) if path else of_world(marks)
+
+
+def names_for(marks):
+    """The tables of the newest version that chunks of a world say and of those before it; none where they say none."""
+    versions = {mark.version for mark in marks} - {None}
+    return [name for first, name in VERSIONS if first <= max(versions)] or [VERSIONS[-1][1]] if versions else []
+
+
+def game_rows(marks):
+    """The names of the game's blocks in that version, or in the newest one."""
+    return {name.decode() for name in ANY_ROW.findall(whole(*(names_for(marks) or [name for _, name in VERSIONS])))}
 
 
 def whole(newest, *older):
@@ -76,6 +93,16 @@ def read(name):
 def lowest_of(text):
     found = re.search(rb"^[ \t]*min_section[ \t]*=[ \t]*([-+]?[0-9]+)", text, re.MULTILINE)
     return int(found[1]) if found else -4
+
+
+def row_for(name):
+    return (SHUT % os.fsencode(name)).decode()
+
+
+def heights_of(text):
+    """The y of a table's height."""
+    found = re.search(rb"^[ \t]*sections[ \t]*=[ \t]*([-+]?[0-9]+)", text, re.MULTILINE)
+    return range(16 * lowest_of(text), 16 * (lowest_of(text) + (int(found[1]) if found else SECTIONS[-4])))
 
 
 def refuse(lowest, text):

@@ -84,6 +84,10 @@ class Report:
 
     def __init__(self, place):
         self.place, self.lines, self.counts, self.wrong = place, [], collections.Counter(), False
+        # The indices of chunks that are left out, and why.
+        self.unread = []
+        # Why the file is not made.
+        self.cause = None
 
     def file(self, why):
         self.lines.append("%s: %s" % (self.place.name, why))
@@ -97,6 +101,7 @@ class Report:
         """A chunk that is only too large is nothing wrong."""
         self.chunk(index, "%s; it is left out" % why, not isinstance(why, TooLarge))
         self.counts["left out"] += 1
+        self.unread.append((index, why))
 
 
 def cause(why):
@@ -126,7 +131,8 @@ class Work:
                 self.write(region, self.former(place, stack), report)
         except (OSError, Refused) as why:
             report = Report(place)
-            report.file("%s; nothing is written for it" % cause(why))
+            report.cause = cause(why)
+            report.file("%s; nothing is written for it" % report.cause)
         return report
 
     def former(self, place, stack):
