@@ -59,6 +59,10 @@ def entries(count, due):
     return one_region(files.entries_in_chunks(files.spread(files.blocks_of(0, 0), count), due))
 
 
+def timed(entries):
+    return one_region(files.entries_at(entries))
+
+
 def apart(count):
     """So many chunks with an entry each, one due in each tick."""
     positions = [(16 * (place % 32) + 8, 64, 16 * (place // 32) + 8) for place in range(count)]
@@ -87,6 +91,11 @@ def cases():
     yield "entries that are due at once", 2000, lambda n: (entries(n, lambda number: 1), "", run(1))
     yield "entries, one due in each of as many ticks", 1000, lambda n: (entries(n, lambda number: 1 + number), "", run(n))
     yield "chunks, an entry of one due in each tick", 128, lambda n: (apart(n), "", run(n))
+    far = (0, 0), (28, 31)
+    four = *far, (0, 31), (28, 0)
+    yield "entries by turns in two chunks, four workers", 2000, lambda n: (timed(files.taking_turns(far, n)), "", run(1, 4))
+    yield "entries, 20 by turns in four chunks, four workers", 8000, lambda n: (timed(files.taking_turns(four, n, 20)), "", run(1, 4))
+    yield "entries at drawn times in nine chunks, four workers", 300, lambda n: (timed(files.random_times(files.square(3), n)), "", run(1, 4))
     yield "edits of one tick", 2000, lambda n: (one_chunk, edits(n, lambda number: 1), run(1))
     yield "edits, one in each of as many ticks", 2000, lambda n: (one_chunk, edits(n, lambda number: 1 + number), run(n))
     yield "ticks in which nothing is to be done", 20000, lambda n: (one_chunk, "", run(n))
@@ -124,7 +133,7 @@ def main():
             given, text, words = make(count)
             counts.append([found - base for found, base in zip(steps(program, given, text, words), empty[words[0]])])
         (one, low), (two, high) = counts
-        print("%-42s %6d %6d  steps %12d %12d  power %s  memory %6.1f %6.1f MB  power %s" % (
+        print("%-52s %6d %6d  steps %12d %12d  power %s  memory %6.1f %6.1f MB  power %s" % (
             name, size, 2 * size, one, two, power(one, two), low / 1e6, high / 1e6, power(low, high)), flush=True)
 
 

@@ -1,11 +1,13 @@
 #!/usr/bin/env python3
-"""Times the built program over files whose keys were chosen to be looked up slowly, and over ordinary files of the same size.
+"""Times the built program over files whose keys were chosen to be looked up slowly, and over ordinary files of the same size; and over
+files whose ticks can be shared out badly, with some numbers of workers.
 
     bench/hostile.py PROGRAM [TIMES]    PROGRAM as crates/av_main/out/av_main; each is asked TIMES times, 5 by default, by turns, and
                                         the best counts
 
-It ends with status 1 where a chosen file takes three times as long as the ordinary one, or where one of 1 MB takes a second. Each run
-also compares what the two print.
+It ends with status 1 where a chosen file takes three times as long as the ordinary one, or where one of 1 MB takes a second, or where
+several workers take 1.2 times as long as one, or 1.2 times its time of processors on a file that is shared out badly (1.3 on a flood).
+Each run also compares what the two print.
 """
 import os
 import subprocess
@@ -20,6 +22,8 @@ import hostile_files as files
 
 TABLE = os.path.join(TOP, "tables/blocks.toml")
 RATIO, SECONDS, MEGABYTE = 3.0, 1.0, 1_100_000
+WORKERS = (1, 2, 4, 8)
+SHARED = 1.2
 BUCKETS = 1 << 15
 
 CHECK = ["check", "--table", TABLE, "--in", "in"]
@@ -56,21 +60,38 @@ def cases():
         for chosen in (lambda keys: files.spread(keys, 6_000), lambda keys: files.crowded(keys, 6_000, BUCKETS)))
 
 
+def shared():
+    """A name, the ticks of a run, the maker of a file and of its edits, and how many times one worker's time of processors may be taken."""
+    far = (0, 0), (28, 31)
+    four = *far, (0, 31), (28, 0)
+    yield "30,000 times by turns in two chunks", 1, lambda: (files.entries_at(files.taking_turns(far, 30_000)), ""), SHARED
+    yield "72,000 times by turns at two places", 1, lambda: (files.entries_at(files.taking_turns(far, 72_000)), ""), SHARED
+    yield "72,000 times, 20 by turns at four places", 1, lambda: (files.entries_at(files.taking_turns(four, 72_000, 20)), ""), SHARED
+    yield "72,000 drawn times in nine chunks", 1, lambda: (files.entries_at(files.random_times(files.square(3), 8_000)), ""), SHARED
+    for in_one in (200, 400, 800):
+        yield "%d drawn times in each of 1,024 chunks" % in_one, 1, (
+            lambda in_one=in_one: (files.entries_at(files.random_times(files.square(32), in_one)), "")), SHARED
+    yield "a flood over one chunk", 1_000, lambda: (files.stone_floor(5), files.flood(2, 2, 1_000, 1_000)), 1.3
+
+
 def ask(program, work, words):
-    """What the program answers, and the seconds that it took."""
+    """What the program answers, the seconds that it took, and its seconds of processors."""
     start = time.perf_counter()
-    done = subprocess.run([program, *words], cwd=work, capture_output=True, text=True)
-    return (done.returncode, done.stdout, done.stderr), time.perf_counter() - start
+    process = subprocess.Popen([program, *words], cwd=work, stdout=subprocess.PIPE, stderr=subprocess.STDOUT, text=True)
+    text = process.stdout.read()
+    _, status, usage = os.wait4(process.pid, 0)
+    return (status, text), time.perf_counter() - start, usage.ru_utime + usage.ru_stime
 
 
-def folder(work, name, data):
-    """A folder with the region of some bytes, and an empty text of edits."""
+def folder(work, name, data, edits=""):
+    """A folder with the region of some bytes, and a text of edits."""
     path = os.path.join(work, name)
     for part in ("in", "out"):
         os.makedirs(os.path.join(path, part), exist_ok=True)
     with open(os.path.join(path, "in/r.0.0.mca"), "wb") as file:
         file.write(data)
-    open(os.path.join(path, "edits"), "w").close()
+    with open(os.path.join(path, "edits"), "w") as file:
+        file.write(edits)
     return path
 
 
@@ -82,7 +103,7 @@ def measure(program, times, name, words, makers):
         best, answers = [float("inf")] * 2, set()
         for _ in range(times):
             for index, path in enumerate(folders):
-                answer, seconds = ask(program, path, words)
+                answer, seconds, _ = ask(program, path, words)
                 answers.add(answer)
                 best[index] = min(best[index], seconds)
     ratio = best[1] / best[0]
@@ -92,10 +113,30 @@ def measure(program, times, name, words, makers):
     return is_good
 
 
+def measure_workers(program, times, name, ticks, make, most):
+    """Prints a row, and answers whether several workers take as little as they should, and answer the same."""
+    with tempfile.TemporaryDirectory() as work:
+        data, edits = make()
+        path = folder(work, "shared", data, edits)
+        best, answers = {workers: [float("inf")] * 2 for workers in WORKERS}, set()
+        for _ in range(times):
+            for workers in WORKERS:
+                answer, *taken = ask(program, path, run(ticks, workers))
+                answers.add(answer)
+                best[workers] = list(map(min, best[workers], taken))
+    ratios = [[taken / one for taken, one in zip(best[workers], best[1])] for workers in WORKERS[1:]]
+    is_good = all(passed <= SHARED and used <= most for passed, used in ratios) and len(answers) == 1
+    print("%-46s %5.1f MB  %.3f s, %.3f of processors; with 2, 4, 8 workers %s of it%s" % (
+        name, len(data) / 1e6, *best[1], ", ".join("%.2f, %.2f" % tuple(ratio) for ratio in ratios),
+        "" if is_good else "  TOO SLOW" if len(answers) == 1 else "  OTHER ANSWERS"), flush=True)
+    return is_good
+
+
 def main():
     program = os.path.abspath(sys.argv[1])
     times = int(sys.argv[2]) if len(sys.argv) > 2 else 5
     are_good = [measure(program, times, name, words, makers) for name, words, *makers in cases()]
+    are_good += [measure_workers(program, times, *case) for case in shared()]
     sys.exit(not all(are_good))
 
 

@@ -1,5 +1,6 @@
 #!/usr/bin/env python3
-"""Runs small worlds whose keys were chosen to share a hash, and looks at each block, each scheduled tick and each count.
+"""Runs small worlds whose keys were chosen to share a hash, or whose ticks can be shared out badly, and looks at each block, each
+scheduled tick and each count.
 
     scripts/check_hostile.py PROGRAM        as crates/av_main/out/av_main
 
@@ -64,17 +65,46 @@ def of_sections(ask):
         yield "none is left", [], [entry for at in run.chunks for entry in entries_of(run, at)]
 
 
+def of_times(ask):
+    """Entries of blocks of air, all overdue in an order in which places far apart come by turns, or at drawn times: all leave in the first
+    tick."""
+    far = (0, 0), (28, 31)
+    four = *far, (0, 31), (28, 0)
+    cases = [("600 times by turns", files.taking_turns(far, 600), 2), ("4,000 times, 40 by turns", files.taking_turns(four, 4_000, 40), 4)]
+    cases.append(("900 drawn times in nine chunks", files.random_times(files.square(3), 100), 9))
+    cases.append(("1,024 drawn times in 64 chunks", files.random_times(files.square(8), 16), 64))
+    for name, timed, chunks in cases:
+        for workers in (1, 2, 4, 8):
+            run = ask(files.entries_at(timed), 1, workers)
+            yield "%s, %d workers" % (name, workers), "chunks %d turns %d" % (chunks, len(timed)), run.line
+            yield "none is left", [], [entry for at in run.chunks for entry in entries_of(run, at)]
+
+
+def of_a_flood(ask):
+    """Each block of a chunk's lowest layer of air is a source, and so is each of the layer above, and in the next tick that is air again:
+    what is left is a layer of sources, and water at level 1 around it, whose sources lie beside it. More entries come than one thread is
+    worth."""
+    inside = [(32 + place % 16, 32 + place // 16) for place in range(256)]
+    edits = "".join("1 %d %d %d minecraft:water[level=0]\n" % (x, y, z) for y in (64, 65) for x, z in inside)
+    edits += "".join("2 %d 65 %d minecraft:air\n" % at for at in inside)
+    beside = [(x, z) for edge in range(32, 48) for x, z in ((edge, 31), (edge, 48), (31, edge), (48, edge))]
+    wet = {(x, 64, z): 0 for x, z in inside} | {(x, 64, z): 1 for x, z in beside}
+    for workers in (1, 2, 4, 8):
+        run = ask(files.stone_floor(5), 6, workers, edits)
+        yield "a flood over one chunk, %d workers" % workers, wet, run.wet()
+
+
 def main():
     program = os.path.abspath(sys.argv[1])
 
-    def ask(data, ticks=0, workers=1):
-        run = Run(program, data, "", ticks, workers=workers, table=HEIGHT)
+    def ask(data, ticks=0, workers=1, edits=""):
+        run = Run(program, data, edits, ticks, workers=workers, table=HEIGHT)
         if run.fault:
             sys.exit("a file of chosen keys: %s" % run.fault)
         return run
 
     asked = wrong = 0
-    for examples in (of_names, of_positions, of_sections):
+    for examples in (of_names, of_positions, of_sections, of_times, of_a_flood):
         for name, expected, found in examples(ask):
             asked += 1
             if expected != found:

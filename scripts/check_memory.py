@@ -155,20 +155,20 @@ def main():
             folder = os.path.join(work, name.replace(" ", "_"))
             counts.append(check_run(name, line, Run(program, library, folder, data, edits, workers)))
         world = many_chunks()
-        # three groups, of which the first two share chunks
+        # three groups, of which the first two share chunks, so that two thirds of all turns at most wait for each other
         apart = flat(chunks=((3, 0), (4, 0), (9, 0)))
-        rain = "".join(edit(1, x, 72, z, WATER) for x in (*range(50, 78), *range(146, 158)) for z in range(1, 15))
+        rain = "".join(edit(1, x, 72, z, WATER) for x in (*range(56, 72), *range(146, 158)) for z in range(1, 15))
         for name, line, data, edits, table, refuse, step in (
                 ("many chunks", "chunks 128 turns 64", world.data, world.edits, world.table, "REFUSE", CHUNKS_STEP),
                 ("many chunks and threads", "chunks 128 turns 64", world.data, world.edits, world.table, "REFUSE_START", 1),
-                ("many entries", "chunks 3 turns 560", apart, rain, TABLE, "REFUSE", ENTRIES_STEP)):
+                ("many entries", "chunks 3 turns 392", apart, rain, TABLE, "REFUSE", ENTRIES_STEP)):
             folder = os.path.join(work, name.replace(" ", "_"))
             counts.append(check_run(name, line, Run(program, library, folder, data, edits, 2, table, refuse), step))
         starts = []
         for workers in (1, 2, 3, 4):
             folder = os.path.join(work, "starts_%d" % workers)
             case = Run(program, library, folder, apart, rain, workers, TABLE, "REFUSE_START")
-            counts.append(check_run("many entries and %d workers" % workers, "chunks 3 turns 560", case))
+            counts.append(check_run("many entries and %d workers" % workers, "chunks 3 turns 392", case))
             starts.append(counts[-1][0])
         if starts != [starts[0], starts[0] + 1, starts[0] + 2, starts[0] + 2]:
             # one question more, answered wrong

@@ -4,7 +4,7 @@ compares what is printed and written.
 
     scripts/check_workers.py PROGRAM        as crates/av_main/out/av_main
 
-A region is some flat chunks, among them gaps, with holes and stones near the ground, into which water, stone and air are put in ticks 1 to 3.
+A region is some flat chunks at three places, with holes and stones near the ground, into which water, stone and air are put in ticks 1 to 3.
 Entries are due in seven of 16 ticks, and together they are so many that one of these has 256 or more, which several workers turn in
 groups.
 """
@@ -18,7 +18,7 @@ from flat_runs import ROWS, WATER, asked, edit, flat
 
 RUNS = 1000
 REGIONS = 10
-EDITS = 700
+EDITS = 1000
 TICKS = 16
 TABLE = "version = 3\nmin_section = 3\nsections = 2\n" + ROWS
 
@@ -28,9 +28,10 @@ MANY = 256
 
 
 def drawn_region(draw):
-    """A region of three rows of some chunks, about one of eight of which is not there, and those that are."""
-    wide = draw.randrange(4, 13)
-    chunks = [(x, z) for z in range(3) for x in range(wide) if draw.randrange(8)]
+    """A region of three places far apart, each of three rows of some chunks, about one of eight of which is not there, and those that are.
+    Groups of one place wait for none of another."""
+    wide = draw.randrange(2, 6)
+    chunks = [(11 * place + x, z) for z in range(3) for place in range(3) for x in range(wide) if draw.randrange(8)]
     ground = [(16 * x + draw.randrange(16), draw.choice((63, 64)), 16 * z + draw.randrange(16)) for x, z in chunks for _ in range(12)]
     blocks = {at: "minecraft:air" if at[1] == 63 else "minecraft:stone" for at in ground}
     return flat(blocks, chunks), chunks

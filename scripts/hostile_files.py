@@ -2,6 +2,7 @@
 
 The hash is that of the kit's maps, which has a fixed seed: it multiplies a name's bytes by eights and joins the halves of the product.
 """
+import random
 import struct
 
 MULTIPLIER = 0x9E3779B97F4A7C15
@@ -9,6 +10,7 @@ SEED = 0x243F6A8885A308D3
 MASK = (1 << 64) - 1
 SECTOR = 4096
 MOST_IN_PALETTE = 4096
+MOST_ENTRIES = 15_000
 HEADER = struct.Struct(">IB")
 
 # The table's height: sections -4 to 19.
@@ -168,6 +170,45 @@ def entries_in_chunks(positions, due, chunks=()):
     for number, (x, y, z) in enumerate(positions):
         by_chunk.setdefault((x >> 4, z >> 4), []).append(entry(x, y, z, due(number)))
     return region({at: chunk(*at, [], entries) for at, entries in by_chunk.items()})
+
+
+def entries_at(timed, chunks=()):
+    """Chunks of air with an entry at each position, due at its time."""
+    positions, times = zip(*timed)
+    return entries_in_chunks(positions, lambda number: times[number], chunks)
+
+
+def taking_turns(places, count, together=1):
+    """So many positions and times, all overdue: the times rise, and the positions lie in some places by turns, so many together. A place
+    is a chunk, and where that has as many as a file can hold, the chunks to its east."""
+    taken = [iter([at for step in range(4) for at in blocks_of(x + step, z)[:MOST_ENTRIES]]) for x, z in places]
+    return [(next(taken[number // together % len(places)]), number - count) for number in range(count)]
+
+
+def random_times(chunks, in_one):
+    """So many positions of each chunk, overdue by times that are drawn."""
+    draw = random.Random("times")
+    positions = [at for x, z in chunks for at in spread(blocks_of(x, z), in_one)]
+    return [(at, -draw.randrange(1, 1 << 30)) for at in positions]
+
+
+def square(side):
+    return [(x, z) for z in range(side) for x in range(side)]
+
+
+def stone_floor(side):
+    """A square of chunks with stone from y 48 to 63, and air elsewhere."""
+    return region({(x, z): chunk(x, z, [section(3, [b"minecraft:stone"], [])]) for x, z in square(side)})
+
+
+def flood(x, z, ticks, in_each):
+    """The text of edits that pour water over a chunk, and take it away, in every tenth tick."""
+    draw, lines = random.Random("flood"), []
+    for tick in range(1, ticks + 1, 10):
+        for _ in range(in_each):
+            at = 16 * x + draw.randrange(16), 64 + draw.randrange(4), 16 * z + draw.randrange(16)
+            lines.append("%d %d %d %d %s\n" % (tick, *at, draw.choice(("minecraft:water[level=0]", "minecraft:air"))))
+    return "".join(lines)
 
 
 def entries_in_sections(sections, side):

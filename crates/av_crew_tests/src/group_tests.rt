@@ -9,16 +9,20 @@ use std::sync::Wait;
 use std::test::Fail;
 use std::thread::Threads;
 
-/// The z of rows of sources, eighty in each, in five chunks by three.
+/// The z of rows of sources, 32 in each, in two chunks by three.
 const ROWS: [i32; 13] = [0, 7, 8, 15, 16, 17, 23, 24, 31, 32, 33, 40, 47];
 
-/// Five chunks by three.
+/// How many sources stand in two chunks by three.
+const IN_ONE: usize = 416;
+
+/// Two chunks by three at each of three places, with six chunks between them. A group of one place waits for none of another.
 fn chunks_of(alloc: Global) -> Result<Vec<ChunkPos>, AllocError> {
     let mut chunks = Vec::new(alloc);
-    for number in 0..15 {
+    for number in 0..18 {
+        let column = number % 6;
         chunks.push(ChunkPos {
-            x: number % 5,
-            z: number / 5,
+            x: 8 * (column / 2) + column % 2,
+            z: number / 6,
         })?;
     }
     Ok(chunks)
@@ -27,14 +31,14 @@ fn chunks_of(alloc: Global) -> Result<Vec<ChunkPos>, AllocError> {
 /// A source waits at each block of the rows. Those of every second column are turned later than the others.
 fn sources_of(alloc: Global, spread: bool) -> Result<Vec<Entry>, AllocError> {
     let mut entries = Vec::new(alloc);
-    for number in 0..1040usize {
-        let x = (number % 80) as i32;
+    for number in 0..3 * IN_ONE {
+        let column = (number % 32) as i32;
         let pos = Pos {
-            x,
+            x: 128 * (number / IN_ONE) as i32 + column,
             y: 64,
-            z: ROWS[number / 80],
+            z: ROWS[number % IN_ONE / 32],
         };
-        let priority = if spread { x % 2 } else { 0 };
+        let priority = if spread { column % 2 } else { 0 };
         entries.push(Entry {
             pos,
             due: 1,
@@ -44,30 +48,45 @@ fn sources_of(alloc: Global, spread: bool) -> Result<Vec<Entry>, AllocError> {
     Ok(entries)
 }
 
-/// How many entries so many ticks take on so many workers, and what stands then.
+/// How many entries so many ticks take on so many workers in these chunks, with a source at the block of each entry, and what stands
+/// then.
 fn after<R: Threads + Wait + Sync + Abort>(
+    rt: &R,
+    alloc: Global,
+    chunks: &[ChunkPos],
+    entries: &[Entry],
+    ticks: u32,
+    workers: u32,
+) -> Result<(u128, Vec<Option<u16>>, Vec<Entry>), Fault> {
+    let mut blocks = Vec::new(alloc);
+    for entry in entries {
+        blocks.push(entry.pos)?;
+    }
+    let world = world_of(alloc, chunks, blocks.as_slice(), entries)?;
+    let (_, kinds) = edits_and_kinds(alloc, 1, &world, "", 0)?;
+    let after = crew_ran(rt, alloc, world, &kinds, &[], ticks, workers, &NoGate)?;
+    let (numbers, waiting) = contents(alloc, &after.world)?;
+    Ok((after.count, numbers, waiting))
+}
+
+/// The same of the sources in rows.
+fn after_rows<R: Threads + Wait + Sync + Abort>(
     rt: &R,
     alloc: Global,
     spread: bool,
     ticks: u32,
     workers: u32,
 ) -> Result<(u128, Vec<Option<u16>>, Vec<Entry>), Fault> {
-    let entries = sources_of(alloc, spread)?;
-    let mut blocks = Vec::new(alloc);
-    for entry in &entries {
-        blocks.push(entry.pos)?;
-    }
     let chunks = chunks_of(alloc)?;
-    let world = world_of(
+    let entries = sources_of(alloc, spread)?;
+    after(
+        rt,
         alloc,
         chunks.as_slice(),
-        blocks.as_slice(),
         entries.as_slice(),
-    )?;
-    let (_, kinds) = edits_and_kinds(alloc, 1, &world, "", 0)?;
-    let after = crew_ran(rt, alloc, world, &kinds, &[], ticks, workers, &NoGate)?;
-    let (numbers, waiting) = contents(alloc, &after.world)?;
-    Ok((after.count, numbers, waiting))
+        ticks,
+        workers,
+    )
 }
 
 /// How many of some numbers are those of water.
@@ -83,11 +102,11 @@ fn wet_of(numbers: &[Option<u16>]) -> usize {
 #[test]
 fn one_tick_of_many_groups(rt: HostRuntime) -> Result<(), Fail> {
     for workers in [1, 2, 3, 5, 8] {
-        let (count, numbers, _) = after(&rt, rt.alloc(), false, 1, workers)?;
-        assert_eq!(rt; count, 1040, "{workers} workers");
+        let (count, numbers, _) = after_rows(&rt, rt.alloc(), false, 1, workers)?;
+        assert_eq!(rt; count, 1248, "{workers} workers");
         assert_eq!(rt;
             wet_of(numbers.as_slice()),
-            1040 + 12 * 80,
+            1248 + 3 * 12 * 32,
             "{workers} workers"
         );
     }
@@ -98,9 +117,9 @@ fn one_tick_of_many_groups(rt: HostRuntime) -> Result<(), Fail> {
 #[test]
 fn groups_leave_what_one_worker_leaves(rt: HostRuntime) -> Result<(), Fail> {
     for spread in [false, true] {
-        let (count, numbers, waiting) = after(&rt, rt.alloc(), spread, 11, 1)?;
+        let (count, numbers, waiting) = after_rows(&rt, rt.alloc(), spread, 11, 1)?;
         for workers in [2, 3, 8] {
-            let (others, left, entries) = after(&rt, rt.alloc(), spread, 11, workers)?;
+            let (others, left, entries) = after_rows(&rt, rt.alloc(), spread, 11, workers)?;
             assert_eq!(rt; others, count, "{workers} workers");
             assert!(rt; left.as_slice() == numbers.as_slice(), "{workers} workers");
             assert!(rt;
@@ -108,6 +127,43 @@ fn groups_leave_what_one_worker_leaves(rt: HostRuntime) -> Result<(), Fail> {
                 "{workers} workers"
             );
         }
+    }
+    Ok(())
+}
+
+/// Ten rows of sources in each of two chunks. They are turned by turns: one of the first chunk, one of the second, and so on.
+fn by_turns(alloc: Global) -> Result<Vec<Entry>, AllocError> {
+    let mut entries = Vec::new(alloc);
+    for number in 0..320 {
+        let place = number / 2;
+        let pos = Pos {
+            x: 160 * (number % 2) + place % 16,
+            y: 64,
+            z: place / 16,
+        };
+        entries.push(Entry {
+            pos,
+            due: 1,
+            priority: number,
+        })?;
+    }
+    Ok(entries)
+}
+
+/// Each source is a group of its own then, and water comes to a row beside in each chunk.
+#[test]
+fn places_that_come_by_turns(rt: HostRuntime) -> Result<(), Fail> {
+    let alloc = rt.alloc();
+    let entries = by_turns(alloc)?;
+    let chunks = [ChunkPos { x: 0, z: 0 }, ChunkPos { x: 10, z: 0 }];
+    for workers in [1, 2, 8] {
+        let (count, numbers, _) = after(&rt, alloc, &chunks, entries.as_slice(), 1, workers)?;
+        assert_eq!(rt; count, 320, "{workers} workers");
+        assert_eq!(rt;
+            wet_of(numbers.as_slice()),
+            320 + 2 * 16,
+            "{workers} workers"
+        );
     }
     Ok(())
 }

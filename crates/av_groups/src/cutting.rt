@@ -14,25 +14,10 @@ ghost use Rattle.av_groups.specs.Parts.{StaysIn};
 use crate::corners::{Reach, chunks_of, reach_of};
 use crate::groups::{Group, Groups, Touch};
 use crate::noting::{Noted, is_noted, none_noted, slot_of};
+use crate::stretches::stretch_end;
 use av_types::{ChunkPos, Entry};
 use av_world::World;
 use std::alloc::{AllocError, Global};
-
-/// Four chunks side by side. Entries of the same tile that come one after the other are a group.
-#[derive(Clone, Copy, PartialEq, Eq)]
-struct Tile {
-    column: i64,
-    row: i32,
-}
-
-/// The tile that a chunk lies in. Each row of tiles is shifted by half a tile against the next. So the entries of a tile share
-/// chunks with those of two tiles of the row beside it, where without the shift there would be three: a group waits for one fewer.
-fn tile_of(chunk: ChunkPos) -> Tile {
-    Tile {
-        column: (chunk.x as i64 + 2 * chunk.z as i64) >> 2,
-        row: chunk.z,
-    }
-}
 
 /// What is known of each chunk.
 #[derive(Drop)]
@@ -146,21 +131,6 @@ fn untouched(alloc: Global, world: &World) -> Result<Vec<usize>, AllocError>
         → AreClosed (land_of world.now) entries 0 [] last.items) }
 {
     Vec::from_elem(alloc, 0, world.positions().len())
-}
-
-/// Where the entries of one tile end that begin at an index.
-fn stretch_end(entries: &[Entry], from: usize) -> usize
-    requires { from < length entries.now }
-    ensures further { from < result }
-    ensures bound { result ≤ length entries.now }
-{
-    let tile = tile_of(entries[from].pos.chunk());
-    for index in from + 1..entries.len() {
-        if tile_of(entries[index].pos.chunk()) != tile {
-            return index;
-        }
-    }
-    entries.len()
 }
 
 /// The open group touches the chunks of the reaches of some entries, where they are there.

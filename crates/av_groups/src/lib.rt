@@ -5,6 +5,7 @@ mod corners;
 pub mod cutting;
 pub mod groups;
 mod noting;
+pub mod stretches;
 
 ghost use Rattle.av_groups.specs.Parts.{TurnsStayInTheirPart};
 

@@ -2,6 +2,7 @@
 //! of those at z 1 it has x -2.
 use crate::groups::groups_of;
 use av_groups::groups::{Group, Groups};
+use av_groups::stretches::stretch_count;
 use av_types::{ChunkPos, Entry, Fault, Height, Pos};
 use av_world_tests::worlds::flat_world;
 use std::alloc::{AllocError, Global};
@@ -247,5 +248,30 @@ fn each_row_has_its_tiles(rt: HostRuntime) -> Result<(), Fail> {
     let column = [ChunkPos { x: 0, z: 0 }, ChunkPos { x: 0, z: 1 }];
     let sizes = sizes_of(rt.alloc(), &column)?;
     assert_eq!(rt; sizes.as_slice(), [1, 1].as_slice());
+    Ok(())
+}
+
+/// How many stretches there are of entries in the middle of each of these chunks.
+fn stretches_of(alloc: Global, chunks: &[ChunkPos]) -> Result<usize, AllocError> {
+    let mut entries = Vec::new(alloc);
+    for chunk in chunks {
+        entries.push(middle(*chunk))?;
+    }
+    Ok(stretch_count(entries.as_slice()))
+}
+
+/// Of no entries there is no stretch. Going back and forth makes three. Of a row from x -1 to 4 the first and the last lie in other
+/// tiles than the four between, at z 0, and so do at z 1 those of x -3 and 2.
+#[test]
+fn stretches_are_counted(rt: HostRuntime) -> Result<(), Fail> {
+    let alloc = rt.alloc();
+    assert_eq!(rt; stretch_count(&[]), 0);
+    assert_eq!(rt; stretch_count(&back_and_forth()), 3);
+    for (z, from, to) in [(0, -1, 4), (1, -3, 2), (-1, 1, 6)] {
+        let row = row_of(alloc, z, from, to)?;
+        assert_eq!(rt; stretches_of(alloc, row.as_slice())?, 3);
+    }
+    let column = [ChunkPos { x: 0, z: 0 }, ChunkPos { x: 0, z: 1 }];
+    assert_eq!(rt; stretches_of(alloc, &column)?, 2);
     Ok(())
 }

@@ -61,13 +61,13 @@ fn is_ready(stages: &[Option<usize>], touch: &Touch) -> bool
     }
 }
 
-/// The index of a chunk that is not yet as a group needs it. None: the group is ready.
+/// The stage of a chunk that is not yet as a group needs it: as the group before leaves it there. None: the group is ready.
 fn blocked(stages: &[Option<usize>], touches: &[Touch]) -> Option<usize>
     ensures { IfNone result (All (IsReadyAt stages.now) touches.now) }
 {
     for touch in touches {
         if !is_ready(stages, touch) {
-            return Some(touch.index);
+            return Some(touch.before);
         }
     }
     None
@@ -84,7 +84,7 @@ fn find(stages: &[Option<usize>], waiting: &mut Waiting, groups: &[Group]) -> Op
             return None;
         }
         match blocked(stages, groups[number].touches.as_slice()) {
-            Some(chunk) => waiting.wait(number, chunk),
+            Some(stage) => waiting.wait(number, stage),
             None => return Some(number),
         }
     }
@@ -109,13 +109,6 @@ fn bring(stages: &mut Vec<Option<usize>>, touches: &[Touch], stage: Option<usize
 {
     for touch in touches {
         bring_one(stages, touch, stage);
-    }
-}
-
-/// The groups that wait for one of these chunks may be ready.
-fn release(waiting: &mut Waiting, touches: &[Touch]) {
-    for touch in touches {
-        waiting.release(touch.index);
     }
 }
 
@@ -167,7 +160,7 @@ impl Lender {
         let groups = groups.groups.len();
         Ok(Lender {
             stages: unturned(alloc, chunks)?,
-            waiting: Waiting::new(alloc, chunks, groups)?,
+            waiting: Waiting::new(alloc, groups)?,
             left: groups,
             room,
         })
@@ -252,7 +245,7 @@ impl Lender {
         let stage = Some(number + 1);
         world.take_back(back);
         bring(&mut self.stages, touches, stage);
-        release(&mut self.waiting, touches);
+        self.waiting.release(number.saturating_add(1));
         self.left = self.left.saturating_sub(1);
         self.room = self.room.saturating_add(1);
     }

@@ -1,10 +1,13 @@
 //! What the threads of a tick share, and the lines over which they hand groups to each other.
 ghost use Rattle.std.specs.Prelude.{◌≡◌};
+ghost use Rattle.av_lending.specs.Handed.{IsWorkOf};
 
+use crate::bell::Bell;
 use av_groups::groups::Groups;
 use av_lending::{Keeper, Plan, Turned, Work};
 use av_line::{Fits, Line, LinePass};
 use std::sync::Wait;
+use std::sync::atomic::AtomicU64;
 
 /// What the threads of a tick share: the line of groups that may be turned, that of groups that are, that of the tick's world,
 /// which is empty while a thread has it, and the tick's plan and groups.
@@ -17,6 +20,10 @@ pub(crate) struct Desk {
     pub(crate) groups: Groups,
     /// How many threads there are, with the calling one.
     pub(crate) threads: usize,
+    /// Rings whenever something is put into `works`.
+    pub(crate) bell: Bell,
+    /// How many groups were put into `backs`.
+    pub(crate) turned: AtomicU64,
 }
 
 /// A thread's passes of the lines.
@@ -62,12 +69,22 @@ pub(crate) fn put_in<T: Fits<Plan> + Drop + Send, R: Wait>(
     }
 }
 
+/// Hands work out.
+pub(crate) fn hand_out<R: Wait>(rt: &R, desk: &Desk, passes: &mut Passes, work: Work)
+    requires works { passes.old.works.line ≡ desk.now.works.line }
+    requires fits { IsWorkOf passes.old.works.plan work }
+    ensures { passes.new ≡ passes.old }
+{
+    put_in(rt, &desk.works, &mut passes.works, work);
+    desk.bell.ring();
+}
+
 /// Hands the end out, once for each thread.
 pub(crate) fn end_all<R: Wait>(rt: &R, desk: &Desk, passes: &mut Passes)
     requires { passes.old.works.line ≡ desk.now.works.line }
     ensures { passes.new ≡ passes.old }
 {
     for _ in 0..desk.threads {
-        put_in(rt, &desk.works, &mut passes.works, Work::End);
+        hand_out(rt, desk, passes, Work::End);
     }
 }

@@ -11,9 +11,13 @@ ghost use Rattle.av_groups.specs.Groups.{AreGroups};
 ghost use Rattle.av_lending.specs.Handed.{IsKeeperOf};
 ghost use Rattle.av_lending.specs.Plans.{IsFinished};
 ghost use Rattle.av_team.specs.Lines.{ArePassesOf, IsDeskOf, IsPassOf};
+ghost use Rattle.av_team.specs.Turned.{AreTurned};
 
+use crate::bell::Bell;
+use crate::here::turn_here;
 use crate::lines::{Desk, Passes, put_in};
 use crate::serve::{serve, start_all};
+use crate::worth::{are_long, gain_a_third};
 use av_groups::cutting::cut;
 use av_groups::groups::Groups;
 use av_lending::{Keeper, Lender, Plan};
@@ -23,6 +27,7 @@ use av_types::Entry;
 use av_world::World;
 use std::alloc::{AllocError, Global};
 use std::sync::Wait;
+use std::sync::atomic::AtomicU64;
 use std::thread::{Scope, Threads};
 use std::{mem, thread};
 
@@ -128,7 +133,8 @@ fn open_desk<R: Wait>(
     ensures start { IfOk result (λ opened. opened.0.plan.start.value ≡ world.now) }
     ensures groups { IfOk result (λ opened. opened.0.groups ≡ groups) }
 {
-    let room = groups.groups.len().saturating_add(threads);
+    // Of groups that are lent, and of ends: of each line no more can stand in it.
+    let room = threads.saturating_mul(AHEAD + 1);
     let plan = Plan::new(now, kinds, world, &groups);
     let works_plan = Plan::new(now, kinds, world, &groups);
     let (works, works_pass) = Line::open(rt, alloc, works_plan, room)?;
@@ -149,12 +155,74 @@ fn open_desk<R: Wait>(
         plan,
         groups,
         threads,
+        bell: Bell::new(),
+        turned: AtomicU64::new(0),
     };
     Ok((desk, passes, last_pass))
 }
 
-/// Takes the entries that are due in tick `now` out of their lists, and turns their blocks, one after the other, in groups that
-/// the calling thread and others share out among them: `workers` in all. `entries` are those that are due, in order.
+/// What all groups leave of a world, by so many threads. What is due and of no group may still stand in its lists.
+///
+/// # Errors
+/// Where memory is refused, also where a thread can't be started. Then all threads have ended.
+fn turned<R: Threads + Wait + Sync>(
+    rt: &R,
+    alloc: Global,
+    world: World,
+    kinds: &Kinds,
+    now: u32,
+    groups: Groups,
+    threads: usize,
+) -> Result<World, AllocError>
+    requires ready { IsReady (kind_count kinds.now) world }
+    requires groups { AreGroups (land_of world) groups }
+    ensures { IfOk result (AreTurned kinds.now now groups.entries.items world) }
+{
+    let (desk, passes, last_pass) = open_desk(rt, alloc, &world, kinds, now, groups, threads)?;
+    let ahead = threads.saturating_mul(AHEAD);
+    let lender = Lender::new(alloc, &desk.plan, &world, &desk.groups, ahead)?;
+    let keeper = Keeper {
+        lender,
+        world,
+        has_ended: false,
+    };
+    in_threads(rt, &desk, passes, kinds, keeper)?;
+    let left = finish(rt, &desk, last_pass, kinds)?;
+    Ok(left)
+}
+
+/// Takes the entries that are due in tick `now` out of their lists, and turns their blocks in these groups, by so many threads.
+///
+/// # Errors
+/// Where memory is refused, also where a thread can't be started. Then all threads have ended, and the world is to be given up.
+fn turn_groups<R: Threads + Wait + Sync>(
+    rt: &R,
+    alloc: Global,
+    world: &mut World,
+    kinds: &Kinds,
+    now: u32,
+    groups: Groups,
+    threads: usize,
+) -> Result<(), AllocError>
+    requires ready { IsReady (kind_count kinds.now) world.old }
+    requires groups { AreGroups (land_of world.old) groups }
+    ensures done { OnOk result (land_of world.new ≡ turned_all (kinds_of kinds.now) now
+        groups.entries.items (without_due now (land_of world.old))) }
+    ensures ready { OnOk result (IsReady (kind_count kinds.now) world.new) }
+    ensures chunks { OnOk result (HasSameChunks world.old world.new) }
+{
+    let height = world.height();
+    let whole = mem::replace(world, World::new(alloc, height));
+    let turned = turned(rt, alloc, whole, kinds, now, groups, threads)?;
+    *world = turned;
+    // What is due has left each chunk that was lent, and so all. This looks at each once, and makes it certain.
+    world.leave_due(now);
+    Ok(())
+}
+
+/// Takes the entries that are due in tick `now` out of their lists, and turns their blocks, one after the other: in groups that
+/// the calling thread and others share out among them, `workers` in all, or where that gains too little by the calling thread alone.
+/// `entries` are those that are due, in order.
 ///
 /// # Errors
 /// Where memory is refused, also where a thread can't be started. Then all threads have ended, and the world is to be
@@ -175,21 +243,13 @@ pub fn turn_in_groups<R: Threads + Wait + Sync>(
     ensures ready { OnOk result (IsReady (kind_count kinds.now) world.new) }
     ensures chunks { OnOk result (HasSameChunks world.old world.new) }
 {
+    if !are_long(entries.as_slice()) {
+        return turn_here(world, kinds, now, entries.as_slice());
+    }
     let groups = cut(alloc, world, entries)?;
+    if !gain_a_third(alloc, &groups)? {
+        return turn_here(world, kinds, now, groups.entries.as_slice());
+    }
     let threads = workers.min(groups.groups.len()).max(1);
-    let (desk, passes, last_pass) = open_desk(rt, alloc, world, kinds, now, groups, threads)?;
-    let ahead = threads.saturating_mul(AHEAD);
-    let lender = Lender::new(alloc, &desk.plan, world, &desk.groups, ahead)?;
-    let height = world.height();
-    let keeper = Keeper {
-        lender,
-        world: mem::replace(world, World::new(alloc, height)),
-        has_ended: false,
-    };
-    in_threads(rt, &desk, passes, kinds, keeper)?;
-    let turned = finish(rt, &desk, last_pass, kinds)?;
-    *world = turned;
-    // What is due has left each chunk that was lent, and so all. This looks at each once, and makes it certain.
-    world.leave_due(now);
-    Ok(())
+    turn_groups(rt, alloc, world, kinds, now, groups, threads)
 }

@@ -3,11 +3,12 @@ ghost use Rattle.std.specs.Prelude.{◌≡◌, IfOk, OnOk};
 ghost use Rattle.av_lending.specs.Handed.{IsKeeperOf, IsTurnedOf};
 ghost use Rattle.av_team.specs.Lines.{ArePassesOf, IsDeskOf};
 
-use crate::lines::{Desk, Passes, end_all, put_in};
+use crate::lines::{Desk, Passes, end_all, hand_out, put_in};
 use av_lending::{Keeper, Turned, Work};
 use av_rules::Kinds;
 use std::alloc::{AllocError, Global};
 use std::sync::Wait;
+use std::sync::atomic::Ordering;
 
 /// Takes a group back.
 ///
@@ -62,7 +63,7 @@ fn take_all_back<R: Wait>(
 }
 
 /// Lends all groups that are ready, and hands them out.
-fn hand_out<R: Wait>(
+fn lend_all<R: Wait>(
     rt: &R,
     alloc: Global,
     desk: &Desk,
@@ -83,7 +84,7 @@ fn hand_out<R: Wait>(
         let Some(lent) = lent else {
             break;
         };
-        put_in(rt, &desk.works, &mut passes.works, Work::Turn(lent));
+        hand_out(rt, desk, passes, Work::Turn(lent));
     }
     Ok(())
 }
@@ -108,7 +109,7 @@ fn tended<R: Wait>(
 {
     let mut keeper = keeper;
     take_all_back(rt, desk, passes, kinds, &mut keeper)?;
-    hand_out(rt, alloc, desk, passes, kinds, &mut keeper)?;
+    lend_all(rt, alloc, desk, passes, kinds, &mut keeper)?;
     if !keeper.has_ended
         && keeper
             .lender
@@ -120,18 +121,28 @@ fn tended<R: Wait>(
     Ok(keeper)
 }
 
-/// Takes back what is turned and hands out what is ready, unless another thread does.
+/// Takes back what is turned and hands out what is ready, unless another thread has the world: that one then does it, since it looks
+/// again whether a group came back meanwhile.
 pub(crate) fn tend<R: Wait>(rt: &R, alloc: Global, desk: &Desk, passes: &mut Passes, kinds: &Kinds)
     requires desk { IsDeskOf desk.now kinds.now }
     requires passes { ArePassesOf desk.now passes.old }
     ensures { passes.new ≡ passes.old }
 {
-    let Some(keeper) = desk.keepers.take(rt, &mut passes.keepers) else {
-        return;
-    };
-    match tended(rt, alloc, desk, passes, kinds, keeper) {
-        Ok(keeper) => put_in(rt, &desk.keepers, &mut passes.keepers, keeper),
-        // without a keeper nothing more is handed out
-        Err(_) => end_all(rt, desk, passes),
+    for _ in rt.forever() {
+        let turned = desk.turned.load(Ordering::SeqCst);
+        let Some(keeper) = desk.keepers.take(rt, &mut passes.keepers) else {
+            return;
+        };
+        match tended(rt, alloc, desk, passes, kinds, keeper) {
+            Ok(keeper) => put_in(rt, &desk.keepers, &mut passes.keepers, keeper),
+            Err(_) => {
+                // without a keeper nothing more is handed out
+                end_all(rt, desk, passes);
+                return;
+            }
+        }
+        if desk.turned.load(Ordering::SeqCst) == turned {
+            return;
+        }
     }
 }
