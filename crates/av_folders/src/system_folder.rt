@@ -1,6 +1,7 @@
 //! A folder of the system, for exchanges.
 ghost use Rattle.std.specs.Prelude.{None};
 
+use crate::region_marks::Watched;
 use av_exchange::{Folder, JOURNAL};
 use std::alloc::{AllocError, Global};
 use std::fs::{self, DirEntry, File, Metadata, OpenFile};
@@ -17,7 +18,9 @@ const NO_FILE: &str = "a link, a folder or a pipe, where a file is to be";
 pub struct SystemFolder<'a, R> {
     rt: &'a R,
     pub(crate) path: String,
-    /// The file that could not take its name or be taken away, where one couldn't.
+    /// What is to be as it was before files are replaced, where that is asked for.
+    pub(crate) watched: Option<Watched<'a>>,
+    /// The file that could not take its name or be taken away, or is not what it was, where there is one.
     unmoved: Option<String>,
 }
 
@@ -50,6 +53,7 @@ impl<'a, R: Files + AllocGlobal + Clone + Drop> SystemFolder<'a, R> {
         SystemFolder {
             rt,
             path,
+            watched: None,
             unmoved: None,
         }
     }
@@ -186,15 +190,16 @@ impl<'a, R: Files + AllocGlobal + Clone + Drop> Folder for SystemFolder<'a, R> {
         written
     }
 
-    fn move_over(&mut self, from: &str, to: &str) -> io::Result<()> {
+    fn move_over(&mut self, from: &str, to: &str) -> io::Result<bool> {
         let new = self.path_of(from)?;
         let old = self.path_of(to)?;
         match fs::rename(self.rt, new.as_path(), old.as_path()) {
-            Err(error) if error.kind() != ErrorKind::NotFound => {
+            Ok(()) => Ok(true),
+            Err(error) if error.kind() == ErrorKind::NotFound => Ok(false),
+            Err(error) => {
                 self.unmoved = String::from_str(self.rt.alloc(), to).ok();
                 Err(error)
             }
-            _ => Ok(()),
         }
     }
 
@@ -214,6 +219,18 @@ impl<'a, R: Files + AllocGlobal + Clone + Drop> Folder for SystemFolder<'a, R> {
             Err(error) if !has_no_sync(&error) => Err(error),
             _ => Ok(()),
         }
+    }
+
+    fn look_again(&mut self) -> io::Result<()> {
+        let Some(watched) = self.watched else {
+            return Ok(());
+        };
+        let RefusedStep { name, error } = match watched.look(self.rt, self) {
+            Ok(()) => return Ok(()),
+            Err(refused) => refused,
+        };
+        self.unmoved = name;
+        Err(error)
     }
 
     fn read_text(&self, alloc: Global, name: &str) -> io::Result<Option<String>> {
