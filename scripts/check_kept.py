@@ -206,6 +206,19 @@ def opened_meanwhile(world):
         yield "files of its world", [], differing(world.new if more else world.old, shots(folder))
 
 
+def made_alone(world):
+    """A new file nobody else can open until it has the old one's rights."""
+    folder = world.laid(world.old)
+    calls = world.halted(world.words(folder), folder)[1]
+    for name in CHANGED:
+        folder, modes = world.laid(world.old), []
+        made = 1 + next(number for number, call in enumerate(calls) if call == "open " + part(name))
+        path = os.path.join(folder, part(name))
+        answer = world.stopped(world.words(folder), folder, made + 1, lambda: modes.append(os.stat(path).st_mode & 0o777))
+        yield "a run", Answer(0, TOLD, []), answer
+        yield "the rights of a new file that is made", [0o600], modes
+
+
 def without_locks(world):
     """Where a folder can't be locked nothing that a run left is done with or taken away."""
     left = {**world.old, part(CHANGED[0]): world.new[CHANGED[0]]}
@@ -235,7 +248,7 @@ def main():
         world = World(os.path.abspath(sys.argv[1]), work)
         checks = [written_since, lost, changed_meanwhile]
         if world.library is not None:
-            checks += [taken_away, before_the_first, behind_the_first, opened_meanwhile, without_locks]
+            checks += [taken_away, before_the_first, behind_the_first, opened_meanwhile, made_alone, without_locks]
         examples = [example for check in checks for example in check(world)]
     report("files that another program wrote", examples)
 

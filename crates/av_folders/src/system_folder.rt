@@ -6,7 +6,7 @@ use av_exchange::{Folder, JOURNAL};
 use std::alloc::{AllocError, Global};
 use std::fs::{self, DirEntry, File, Metadata, OpenFile};
 use std::io::{self, ErrorKind, Write};
-use std::os::unix::fs::{MetadataExt, lchown};
+use std::os::unix::fs::{MetadataExt, OpenOptionsExt, lchown};
 use std::path::{Path, PathBuf};
 use std::rt::Files;
 
@@ -137,6 +137,19 @@ fn keep_owner<R: Files>(rt: &R, path: Path<'_>, old: &Metadata) -> io::Result<()
     }
 }
 
+/// Makes a file of a name that is free. One that is to replace another nobody else may open until it has that one's rights.
+fn make_file<R: Files>(rt: &R, path: Path<'_>, old: Option<&Metadata>) -> io::Result<R::File> {
+    if old.is_none() {
+        return File::create_new(rt, path);
+    }
+    let mut options = File::options();
+    options
+        .write(true)
+        .create_new(true)
+        .mode(0o600)
+        .open(rt, path)
+}
+
 /// Writes a new file, up to the device.
 fn fill<R: Files>(
     rt: &R,
@@ -182,7 +195,7 @@ impl<'a, R: Files + AllocGlobal + Clone + Drop> Folder for SystemFolder<'a, R> {
     fn write_new(&mut self, name: &str, bytes: &[u8], like: &str) -> io::Result<()> {
         let path = self.path_of(name)?;
         let old = file_there(self.rt, self.path_of(like)?.as_path())?;
-        let file = File::create_new(self.rt, path.as_path())?;
+        let file = make_file(self.rt, path.as_path(), old.as_ref())?;
         let written = fill(self.rt, path.as_path(), file, old, bytes);
         if written.is_err() {
             let _ = fs::remove_file(self.rt, path.as_path());
