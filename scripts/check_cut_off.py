@@ -19,11 +19,9 @@ import tempfile
 from concurrent.futures import ThreadPoolExecutor
 
 sys.dont_write_bytecode = True
-from cut_offs import (CHANGED, FINISHED, FOREIGN, JOURNAL, LEFT_ALONE, NEW_JOURNAL, NOTHING_ELSE, REGIONS, TAKEN_AWAY, TOLD, TRIAL, Answer,
+from cut_offs import (CHANGED, FINISHED, FOREIGN, GO, JOURNAL, LEFT_ALONE, NOTHING_ELSE, PLACES, REGIONS, STAND, TAKEN_AWAY, TOLD, TRIAL, Answer,
                       World, contents, differing, is_left, journal_of, part, report, shots)
 
-STAND, GO = "rename %s %s" % (NEW_JOURNAL, JOURNAL), "unlink " + JOURNAL
-PLACES = ["rename %s %s" % (part(name), name) for name in CHANGED]
 RIGHTS = "chown", "lchown", "fchown", "fchownat", "chmod", "fchmod", "fchmodat"
 WRITES = "open", "write", "pwrite", "pwrite64", "writev", "truncate", "truncate64", "ftruncate", "ftruncate64"
 
@@ -85,6 +83,25 @@ def order(calls):
         kinds = [calls[n].split()[0] for n in made[name]]
         rights, written = ([n for n, kind in enumerate(kinds) if kind in names] for names in (RIGHTS, WRITES[1:]))
         yield "%s has its owner and rights before it has bytes" % name, True, 0 < len(rights) and max(rights) < min(written)
+
+
+UNSYNCED = "%s: the run is done; after a power cut the next command may finish it once more: Input/output error (os error 5)"
+
+
+def late(world):
+    """A journal that has its name, though the call that gave it failed, is done with by the next command. A run whose journal is gone is done."""
+    folder = world.laid(world.old)
+    _, calls = world.halted(world.words(folder), folder)
+    folder = world.laid(world.old)
+    answer, _ = world.halted(world.words(folder), folder, calls.index(STAND) + 1, "late", errno.EIO)
+    yield "a journal that is named, and an error", Answer(1, "", ["fault 25: Device " + folder]), answer
+    yield "the next command", Answer(0, "", [FINISHED % (folder, len(CHANGED))]), world.check(folder)
+    yield "files after it", [], differing(world.new, shots(folder))
+    for name, when in (("a sync that fails behind the journal", "before"), ("one that is done and fails", "late")):
+        folder = world.laid(world.old)
+        answer, _ = world.halted(world.words(folder), folder, len(calls), when, errno.EIO)
+        yield name, Answer(0, TOLD, [UNSYNCED % folder]), answer
+        yield "files after " + name, [], differing(world.new, shots(folder))
 
 
 # ---------------------------------------------------------------- what is left, and the next command
@@ -231,7 +248,7 @@ def main():
         if world.library is None:
             print("0 asked of runs that are cut off: there is no C compiler")
             return
-        examples = [("a run: " + name, want, got) for name, want, got in whole(world)]
+        examples = [("a run: " + name, want, got) for check in (whole, late) for name, want, got in check(world)]
         for command in commands(world):
             for found in pool.map(lambda ask: ask(), command.examples()):
                 examples += found

@@ -1,5 +1,6 @@
 """Runs of a small world in place that halt.c stops or lets fail, for check_cut_off.py and check_devices.py, and what they leave."""
 import dataclasses
+import errno
 import itertools
 import os
 import signal
@@ -23,6 +24,8 @@ TOLD = "chunks 4 turns 3"
 FOREIGN = {".anvilwater-r.0.0.mca.old": b"of somebody else", ".anvilwater-r.00.0.mca": b"of somebody else", "r.0.0.mca.part": b""}
 
 JOURNAL, NEW_JOURNAL, TRIAL = ".anvilwater-journal", ".anvilwater-journal-new", ".anvilwater-trial"
+STAND, GO = "rename %s %s" % (NEW_JOURNAL, JOURNAL), "unlink " + JOURNAL
+PLACES = ["rename .anvilwater-%s %s" % (name, name) for name in CHANGED]
 HEAD = b"anvilwater journal 2\n"
 FINISHED = "%s: a run that was cut off is finished: %d files took their places"
 TAKEN_AWAY = "%s: %d files that a run left behind when it was cut off are taken away"
@@ -170,9 +173,14 @@ class World:
         with os.fdopen(told) as calls:
             return answer, calls.read().splitlines()
 
-    def stopped(self, words, folder, call, change):
+    def unlocked(self, words, folder):
+        """What a command answers where nothing can be locked."""
+        return self.ask(words, {"LD_PRELOAD": self.library, "HALT_FOLDER": folder, "HALT_LOCKS": str(errno.ENOLCK)})
+
+    def stopped(self, words, folder, call, change, locks=0):
         """What a command answers that is stopped before this call that changes the folder, until this is done."""
-        environment = {"LD_PRELOAD": self.library, "HALT_FOLDER": folder, "HALT": str(call), "HALT_SIGNAL": str(int(signal.SIGSTOP))}
+        environment = {"LD_PRELOAD": self.library, "HALT_FOLDER": folder, "HALT": str(call), "HALT_SIGNAL": str(int(signal.SIGSTOP)),
+                       "HALT_LOCKS": str(locks)}
         with subprocess.Popen(words, stdin=subprocess.DEVNULL, stdout=subprocess.PIPE, stderr=subprocess.PIPE, text=True, env=environment) as process:
             try:
                 os.waitid(os.P_PID, process.pid, os.WSTOPPED | os.WEXITED | os.WNOWAIT)

@@ -3,7 +3,9 @@
  * Counted over all threads are the calls below that are given the folder HALT_FOLDER, a path as the program gives it, a file in it, or a
  * descriptor of either; of the calls that open a file those that may make or change it. At the call whose number is in HALT
  * the process gets the signal HALT_SIGNAL, without which it is killed: before the call, or where HALT_WHEN is `after` when it is done. Where
- * HALT_ERROR has the number of an error, the call is not made and answers it instead, and where HALT_WHEN is `on` each later one does so too.
+ * HALT_ERROR has the number of an error, the call is not made and answers it instead, and where HALT_WHEN is `on` each later one does so too;
+ * where HALT_WHEN is `late` it is made and answers it all the same. Each lock that is asked for answers the error whose number is in
+ * HALT_LOCKS, if it is there.
  * Each call is told to the descriptor in HALT_TO before it is made, by a line with its name and the names of its files in the
  * folder, `.` for the folder itself. */
 #undef _FORTIFY_SOURCE
@@ -27,9 +29,9 @@
 typedef char room[2 * PATH_MAX];
 
 static const char *folder = "", *when = "before";
-static long halted, error, sent = SIGKILL, told_to = -1;
+static long halted, error, locks, sent = SIGKILL, told_to = -1;
 static atomic_long calls;
-static __thread int stops_after;
+static __thread int stops_after, fails_after;
 
 static long number(const char *variable, long otherwise) {
     const char *text = getenv(variable);
@@ -41,6 +43,7 @@ __attribute__((constructor)) static void start(void) {
     if (getenv("HALT_WHEN")) when = getenv("HALT_WHEN");
     halted = number("HALT", halted);
     error = number("HALT_ERROR", error);
+    locks = number("HALT_LOCKS", locks);
     sent = number("HALT_SIGNAL", sent);
     told_to = number("HALT_TO", told_to);
 }
@@ -82,15 +85,20 @@ static int is_refused(const char *call, const char *first, const char *second) {
     if (told_to >= 0) tell(call, name ? name : first, other);
     if (halted == 0 || count < halted || (count > halted && (error == 0 || strcmp(when, "on") != 0))) return 0;
     errno = error;
-    if (error != 0) return 1;
+    fails_after = error != 0 && strcmp(when, "late") == 0;
+    if (error != 0) return !fails_after;
     stops_after = strcmp(when, "after") == 0;
     if (!stops_after) kill(getpid(), sent);
     return 0;
 }
 
-static void note_end(void) {
+/* Takes note that the call is done: whether it answers an error all the same. */
+static int fails_late(void) {
+    int fails = fails_after;
     if (stops_after) kill(getpid(), sent);
-    stops_after = 0;
+    stops_after = fails_after = 0;
+    if (fails) errno = error;
+    return fails;
 }
 
 #define CALL(type, name, parameters, arguments, first, second)      \
@@ -101,8 +109,7 @@ static void note_end(void) {
         if (made == NULL) *(void **)&made = dlsym(RTLD_NEXT, #name); \
         if (is_refused(#name, first, second)) return -1;            \
         type answer = made arguments;                               \
-        note_end();                                                 \
-        return answer;                                              \
+        return fails_late() ? -1 : answer;                          \
     }
 
 #define OF_PATH(name, parameters, arguments) CALL(int, name, parameters, arguments, path, "")
@@ -148,8 +155,14 @@ static int opened(int at, const char *path, int flags, mode_t mode) {
     room place;
     if (changes && is_refused("open", path_at(at, path, place), "")) return -1;
     int answer = made(at, path, flags, mode);
-    note_end();
-    return answer;
+    return fails_late() ? -1 : answer;
+}
+
+int flock(int file, int how) {
+    int (*made)(int, int) = dlsym(RTLD_NEXT, "flock");
+    if (locks == 0) return made(file, how);
+    errno = (int)locks;
+    return -1;
 }
 
 #define OPEN(name, parameters, at)                                                 \

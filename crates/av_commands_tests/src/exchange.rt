@@ -2,7 +2,9 @@
 ghost use Rattle.std.specs.Prelude.{None};
 
 use crate::expecting::expect_equal;
-use av_exchange::{Folder, close, commit, commit_alone, repair, stage, sweep, unstage};
+use av_exchange::{
+    Folder, NotCommitted, close, commit, commit_alone, repair, stage, sweep, unstage,
+};
 use av_sink::NoTeller;
 use std::alloc::{AllocError, Global};
 use std::io::{self, ErrorKind};
@@ -16,12 +18,27 @@ struct Entry {
     bytes: Vec<u8>,
 }
 
+/// What another program does to the folder, just before a file takes a name.
+#[derive(Clone, Copy)]
+enum Meddling {
+    /// It takes a file away.
+    Takes(&'static str),
+    /// It writes a file.
+    Writes(&'static str),
+}
+
 /// A folder in memory, of which so many calls are done and each one behind them fails.
 #[derive(Drop)]
 struct Memory {
     alloc: Global,
     entries: Vec<Entry>,
     calls_left: u32,
+    /// What is done before so many further calls that give a name.
+    meddling: Option<(u32, Meddling)>,
+    /// Whether a call that gives the journal its name is done and fails all the same.
+    answers_late: bool,
+    /// Whether its files are in use when that is asked again.
+    in_use: bool,
 }
 
 impl Memory {
@@ -30,6 +47,9 @@ impl Memory {
             alloc,
             entries: Vec::new(alloc),
             calls_left: u32::MAX,
+            meddling: None,
+            answers_late: false,
+            in_use: false,
         }
     }
 
@@ -63,6 +83,24 @@ impl Memory {
         Ok(())
     }
 
+    /// Lets the other program do what it does before this call, if it is its turn.
+    fn meddle(&mut self) -> Result<(), AllocError> {
+        match self.meddling {
+            Some((0, Meddling::Takes(name))) => {
+                let _ = self.take(name);
+                self.meddling = None;
+            }
+            Some((0, Meddling::Writes(name))) => {
+                let _ = self.take(name);
+                self.add(name, b"newer")?;
+                self.meddling = None;
+            }
+            Some((calls, meddling)) => self.meddling = Some((calls - 1, meddling)),
+            None => {}
+        }
+        Ok(())
+    }
+
     /// What a file has, as text, or `-` where there is none.
     fn text(&self, name: &str) -> &str {
         for entry in &self.entries {
@@ -87,13 +125,18 @@ impl Folder for Memory {
         Ok(self.add(name, bytes)?)
     }
 
-    fn move_over(&mut self, from: &str, to: &str) -> io::Result<()> {
+    fn move_over(&mut self, from: &str, to: &str) -> io::Result<bool> {
         self.spend()?;
+        self.meddle()?;
         let Some(entry) = self.take(from) else {
-            return Ok(());
+            return Ok(false);
         };
         let _ = self.take(to);
-        Ok(self.add(to, entry.bytes.as_slice())?)
+        self.add(to, entry.bytes.as_slice())?;
+        if self.answers_late && to == ".anvilwater-journal" {
+            return Err(ErrorKind::BrokenPipe.into());
+        }
+        Ok(true)
     }
 
     fn remove(&mut self, name: &str) -> io::Result<()> {
@@ -104,6 +147,13 @@ impl Folder for Memory {
 
     fn sync(&mut self) -> io::Result<()> {
         self.spend()
+    }
+
+    fn look_again(&mut self) -> io::Result<()> {
+        if self.in_use {
+            return Err(ErrorKind::WouldBlock.into());
+        }
+        Ok(())
     }
 
     fn read_text(&self, alloc: Global, name: &str) -> io::Result<Option<String>> {
@@ -143,7 +193,8 @@ fn exchange(alloc: Global, folder: &mut Memory) -> io::Result<()> {
     if let Err(not) = commit(alloc, folder, names.as_slice()) {
         return Err(not.error);
     }
-    close(folder)
+    close(folder)?;
+    Ok(())
 }
 
 /// A folder in which an exchange was cut off behind so many calls.
@@ -244,6 +295,107 @@ fn a_new_file_that_is_gone(rt: HostRuntime) -> Result<(), Fail> {
         expect_equal(&rt, not.begun, false);
         expect_equal(&rt, not.error.kind(), ErrorKind::InvalidData);
         has(&rt, &folder, "old zero", "-", 2);
+    }
+    Ok(())
+}
+
+/// A folder with two new files, of which one is to replace an old one, and what becomes of their names.
+fn committed(alloc: Global, folder: &mut Memory) -> io::Result<NotCommitted> {
+    folder.add("r.0.0.mca", b"old zero")?;
+    let names = staged(alloc, folder)?;
+    match commit(alloc, folder, names.as_slice()) {
+        Ok(()) => Err(ErrorKind::Other.into()),
+        Err(not) => Ok(not),
+    }
+}
+
+/// Where another program takes a new file, or writes an old one, just before the journal gets its name, that goes again, and no file moves.
+#[test]
+fn what_changes_before_the_first_file(rt: HostRuntime) -> Result<(), Fail> {
+    let changes = [
+        (Meddling::Takes(".anvilwater-r.0.0.mca"), "old zero", "-", 2),
+        (
+            Meddling::Takes(".anvilwater-r.-1.2.mca"),
+            "old zero",
+            "-",
+            2,
+        ),
+        (Meddling::Writes("r.0.0.mca"), "newer", "-", 3),
+        (Meddling::Writes("r.-1.2.mca"), "old zero", "newer", 4),
+    ];
+    for (meddling, zero, one, count) in changes {
+        let mut folder = Memory::new(rt.alloc());
+        folder.meddling = Some((0, meddling));
+        let not = committed(rt.alloc(), &mut folder)?;
+        expect_equal(&rt, not.begun, false);
+        expect_equal(&rt, not.error.kind(), ErrorKind::InvalidData);
+        has(&rt, &folder, zero, one, count);
+    }
+    Ok(())
+}
+
+/// So it does where the folder's files are in use then.
+#[test]
+fn what_is_in_use_before_the_first_file(rt: HostRuntime) -> Result<(), Fail> {
+    let mut folder = Memory::new(rt.alloc());
+    folder.in_use = true;
+    let not = committed(rt.alloc(), &mut folder)?;
+    expect_equal(&rt, not.begun, false);
+    expect_equal(&rt, not.error.kind(), ErrorKind::WouldBlock);
+    has(&rt, &folder, "old zero", "-", 3);
+    Ok(())
+}
+
+/// Before the second file takes its name the first one has it: what is gone or was written then is refused, and the journal stays.
+#[test]
+fn what_changes_before_the_second_file(rt: HostRuntime) -> Result<(), Fail> {
+    let changes = [
+        (Meddling::Takes(".anvilwater-r.-1.2.mca"), "-"),
+        (Meddling::Writes("r.-1.2.mca"), "newer"),
+    ];
+    for (meddling, one) in changes {
+        let mut folder = Memory::new(rt.alloc());
+        folder.meddling = Some((1, meddling));
+        let not = committed(rt.alloc(), &mut folder)?;
+        expect_equal(&rt, not.begun, true);
+        expect_equal(&rt, not.error.kind(), ErrorKind::InvalidData);
+        expect_equal(&rt, folder.text("r.0.0.mca"), "new zero");
+        expect_equal(&rt, folder.text("r.-1.2.mca"), one);
+        expect_equal(
+            &rt,
+            repair(rt.alloc(), &mut folder, &NoTeller).is_err(),
+            true,
+        );
+    }
+    Ok(())
+}
+
+/// A journal that has its name, though the call that gave it failed, is not taken for one that has none.
+#[test]
+fn a_journal_that_is_named_late(rt: HostRuntime) -> Result<(), Fail> {
+    let mut folder = Memory::new(rt.alloc());
+    folder.answers_late = true;
+    let not = committed(rt.alloc(), &mut folder)?;
+    expect_equal(&rt, not.begun, true);
+    folder.answers_late = false;
+    repair(rt.alloc(), &mut folder, &NoTeller)?;
+    has(&rt, &folder, "new zero", "new one", 2);
+    Ok(())
+}
+
+/// Where all is done but the wait for the journal's end, the exchange is closed; where the journal can't go, it is not.
+#[test]
+fn an_end_that_is_not_on_the_device(rt: HostRuntime) -> Result<(), Fail> {
+    for (calls, is_closed) in [(0, false), (1, true)] {
+        let mut folder = Memory::new(rt.alloc());
+        let names = staged(rt.alloc(), &mut folder)?;
+        commit(rt.alloc(), &mut folder, names.as_slice())?;
+        folder.calls_left = calls;
+        match close(&mut folder) {
+            Ok(unsynced) => expect_equal(&rt, (is_closed, unsynced.is_some()), (true, true)),
+            Err(_) => expect_equal(&rt, is_closed, false),
+        }
+        expect_equal(&rt, folder.text(".anvilwater-journal") == "-", is_closed);
     }
     Ok(())
 }

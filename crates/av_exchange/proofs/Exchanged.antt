@@ -152,7 +152,7 @@ module _ (h : Holdings) (files : List NamedFile) (are : AreRegions files) (marks
       → with_all k files m ≡ counted (Some (map (λ f. f.name) files)) begun m
   begun_counts k is m own = named_counts k is m own ∙ ap (λ (f : Holdings). counted (Some (map (λ f. f.name) files)) f m) (sym begun_is)
 
-  begun_stands : (k : Holdings) → ((m : List ℕ) → is_own m ≡ false → k m ≡ h m) → StandsFor begun (with_all k files)
+  pub begun_stands : (k : Holdings) → ((m : List ℕ) → is_own m ≡ false → k m ≡ h m) → StandsFor begun (with_all k files)
   begun_stands k is = record { journal = Some (map (λ f. f.name) files); journaled = begun_journaled; counts = begun_counts k is }
 
   pub after_begun : (rest : List Step)

@@ -2,11 +2,15 @@ pub mod Own
 pub mod Listing
 pub mod Crash
 pub mod History
+pub mod Phases
+pub mod Taken
+pub mod Committed
 pub mod Stepwise
 pub mod Marked
 pub mod Beside
 pub mod Renamed
 pub mod Exchanged
+pub mod GivenUp
 pub mod Repaired
 pub mod Swept
 pub mod Unwritten

@@ -1,15 +1,17 @@
 -- Loops over files that take their names, and over names.
-use Rattle.std.proofs.Common.{◌≡◌, ◌∙◌, ◌<◌, ◌+◌, ap, ap₂, sym, subst, refl, ℕ, zero, suc, List, [], ◌∷◌, ◌++◌, append_assoc, length, map, take, get_or, add-one, Option, Some, None, String, Global, option_map, string_bytes}
+use Rattle.std.proofs.Common.{◌≡◌, ◌∙◌, ◌<◌, ◌+◌, ap, ap₂, sym, subst, refl, ℕ, zero, suc, List, [], ◌∷◌, ◌++◌, append_assoc, length, map, take, get_or, add-one, Option, Some, None, String, Global, Bool, true, false, option_map, string_bytes}
+use Rattle.std.proofs.lemmas.Option.{none-some}
+use mathlib.Core.Logic.{inl, inr}
 use Rattle.std.proofs.Math.Seq.{take-suc}
 use Rattle.std.proofs.lemmas.List.{map-append}
 use Rattle.std.specs.List.{AllByRecursion}
 use Rattle.av_sink.specs.declared.sink.Repair.{Repair}
-use Rattle.av_exchange.specs.Steps.{AreSomeOf, none, kept, History, IfTold, IsCutOff, ended, during, later, Moved, Removed, Synced, Written, Step, all_of, with_steps}
-use Rattle.av_exchange.specs.Exchange.{IsJournaled, closing, renamed, committing, repairing, sweeping}
-use Rattle.av_exchange.specs.Names.{IsRegionName, journal_name, journal_of, lines_of, new_journal_name}
-use Rattle.av_exchange.specs.Outcomes.{HasStopped, IsFinished, IsRepaired, IsSettledInPart, IsSwept, IsSweepStopped, IsUnrepaired, in_part, name_of, stopped, unsynced}
+use Rattle.av_exchange.specs.Steps.{AreSomeOf, none, kept, History, Holdings, IfTold, after_all, IsCutOff, ended, during, later, Moved, Removed, Synced, Written, Step, all_of, with_steps}
+use Rattle.av_exchange.specs.Exchange.{IsJournaled, closing, recording, renamed, repairing, sweeping}
+use Rattle.av_exchange.specs.Names.{IsRegionName, journal_name, journal_of, lines_of, new_journal, new_journal_name}
+use Rattle.av_exchange.specs.Outcomes.{HasStopped, IsBesideAlone, IsFinished, IsMovedInPart, IsRenamedInPart, IsUnnamed, IsUnrecorded, IsRepaired, IsSettledInPart, IsSwept, IsSweepStopped, IsUnrepaired, in_part, name_of, stopped, unsynced}
 use Rattle.av_exchange.specs.declared.moves.Move.{Move}
-use Rattle.av_exchange.proofs.Crash.{all_some, none_some}
+use Rattle.av_exchange.proofs.Crash.{after_both, all_some, none_some}
 use Rattle.av_exchange.proofs.History.{no_steps, then_steps}
 
 -- what a function makes of one element more
@@ -54,34 +56,66 @@ all_finished names old mid new first next =
     then_steps old mid new (Synced ∷ (map renamed names ++ (Synced ∷ []))) (all_of closing) first next
     ∙ ap (λ (l : List Step). with_steps old (Synced ∷ l)) (append_assoc (map renamed names) (Synced ∷ []) (all_of closing))
 
-pub committed_all : (old mid new : Option History) (text : List ℕ) (names marks moved : List (List ℕ)) → text ≡ journal_of names marks → moved ≡ names
-    → mid ≡ with_steps old (Written new_journal_name text ∷ Synced ∷ Moved new_journal_name journal_name ∷ [])
-    → new ≡ with_steps mid (Synced ∷ all_of (map renamed moved ∷ [])) → new ≡ with_steps old (all_of (committing names marks))
-committed_all old mid new text names marks moved texts same first next =
-    then_steps old mid new (Written new_journal_name text ∷ Synced ∷ Moved new_journal_name journal_name ∷ []) (Synced ∷ all_of (map renamed moved ∷ [])) first next
-    ∙ ap₂ (λ (t : List ℕ) (ns : List (List ℕ)). with_steps old (Written new_journal_name t ∷ Synced ∷ Moved new_journal_name journal_name ∷ Synced ∷ all_of (map renamed ns ∷ []))) texts same
+-- one more of the files took its name, or not
+pub one_in_part : (old mid new : Option History) (moves : List Move) (i : ℕ) (m : Move) → i < length moves → m ≡ get_or moves i m
+    → mid ≡ with_steps old (map renamed (map name_of (take i moves))) → IsRenamedInPart (name_of m) mid new → IsMovedInPart (map name_of moves) old new
+one_in_part old mid new moves i m lt is before last = elim last [
+  | inl same ↦ record { left = map renamed (map name_of (take i moves)); some = first_renamed i moves; steps = same ∙ before }
+  | inr moved ↦ record {
+    left = map renamed (map name_of (take (i + 1) moves));
+    some = first_renamed (i + 1) moves;
+    steps = subst (λ (steps : List Step). new ≡ with_steps old steps) (sym (one_more_renamed moves i m lt is))
+        (then_steps old mid new (map renamed (map name_of (take i moves))) (renamed (name_of m) ∷ []) before moved);
+  }
+]
 
-stopped_settling : (old mid new : Option History) (names marks : List (List ℕ))
-    → mid ≡ with_steps old (Written new_journal_name (journal_of names marks) ∷ Synced ∷ Moved new_journal_name journal_name ∷ [])
-    → IsSettledInPart names mid new → HasStopped (committing names marks) old new
-stopped_settling old mid new names marks first (unsynced same) = record {
-  left = Written new_journal_name (journal_of names marks) ∷ Synced ∷ Moved new_journal_name journal_name ∷ [];
+-- ---- an exchange and its journal
+
+-- the journal did not get its name
+unnamed_beside : (old mid new : Option History) (text : List ℕ) → mid ≡ with_steps old (Written new_journal_name text ∷ Synced ∷ []) → IsUnnamed mid new false
+    → IsBesideAlone old new
+unnamed_beside None mid new text wrote not = record {
+  left = [];
+  beside = tt;
+  steps = elim not.tried [
+    | inl same ↦ same ∙ wrote
+    | inr moved ↦ moved ∙ ap (λ (t : Option History). with_steps t (Moved new_journal_name journal_name ∷ [])) wrote
+  ];
+}
+unnamed_beside (Some t) mid new text wrote not = elim not.tried [
+  | inl same ↦ record { left = Written new_journal_name text ∷ Synced ∷ []; beside = (new_journal refl, (tt, tt)); steps = same ∙ wrote }
+  | inr moved ↦
+      let all = then_steps (Some t) mid new (Written new_journal_name text ∷ Synced ∷ []) (Moved new_journal_name journal_name ∷ []) wrote moved in
+      let free : after_all t.first (t.steps ++ Written new_journal_name text ∷ Synced ∷ Moved new_journal_name journal_name ∷ []) journal_name ≡ None =
+      subst (λ (o : Option History). IfTold o (λ h. h journal_name ≡ None)) all (not.unbegun refl) in
+      let there = ap (λ (h : Holdings). h journal_name) (after_both t.first t.steps (Written new_journal_name text ∷ Synced ∷ Moved new_journal_name journal_name ∷ [])) in
+      absurd (none-some text (sym free ∙ there))
+]
+
+named_stopped : (old mid new : Option History) (text : List ℕ) → mid ≡ with_steps old (Written new_journal_name text ∷ Synced ∷ [])
+    → new ≡ with_steps mid (Moved new_journal_name journal_name ∷ []) → HasStopped (recording text) old new
+named_stopped old mid new text wrote moved = record {
+  left = Written new_journal_name text ∷ Synced ∷ Moved new_journal_name journal_name ∷ [];
   cut_off = later _ _ _ (during _ _ _ (all_some _));
-  steps = same ∙ first;
-}
-stopped_settling old mid new names marks first (in_part left some is) = record {
-  left = Written new_journal_name (journal_of names marks) ∷ Synced ∷ Moved new_journal_name journal_name ∷ Synced ∷ left;
-  cut_off = later _ _ _ (later _ _ _ (during _ _ left some));
-  steps = then_steps old mid new (Written new_journal_name (journal_of names marks) ∷ Synced ∷ Moved new_journal_name journal_name ∷ []) (Synced ∷ left) first is;
+  steps = then_steps old mid new (Written new_journal_name text ∷ Synced ∷ []) (Moved new_journal_name journal_name ∷ []) wrote moved;
 }
 
-pub stopped_committing : (old mid new : Option History) (text : List ℕ) (names marks moved : List (List ℕ)) → text ≡ journal_of names marks → moved ≡ names
-    → mid ≡ with_steps old (Written new_journal_name text ∷ Synced ∷ Moved new_journal_name journal_name ∷ [])
-    → IsSettledInPart moved mid new → HasStopped (committing names marks) old new
-stopped_committing old mid new text names marks moved texts same first part =
-    stopped_settling old mid new names marks
-    (first ∙ ap (λ (t : List ℕ). with_steps old (Written new_journal_name t ∷ Synced ∷ Moved new_journal_name journal_name ∷ [])) texts)
-    (subst (λ (ns : List (List ℕ)). IsSettledInPart ns mid new) same part)
+-- it may have it
+unnamed_stopped : (old mid new : Option History) (text : List ℕ) → mid ≡ with_steps old (Written new_journal_name text ∷ Synced ∷ []) → IsUnnamed mid new true
+    → HasStopped (recording text) old new
+unnamed_stopped old mid new text wrote not = elim not.tried [
+  | inl same ↦ record { left = Written new_journal_name text ∷ Synced ∷ []; cut_off = later _ _ _ (during _ _ _ (none_some _)); steps = same ∙ wrote }
+  | inr moved ↦ named_stopped old mid new text wrote moved
+]
+
+pub unrecorded : (old mid new : Option History) (text : List ℕ) (begun : Bool) → mid ≡ with_steps old (Written new_journal_name text ∷ Synced ∷ [])
+    → IsUnnamed mid new begun → IsUnrecorded text old new begun
+unrecorded old mid new text false wrote not = unnamed_beside old mid new text wrote not
+unrecorded old mid new text true wrote not = unnamed_stopped old mid new text wrote not
+
+-- files behind it were moved in part
+pub moved_stopped : (names : List (List ℕ)) (old new : Option History) → IsMovedInPart names old new → HasStopped (map renamed names ∷ []) old new
+moved_stopped names old new part = record { left = part.left; cut_off = during _ _ part.left part.some; steps = part.steps }
 
 pub sweep_part : (names : List (List ℕ)) (left : List Step) → AreSomeOf left (map Removed names) → IsCutOff (sweeping names) left
 sweep_part [] _ none = ended

@@ -5,7 +5,7 @@ use Rattle.std.specs.List.{list_any, AllByRecursion}
 use Rattle.std.specs.Option.{option_or}
 use Rattle.av_sink.specs.Account.{NamedFile}
 use Rattle.av_exchange.specs.Names.{IsBeside, IsRegionName, journal_name, journal_of, new_journal_name, part_of, is_own}
-use Rattle.av_exchange.specs.Steps.{Holdings, Step, Written, Spoiled, Moved, Removed, Synced, IsCutOff, all_of, after_all}
+use Rattle.av_exchange.specs.Steps.{Holdings, Step, Written, Spoiled, Moved, Removed, Synced, IsCutOff, all_of, after, after_all}
 
 -- ---- the steps
 
@@ -21,22 +21,40 @@ AreStaged names h = AllByRecursion (λ name. is_some (h (part_of name)) ≡ true
 abbrev pub renamed : List ℕ → Step
 renamed name = Moved (part_of name) name
 
+-- each of these new files is there when its turn comes
+abbrev pub AreTaken : List (List ℕ) → Holdings → Type 0
+AreTaken [] h = Unit {0}
+AreTaken (name ∷ names) h = (is_some (h (part_of name)) ≡ true) × AreTaken names (after h (renamed name))
+
 -- a journal is done with: its files take their names, and then it goes
 abbrev pub finishing : List (List ℕ) → List (List Step)
 finishing names = map renamed names ∷ (Removed journal_name ∷ []) ∷ []
 
+-- a journal is written, and gets its name
+abbrev pub recording : List ℕ → List (List Step)
+recording text = (Written new_journal_name text ∷ []) ∷ (Moved new_journal_name journal_name ∷ []) ∷ []
+
 -- new files that were written take their names: once the journal has its name, they are to do so. Until the journal goes, which is the last
 -- of the exchange, a call that is cut off is known by it
 abbrev pub committing : (names marks : List (List ℕ)) → List (List Step)
-committing names marks = (Written new_journal_name (journal_of names marks) ∷ []) ∷ (Moved new_journal_name journal_name ∷ []) ∷ map renamed names ∷ []
+committing names marks = recording (journal_of names marks) ++ map renamed names ∷ []
 
 abbrev pub closing : List (List Step)
 closing = (Removed journal_name ∷ []) ∷ []
+
+-- the journal is taken away again, and no file has moved
+abbrev pub withdrawing : (names marks : List (List ℕ)) → List (List Step)
+withdrawing names marks = recording (journal_of names marks) ++ closing
 
 -- the whole exchange: new files are written, take their names, and it is closed
 abbrev pub exchanging : List NamedFile → (marks : List (List ℕ)) → List (List Step)
 exchanging files marks = (map staged files ++ (Written new_journal_name (journal_of (map (λ f. f.name) files) marks) ∷ []))
     ∷ (Moved new_journal_name journal_name ∷ []) ∷ finishing (map (λ f. f.name) files)
+
+-- one that is given up when its journal has its name: that goes again, and the new files stay beside the old ones
+abbrev pub giving_up : List NamedFile → (marks : List (List ℕ)) → List (List Step)
+giving_up files marks = (map staged files ++ (Written new_journal_name (journal_of (map (λ f. f.name) files) marks) ∷ []))
+    ∷ (Moved new_journal_name journal_name ∷ []) ∷ closing
 
 -- files that belong to none go
 abbrev pub sweeping : List (List ℕ) → List (List Step)
@@ -110,6 +128,15 @@ LeavesOldOrNew = (h k : Holdings) (files : List NamedFile) (marks : List (List �
 abbrev pub LeavesNew : Type 0
 LeavesNew = (h k : Holdings) (files : List NamedFile) (marks : List (List ℕ)) → h journal_name ≡ None → AllByRecursion (λ f. IsRegionName f.name) files
     → StandsFor h k → StandsFor (after_all h (all_of (exchanging files marks))) (with_all k files)
+
+-- A crash while one is given up leaves the old files, or all new ones; at its end it is the old ones.
+abbrev pub GivenUpLeavesOldOrNew : Type 0
+GivenUpLeavesOldOrNew = (h k : Holdings) (files : List NamedFile) (marks : List (List ℕ)) (left : List Step) → h journal_name ≡ None → AllByRecursion (λ f. IsRegionName f.name) files
+    → StandsFor h k → IsCutOff (giving_up files marks) left → StandsFor (after_all h left) k ⊎ StandsFor (after_all h left) (with_all k files)
+
+abbrev pub GivenUpLeavesOld : Type 0
+GivenUpLeavesOld = (h k : Holdings) (files : List NamedFile) (marks : List (List ℕ)) → h journal_name ≡ None → AllByRecursion (λ f. IsRegionName f.name) files
+    → StandsFor h k → StandsFor (after_all h (all_of (giving_up files marks))) k
 
 -- a crash during a repair changes nothing of what the folder stands for
 abbrev pub RepairKeeps : Type 0

@@ -1,5 +1,5 @@
 -- What a folder holds, by the names of its files, and what steps do to it.
-use Rattle.std.specs.Prelude.{ℕ, List, [], ◌∷◌, ◌++◌, cond, Option, Some, None}
+use Rattle.std.specs.Prelude.{◌≡◌, ◌⊎◌, ℕ, List, [], ◌∷◌, ◌++◌, cond, Option, Some, None}
 use Rattle.std.specs.Str.{bytes_eq}
 
 -- the bytes under each name, where there is a file
@@ -47,6 +47,10 @@ held t = after_all t.first t.steps
 abbrev pub with_steps : Option History → List Step → Option History
 with_steps None steps = None
 with_steps (Some t) steps = Some (record { first = t.first; steps = t.steps ++ steps })
+
+-- a step that was answered with an error: it was not taken, or it was
+abbrev pub MayHaveTaken : Step → Option History → Option History → Type 0
+MayHaveTaken step old new = (new ≡ old) ⊎ (new ≡ with_steps old (step ∷ []))
 
 -- a fact of what a folder holds, where it can tell
 abbrev pub IfTold : Option History → (Holdings → Type 0) → Type 0

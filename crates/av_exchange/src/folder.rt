@@ -1,7 +1,7 @@
 //! A folder, as an exchange sees it.
-ghost use Rattle.std.specs.Prelude.{◌≡◌, ◌∷◌, [], Contains, IfOk, List, OnErr, OnOk, Option, map, option_map, string_bytes, ℕ};
+ghost use Rattle.std.specs.Prelude.{◌≡◌, ◌∷◌, [], Contains, IfOk, List, OnErr, OnOk, Option, is_some, map, option_map, string_bytes, ℕ};
 ghost use Rattle.av_exchange.specs.Marks.{Marking};
-ghost use Rattle.av_exchange.specs.Steps.{History, IfTold, Moved, Removed, Spoiled, Synced, Written, with_steps};
+ghost use Rattle.av_exchange.specs.Steps.{History, IfTold, MayHaveTaken, Moved, Removed, Spoiled, Synced, Written, with_steps};
 
 use std::alloc::Global;
 use std::io;
@@ -23,11 +23,14 @@ pub trait Folder {
         ensures err { OnErr result ((left : Option (List ℕ))
             × (history self.new ≡ with_steps (history self.old) (Spoiled name.now left ∷ []))) };
 
-    /// Lets a file take the name of another, which it replaces, where it is there.
-    fn move_over(&mut self, from: &str, to: &str) -> io::Result<()>
+    /// Lets a file take the name of another, which it replaces, and answers whether it was there. A device may answer an error where it is done.
+    fn move_over(&mut self, from: &str, to: &str) -> io::Result<bool>
         ensures ok { OnOk result (history self.new
             ≡ with_steps (history self.old) (Moved from.now to.now ∷ [])) }
-        ensures err { OnErr result (history self.new ≡ history self.old) };
+        ensures there { IfOk result (λ there. IfTold (history self.old)
+            (λ h. there ≡ is_some (h from.now))) }
+        ensures err { OnErr result (MayHaveTaken (Moved from.now to.now) (history self.old)
+            (history self.new)) };
 
     /// Takes a file away, where it is there.
     fn remove(&mut self, name: &str) -> io::Result<()>
@@ -39,6 +42,10 @@ pub trait Folder {
     fn sync(&mut self) -> io::Result<()>
         ensures ok { OnOk result (history self.new ≡ with_steps (history self.old) (Synced ∷ [])) }
         ensures err { OnErr result (history self.new ≡ history self.old) };
+
+    /// Looks again whether its files may be replaced, as where another program has them open, or wrote them since they were read.
+    fn look_again(&mut self) -> io::Result<()>
+        ensures { history self.new ≡ history self.old };
 
     /// The text of a file, where it is there.
     fn read_text(&self, alloc: Global, name: &str) -> io::Result<Option<String>>

@@ -1,6 +1,6 @@
 //! What a folder stands for, whenever an exchange or a repair of it is cut off. Each function is a law, which its contract states; it does
 //! nothing when it is called.
-ghost use Rattle.av_exchange.specs.Exchange.{BesideKeeps, LeavesNew, LeavesOldOrNew, RepairHolds, RepairKeeps};
+ghost use Rattle.av_exchange.specs.Exchange.{BesideKeeps, GivenUpLeavesOld, GivenUpLeavesOldOrNew, LeavesNew, LeavesOldOrNew, RepairHolds, RepairKeeps};
 ghost use Rattle.av_exchange.specs.Marks.{LeavesUnwritten, RepairLeavesUnwritten};
 
 /// New files that are only written, or taken away, change nothing of what a folder stands for.
@@ -16,6 +16,16 @@ pub fn a_crash_leaves_old_or_new()
 /// An exchange that came to its end leaves the new files.
 pub fn an_exchange_leaves_new()
     ensures { LeavesNew }
+{}
+
+/// A crash while an exchange is given up whose journal has its name leaves a folder that stands for the old files, or for all new ones.
+pub fn a_crash_of_one_given_up_leaves_old_or_new()
+    ensures { GivenUpLeavesOldOrNew }
+{}
+
+/// An exchange that was given up leaves the old files.
+pub fn one_given_up_leaves_old()
+    ensures { GivenUpLeavesOld }
 {}
 
 /// A crash at any moment of a repair leaves a folder that stands for the same files.

@@ -9,10 +9,12 @@ mod journal;
 pub mod laws;
 mod marks;
 mod moves;
+mod moving;
 pub mod names;
+mod recording;
 pub mod repairing;
 
 pub use exchange::{NotCommitted, close, commit, commit_alone, stage, unstage};
 pub use folder::Folder;
-pub use names::{JOURNAL, TRIAL, is_own};
+pub use names::{JOURNAL, TRIAL, is_beside, is_own};
 pub use repairing::{repair, sweep};

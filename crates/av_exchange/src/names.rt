@@ -61,7 +61,7 @@ fn behind_start(name: &str) -> Option<&str>
 }
 
 /// Whether a file of that name is one of an exchange, other than the journal.
-pub(crate) fn is_beside(alloc: Global, name: &str) -> Result<bool, AllocError>
+pub fn is_beside(alloc: Global, name: &str) -> Result<bool, AllocError>
     ensures is { IfOk result (λ r. r ≡ true → IsBeside name.now) }
     ensures other { IfOk result (λ r. IsBeside name.now → r ≡ true) }
 {

@@ -7,10 +7,10 @@ ghost use Rattle.av_exchange.specs.Names.{IsBeside};
 ghost use Rattle.av_exchange.specs.Outcomes.{AreAllBeside, HasStopped, HoldsNoneBeside, IsFinished, IsRepaired, IsSwept, IsSweepStopped, IsUnrepaired};
 ghost use Rattle.av_exchange.specs.Steps.{IfTold, Removed, with_steps};
 
-use crate::exchange::{finish, moves_of};
 use crate::folder::Folder;
 use crate::journal::read_journal;
 use crate::marks::check_marks;
+use crate::moving::{finish, moves_of};
 use crate::names::{JOURNAL, is_beside};
 use av_sink::{Repair, Teller};
 use std::alloc::{AllocError, Global};
@@ -34,8 +34,8 @@ fn finish_left<F: Folder, T: Teller>(
         return Err(io::Error::new(ErrorKind::InvalidData, "it is no journal of this program"));
     };
     check_marks(alloc, folder, &journal)?;
-    let moves = moves_of(alloc, journal.names.as_slice())?;
-    finish(folder, moves.as_slice(), teller)?;
+    let moves = moves_of(alloc, journal.names.as_slice(), journal.marks.as_slice())?;
+    finish(alloc, folder, moves.as_slice(), teller)?;
     Ok(Some(moves.len()))
 }
 

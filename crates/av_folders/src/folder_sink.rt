@@ -3,28 +3,17 @@ ghost use Rattle.std.specs.Prelude.{option_map, string_bytes};
 ghost use Rattle.av_sink.specs.Account.{IsFresh};
 ghost use Rattle.av_folders.specs.Folders.{folder_account};
 
-use crate::holding::LockFiles;
-use crate::region_marks::RegionMarks;
+use crate::holding::{Hold, LockFiles, try_hold};
+use crate::region_marks::{RegionMarks, Watched};
+use crate::replacing::{clear, commit_or_clear, opened, opened_to_replace, refuse_left};
 use crate::system_folder::{RefusedStep, SystemFolder, file_told};
-use crate::tidying::hold_if_free;
-use av_exchange::{close, commit, commit_alone, is_own, repair, stage, sweep, unstage};
+use av_exchange::{JOURNAL, close, commit_alone, is_own, repair, stage, unstage};
 use av_reports::names::region_of_name;
 use av_sink::{FailedFile, OutputFolder, Repair, Sink, SinkFailed, Teller};
 use std::alloc::{AllocError, Global};
 use std::io::{self, ErrorKind};
 use std::path::Path;
 use std::rt::Files;
-
-/// The folder of a sink, which was opened.
-fn opened<'a, R: Files + AllocGlobal + Clone + Drop>(
-    rt: &'a R,
-    folder: &Option<String>,
-) -> io::Result<SystemFolder<'a, R>> {
-    match folder {
-        Some(folder) => Ok(SystemFolder::new(rt, folder.clone()?)),
-        None => Err(ErrorKind::NotFound.into()),
-    }
-}
 
 /// Writes a file of a region beside the one that it is to replace, and notes its name, unless that has its bytes.
 fn write_region<R: Files + AllocGlobal + Clone + Drop>(
@@ -33,6 +22,7 @@ fn write_region<R: Files + AllocGlobal + Clone + Drop>(
     names: &mut Vec<String>,
     name: &str,
     bytes: &[u8],
+    is_locked: bool,
 ) -> io::Result<()> {
     if folder.has(name, bytes) {
         return Ok(());
@@ -40,7 +30,9 @@ fn write_region<R: Files + AllocGlobal + Clone + Drop>(
     names.push(String::from_str(alloc, name)?)?;
     let written = stage(alloc, folder, name, bytes);
     if written.is_err() {
-        let _ = sweep(alloc, folder);
+        // What has this name may be another process's.
+        let _ = names.pop();
+        clear(alloc, folder, names.as_slice(), is_locked);
     }
     written
 }
@@ -53,8 +45,8 @@ fn write_alone<R: LockFiles + AllocGlobal + Clone + Drop>(
     name: &str,
     bytes: &[u8],
 ) -> io::Result<()> {
-    let held = hold_if_free(rt, folder.own_path())?;
-    if held.is_some() {
+    let held = try_hold(rt, folder.own_path())?;
+    if let Hold::Held(_) = &held {
         unstage(rt.alloc(), folder, name)?;
     }
     stage(rt.alloc(), folder, name, bytes)?;
@@ -79,13 +71,14 @@ fn write<R: LockFiles + AllocGlobal + Clone + Drop>(
     rt: &R,
     folder: &Option<String>,
     is_repaired: bool,
+    is_locked: bool,
     names: &mut Vec<String>,
     name: &str,
     bytes: &[u8],
 ) -> io::Result<()> {
     let mut folder = opened(rt, folder)?;
     if is_repaired && region_of_name(rt.alloc(), name)?.is_some() {
-        return write_region(rt.alloc(), &mut folder, names, name, bytes);
+        return write_region(rt.alloc(), &mut folder, names, name, bytes, is_locked);
     }
     if is_of_exchange(rt.alloc(), name)? {
         return Err(io::Error::new(ErrorKind::InvalidInput, NO_NAME));
@@ -104,6 +97,10 @@ pub struct FolderSink<'a, R> {
     /// The names of the region files that were written beside those that they are to replace.
     names: Vec<String>,
     repaired: Option<Repair>,
+    /// Whether another process can be kept from the folder, and this one alone works there.
+    is_locked: bool,
+    /// Whether the game may have the folder's world open.
+    in_use: bool,
     /// By what the region files were known when the folder was repaired.
     marks: RegionMarks,
     failures: u64,
@@ -111,29 +108,6 @@ pub struct FolderSink<'a, R> {
     is_committed: bool,
     is_closed: bool,
     failed: Option<FailedFile>,
-}
-
-/// Lets files that were written take their names, where those that they replace are what they were. Where they can't begin to they are taken
-/// away.
-fn commit_or_sweep<R: Files + AllocGlobal + Clone + Drop>(
-    alloc: Global,
-    folder: &mut SystemFolder<'_, R>,
-    marks: &RegionMarks,
-    names: &[String],
-) -> Result<(), RefusedStep> {
-    if let Err(refused) = marks.check(alloc, folder, names) {
-        let _ = sweep(alloc, folder);
-        return Err(refused);
-    }
-    let Err(not) = commit(alloc, folder, names) else {
-        return Ok(());
-    };
-    let begun = not.begun;
-    let refused = folder.refused(not.error);
-    if !begun {
-        let _ = sweep(alloc, folder);
-    }
-    Err(refused)
 }
 
 /// What is known of a failure, where memory is enough for it.
@@ -157,6 +131,29 @@ fn failed_step(alloc: Global, folder: &Option<String>, refused: RefusedStep) -> 
     failed_file(alloc, folder, file_told(&name), error)
 }
 
+/// What is known of a folder when it is opened for a run.
+#[derive(Drop)]
+struct Found {
+    repaired: Repair,
+    is_locked: bool,
+    marks: RegionMarks,
+}
+
+impl Found {
+    fn new<R: Files + AllocGlobal + Clone + Drop>(
+        rt: &R,
+        folder: &SystemFolder<'_, R>,
+        repaired: Repair,
+        is_locked: bool,
+    ) -> Result<Found, RefusedStep> {
+        Ok(Found {
+            repaired,
+            is_locked,
+            marks: RegionMarks::of(rt, folder)?,
+        })
+    }
+}
+
 impl<'a, R: LockFiles + AllocGlobal + Clone + Drop> FolderSink<'a, R> {
     /// A folder that is not opened yet.
     pub fn new(rt: &'a R) -> FolderSink<'a, R>
@@ -167,6 +164,8 @@ impl<'a, R: LockFiles + AllocGlobal + Clone + Drop> FolderSink<'a, R> {
             folder: None,
             names: Vec::new(rt.alloc()),
             repaired: None,
+            is_locked: false,
+            in_use: false,
             marks: RegionMarks::new(rt.alloc()),
             failures: 0,
             handed: 0,
@@ -176,11 +175,17 @@ impl<'a, R: LockFiles + AllocGlobal + Clone + Drop> FolderSink<'a, R> {
         }
     }
 
-    /// Repairs the folder, and tells by what its region files are known then.
-    fn repair_opened<T: Teller>(&self, teller: &T) -> Result<(Repair, RegionMarks), RefusedStep> {
+    /// Repairs the folder, where this process alone works on it, and tells by what its region files are known then.
+    fn repair_opened<T: Teller>(&self, teller: &T) -> Result<Found, RefusedStep> {
+        let alloc = self.rt.alloc();
         let mut folder = opened(self.rt, &self.folder)?;
-        match repair(self.rt.alloc(), &mut folder, teller) {
-            Ok(repaired) => Ok((repaired, RegionMarks::of(self.rt, &folder)?)),
+        let lock = try_hold(self.rt, folder.own_path())?;
+        if let Hold::Unlocked(error) = &lock {
+            let repaired = refuse_left(alloc, &folder, error)?;
+            return Found::new(self.rt, &folder, repaired, false);
+        }
+        match repair(alloc, &mut folder, teller) {
+            Ok(repaired) => Found::new(self.rt, &folder, repaired, true),
             Err(error) => Err(folder.refused(error)),
         }
     }
@@ -190,23 +195,30 @@ impl<'a, R: LockFiles + AllocGlobal + Clone + Drop> FolderSink<'a, R> {
         if self.names.is_empty() {
             return Ok(());
         }
-        let mut folder = opened(self.rt, &self.folder)?;
-        commit_or_sweep(
+        let names = self.names.as_slice();
+        let watched = Watched {
+            marks: &self.marks,
+            names,
+            in_use: self.in_use,
+        };
+        let mut folder = opened_to_replace(self.rt, &self.folder, watched)?;
+        commit_or_clear(
             self.rt.alloc(),
             &mut folder,
             &self.marks,
-            self.names.as_slice(),
+            names,
+            self.is_locked,
         )
     }
 
-    /// Takes the journal away, where the files have their names.
-    fn close_committed(&self) -> Result<(), RefusedStep> {
+    /// Takes the journal away, where the files have their names, and answers why that may not be on the device.
+    fn close_committed(&self) -> Result<Option<io::Error>, RefusedStep> {
         if !self.is_committed || self.names.is_empty() {
-            return Ok(());
+            return Ok(None);
         }
         let mut folder = opened(self.rt, &self.folder)?;
         match close(&mut folder) {
-            Ok(()) => Ok(()),
+            Ok(unsynced) => Ok(unsynced),
             Err(error) => Err(folder.refused(error)),
         }
     }
@@ -229,6 +241,7 @@ impl<'a, R: LockFiles + AllocGlobal + Clone + Drop> Sink for FolderSink<'a, R> {
             self.rt,
             &self.folder,
             is_repaired,
+            self.is_locked,
             &mut self.names,
             name,
             bytes,
@@ -247,15 +260,22 @@ impl<'a, R: LockFiles + AllocGlobal + Clone + Drop> Sink for FolderSink<'a, R> {
 }
 
 impl<'a, R: LockFiles + AllocGlobal + Clone + Drop> OutputFolder for FolderSink<'a, R> {
-    fn open(&mut self, folder: &str) -> Result<(), AllocError> {
+    fn open(&mut self, folder: &str, in_use: bool) -> Result<(), AllocError> {
         self.folder = Some(String::from_str(self.rt.alloc(), folder)?);
+        self.in_use = in_use;
         Ok(())
     }
 
     fn repair<T: Teller>(&mut self, teller: &T) -> Result<Repair, SinkFailed> {
         match self.repair_opened(teller) {
-            Ok((repaired, marks)) => {
+            Ok(found) => {
+                let Found {
+                    repaired,
+                    is_locked,
+                    marks,
+                } = found;
                 self.repaired = Some(repaired);
+                self.is_locked = is_locked;
                 self.marks = marks;
                 Ok(repaired)
             }
@@ -281,7 +301,11 @@ impl<'a, R: LockFiles + AllocGlobal + Clone + Drop> OutputFolder for FolderSink<
 
     fn close(&mut self) -> Result<(), SinkFailed> {
         match self.close_committed() {
-            Ok(()) => {
+            Ok(unsynced) => {
+                self.failed = match unsynced {
+                    Some(error) => failed_file(self.rt.alloc(), &self.folder, JOURNAL, error),
+                    None => None,
+                };
                 self.is_closed = true;
                 Ok(())
             }

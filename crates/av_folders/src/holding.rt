@@ -5,6 +5,7 @@ ghost use Rattle.av_folders.specs.Folders.{IsFolderFault};
 use crate::locks::holder_of;
 use av_exchange::TRIAL;
 use av_reports::failure::Failure;
+use std::alloc::Global;
 use std::fs::{self, File, Metadata, TryLockError};
 use std::io::{self, ErrorKind};
 use std::path::Path;
@@ -36,6 +37,35 @@ fn held<R: Files + AllocGlobal>(rt: &R, found: &Metadata) -> io::Error {
             ErrorKind::WouldBlock,
             "another process works on it: wait until it has ended",
         ),
+    }
+}
+
+/// What comes of asking for a folder.
+#[derive(Drop)]
+pub(crate) enum Hold<F> {
+    /// This process alone works on it, as long as this is kept.
+    Held(F),
+    /// Another process holds it.
+    Busy,
+    /// Its file system gives no lock, for this cause, so that another process may work on it.
+    Unlocked(io::Error),
+}
+
+/// Locks a folder, unless another process holds it.
+pub(crate) fn try_hold<R: LockFiles>(rt: &R, folder: &str) -> io::Result<Hold<R::File>> {
+    let opened = fs::open(rt, folder)?;
+    Ok(match R::try_lock(&opened) {
+        Ok(()) => Hold::Held(opened),
+        Err(TryLockError::WouldBlock) => Hold::Busy,
+        Err(TryLockError::Error(error)) => Hold::Unlocked(error),
+    })
+}
+
+/// The error of a folder in which something waits for a lock that its file system doesn't give.
+pub(crate) fn unlocked(alloc: Global, error: &io::Error) -> io::Error {
+    match format!(in alloc; "the folder can't be locked: {error}") {
+        Ok(text) => io::Error::new(ErrorKind::Unsupported, text.as_str()),
+        Err(refused) => refused.into(),
     }
 }
 

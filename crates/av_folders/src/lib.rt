@@ -9,6 +9,7 @@ pub mod locks;
 pub mod progress;
 pub mod reading;
 mod region_marks;
+mod replacing;
 pub mod session;
 pub mod system_folder;
 pub mod tidying;

@@ -1,5 +1,6 @@
 //! By what a folder's region files were known when it was opened.
 use crate::reading::{Listed, list_folder};
+use crate::session::ask_game;
 use crate::system_folder::{RefusedStep, SystemFolder};
 use av_exchange::Folder;
 use std::alloc::Global;
@@ -70,5 +71,28 @@ impl RegionMarks {
             }
         }
         Ok(())
+    }
+}
+
+/// What is to be as it was when a folder was opened, just before files of these names are replaced there.
+#[derive(Clone, Copy)]
+pub(crate) struct Watched<'a> {
+    pub(crate) marks: &'a RegionMarks,
+    pub(crate) names: &'a [String],
+    /// Whether the game may have the world open.
+    pub(crate) in_use: bool,
+}
+
+impl<'a> Watched<'a> {
+    /// Refuses to replace the files where one was written, came or went since, or where the game has the world open that they are of.
+    pub(crate) fn look<R: Files + AllocGlobal + Clone + Drop>(
+        &self,
+        rt: &R,
+        folder: &SystemFolder<'_, R>,
+    ) -> Result<(), RefusedStep> {
+        if !self.in_use {
+            ask_game(rt, folder.own_path())?;
+        }
+        self.marks.check(rt.alloc(), folder, self.names)
     }
 }

@@ -4,7 +4,9 @@ ghost use Rattle.av_folders.specs.Folders.{IsOutputFault, IsSessionFault};
 
 use crate::holding::{HeldFolder, LockFiles, hold_folder};
 use crate::locks::holder_of;
-use av_reports::failure::Failure;
+use crate::system_folder::RefusedStep;
+use av_reports::failure::{Failure, Reason};
+use std::alloc::AllocError;
 use std::fs;
 use std::io::{self, ErrorKind};
 use std::path::{Path, PathBuf};
@@ -79,6 +81,22 @@ pub(crate) fn look_for_game<R: Files + AllocGlobal>(
     }
 }
 
+/// What helps where the game has a run's world open.
+const ADVICE: &str = "stop the game, or call again with --in-use";
+
+/// Looks whether the game has the world open that a folder is of. What is told names the folder, and not `session.lock`.
+pub(crate) fn ask_game<R: Files + AllocGlobal>(rt: &R, folder: &str) -> Result<(), RefusedStep> {
+    let Err(failure) = look_for_game(rt, folder, ADVICE) else {
+        return Ok(());
+    };
+    let error = match failure.reason {
+        Some(Reason::Device { error, .. }) => error,
+        _ => AllocError.into(),
+    };
+    let name = String::from_str(rt.alloc(), "").ok();
+    Err(RefusedStep { name, error })
+}
+
 /// Holds a folder for a run, as `hold_folder` does, and looks whether the game has the world open that it is of, unless that is no matter:
 /// whether a process has locked `session.lock` in a folder above it. What the system does not list is not seen.
 ///
@@ -95,6 +113,6 @@ pub fn hold_output<R: LockFiles + AllocGlobal>(
     if in_use {
         return Ok(held);
     }
-    look_for_game(rt, folder, "stop the game, or call again with --in-use")?;
+    look_for_game(rt, folder, ADVICE)?;
     Ok(held)
 }

@@ -1,11 +1,12 @@
 //! A folder of the system, for exchanges.
 ghost use Rattle.std.specs.Prelude.{None};
 
+use crate::region_marks::Watched;
 use av_exchange::{Folder, JOURNAL};
 use std::alloc::{AllocError, Global};
 use std::fs::{self, DirEntry, File, Metadata, OpenFile};
 use std::io::{self, ErrorKind, Write};
-use std::os::unix::fs::{MetadataExt, lchown};
+use std::os::unix::fs::{MetadataExt, OpenOptionsExt, lchown};
 use std::path::{Path, PathBuf};
 use std::rt::Files;
 
@@ -17,7 +18,9 @@ const NO_FILE: &str = "a link, a folder or a pipe, where a file is to be";
 pub struct SystemFolder<'a, R> {
     rt: &'a R,
     pub(crate) path: String,
-    /// The file that could not take its name or be taken away, where one couldn't.
+    /// What is to be as it was before files are replaced, where that is asked for.
+    pub(crate) watched: Option<Watched<'a>>,
+    /// The file that could not take its name or be taken away, or is not what it was, where there is one.
     unmoved: Option<String>,
 }
 
@@ -50,6 +53,7 @@ impl<'a, R: Files + AllocGlobal + Clone + Drop> SystemFolder<'a, R> {
         SystemFolder {
             rt,
             path,
+            watched: None,
             unmoved: None,
         }
     }
@@ -133,6 +137,19 @@ fn keep_owner<R: Files>(rt: &R, path: Path<'_>, old: &Metadata) -> io::Result<()
     }
 }
 
+/// Makes a file of a name that is free. One that is to replace another nobody else may open until it has that one's rights.
+fn make_file<R: Files>(rt: &R, path: Path<'_>, old: Option<&Metadata>) -> io::Result<R::File> {
+    if old.is_none() {
+        return File::create_new(rt, path);
+    }
+    let mut options = File::options();
+    options
+        .write(true)
+        .create_new(true)
+        .mode(0o600)
+        .open(rt, path)
+}
+
 /// Writes a new file, up to the device.
 fn fill<R: Files>(
     rt: &R,
@@ -178,7 +195,7 @@ impl<'a, R: Files + AllocGlobal + Clone + Drop> Folder for SystemFolder<'a, R> {
     fn write_new(&mut self, name: &str, bytes: &[u8], like: &str) -> io::Result<()> {
         let path = self.path_of(name)?;
         let old = file_there(self.rt, self.path_of(like)?.as_path())?;
-        let file = File::create_new(self.rt, path.as_path())?;
+        let file = make_file(self.rt, path.as_path(), old.as_ref())?;
         let written = fill(self.rt, path.as_path(), file, old, bytes);
         if written.is_err() {
             let _ = fs::remove_file(self.rt, path.as_path());
@@ -186,15 +203,16 @@ impl<'a, R: Files + AllocGlobal + Clone + Drop> Folder for SystemFolder<'a, R> {
         written
     }
 
-    fn move_over(&mut self, from: &str, to: &str) -> io::Result<()> {
+    fn move_over(&mut self, from: &str, to: &str) -> io::Result<bool> {
         let new = self.path_of(from)?;
         let old = self.path_of(to)?;
         match fs::rename(self.rt, new.as_path(), old.as_path()) {
-            Err(error) if error.kind() != ErrorKind::NotFound => {
+            Ok(()) => Ok(true),
+            Err(error) if error.kind() == ErrorKind::NotFound => Ok(false),
+            Err(error) => {
                 self.unmoved = String::from_str(self.rt.alloc(), to).ok();
                 Err(error)
             }
-            _ => Ok(()),
         }
     }
 
@@ -214,6 +232,18 @@ impl<'a, R: Files + AllocGlobal + Clone + Drop> Folder for SystemFolder<'a, R> {
             Err(error) if !has_no_sync(&error) => Err(error),
             _ => Ok(()),
         }
+    }
+
+    fn look_again(&mut self) -> io::Result<()> {
+        let Some(watched) = self.watched else {
+            return Ok(());
+        };
+        let RefusedStep { name, error } = match watched.look(self.rt, self) {
+            Ok(()) => return Ok(()),
+            Err(refused) => refused,
+        };
+        self.unmoved = name;
+        Err(error)
     }
 
     fn read_text(&self, alloc: Global, name: &str) -> io::Result<Option<String>> {

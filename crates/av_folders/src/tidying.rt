@@ -4,16 +4,15 @@ ghost use Rattle.std.specs.Io.KnownBytes.{Appends};
 ghost use Rattle.av_folders.specs.Folders.{IsFolderFault};
 ghost use Rattle.av_folders.specs.Repairs.{removed_text};
 
-use crate::holding::LockFiles;
+use crate::holding::{Hold, LockFiles, try_hold, unlocked};
 use crate::session::look_for_game;
 use crate::system_folder::{RefusedStep, SystemFolder, file_told};
-use av_exchange::{Folder, JOURNAL, is_own, repair};
+use av_exchange::{Folder, JOURNAL, is_beside, repair};
 use av_reports::device::device_fault;
 use av_reports::failure::Failure;
 use av_sink::{Repair, Teller};
 use av_types::Fault;
-use std::alloc::AllocError;
-use std::fs::{self, TryLockError};
+use std::alloc::{AllocError, Global};
 use std::io::{self, Write};
 use std::path::Path;
 use std::rt::Files;
@@ -30,7 +29,7 @@ struct Traces {
 }
 
 /// What a folder has by its files' names.
-fn traces_in(names: &[String]) -> Traces {
+fn traces_in(alloc: Global, names: &[String]) -> Result<Traces, AllocError> {
     let mut found = Traces {
         any: false,
         journal: false,
@@ -38,20 +37,34 @@ fn traces_in(names: &[String]) -> Traces {
     };
     for name in names {
         let is_journal = name.as_str() == JOURNAL;
-        found.any |= is_own(name.as_str());
+        let is_other = is_beside(alloc, name.as_str())?;
+        found.any |= is_journal || is_other;
         found.journal |= is_journal;
-        found.others |= is_own(name.as_str()) && !is_journal;
+        found.others |= is_other;
     }
-    found
+    Ok(found)
 }
 
-/// Locks a folder, unless another process holds it. Where its file system has no locks it is as if it did.
-pub(crate) fn hold_if_free<R: LockFiles>(rt: &R, folder: &str) -> io::Result<Option<R::File>> {
-    let opened = fs::open(rt, folder)?;
-    match R::try_lock(&opened) {
-        Err(TryLockError::WouldBlock) => Ok(None),
-        _ => Ok(Some(opened)),
+/// What a folder has. One that can't be listed shows nothing.
+fn traces_of<R: Files + AllocGlobal + Clone + Drop>(
+    rt: &R,
+    path: &str,
+) -> Result<Traces, AllocError> {
+    let folder = SystemFolder::new(rt, String::from_str(rt.alloc(), path)?);
+    match folder.names(rt.alloc()) {
+        Ok(names) => traces_in(rt.alloc(), names.as_slice()),
+        Err(_) => traces_in(rt.alloc(), &[]),
     }
+}
+
+/// What became of a folder in which a run was cut off.
+#[derive(Drop)]
+enum Tidied {
+    /// Nothing was there, or another process works on it, or nothing can be written.
+    AsItWas,
+    Repaired(Repair),
+    /// Its file system gives no lock, for this cause, so that another process may work on it, and all stays.
+    Unlocked(io::Error),
 }
 
 /// That of a folder whose journal can't be done with.
@@ -83,52 +96,78 @@ fn wait_for_game<R: Files + AllocGlobal>(rt: &R, path: &str, name: &str) -> Resu
     }
 }
 
-/// Repairs a folder that is not held. Nothing is done about one that another process holds, which works on it.
-fn repair_if_free<R: LockFiles + Eprint + AllocGlobal + Clone + Drop>(
+/// Repairs a folder that this process holds.
+fn repair_held<R: LockFiles + Eprint + AllocGlobal + Clone + Drop>(
     rt: &R,
     path: &str,
     name: &str,
     found: Traces,
-) -> Result<Option<Repair>, Failure>
+) -> Result<Repair, Failure>
     ensures { IfErr result (λ e. IsFolderFault name.now e.fault) }
 {
-    let held = match hold_if_free(rt, path) {
-        Ok(held) => held,
-        Err(error) => return Err(undone(rt, path, name, error.into())),
-    };
-    if held.is_none() {
-        return Ok(None);
-    }
     if found.journal && found.others {
         wait_for_game(rt, path, name)?;
     }
     let mut folder = SystemFolder::new(rt, String::from_str(rt.alloc(), path)?);
     let teller = RepairTeller { rt, folder: path };
     match repair(rt.alloc(), &mut folder, &teller) {
-        Ok(repaired) => Ok(Some(repaired)),
+        Ok(repaired) => Ok(repaired),
         Err(error) => Err(undone(rt, path, name, folder.refused(error))),
     }
 }
 
-/// Repairs a folder where a run was cut off there. Files that belong to none may stay, as where nothing can be written.
-fn repair_found<R: LockFiles + Eprint + AllocGlobal + Clone + Drop>(
+/// Repairs a folder that this process holds, by what is there now: before it was held a run may have been cut off. Files that belong to none
+/// may stay, as where nothing can be written.
+fn tidy_held<R: LockFiles + Eprint + AllocGlobal + Clone + Drop>(
     rt: &R,
     path: &str,
     name: &str,
-) -> Result<Option<Repair>, Failure>
+) -> Result<Tidied, Failure>
     ensures { IfErr result (λ e. IsFolderFault name.now e.fault) }
 {
-    let folder = SystemFolder::new(rt, String::from_str(rt.alloc(), path)?);
-    let Ok(names) = folder.names(rt.alloc()) else {
-        return Ok(None);
-    };
-    let found = traces_in(names.as_slice());
-    if !found.any {
-        return Ok(None);
+    let found = traces_of(rt, path)?;
+    match repair_held(rt, path, name, found) {
+        Ok(repaired) => Ok(Tidied::Repaired(repaired)),
+        Err(failure) if found.journal => Err(failure),
+        Err(_) => Ok(Tidied::AsItWas),
     }
-    match repair_if_free(rt, path, name, found) {
-        Err(_) if !found.journal => Ok(None),
-        repaired => repaired,
+}
+
+/// Leaves a folder as it is that can't be locked. With a journal it is half old and half new, so it is refused.
+fn leave<R: Files + AllocGlobal>(
+    rt: &R,
+    path: &str,
+    name: &str,
+    found: Traces,
+    error: io::Error,
+) -> Result<Tidied, Failure>
+    ensures { IfErr result (λ e. IsFolderFault name.now e.fault) }
+{
+    if found.journal {
+        return Err(undone(rt, path, name, unlocked(rt.alloc(), &error).into()));
+    }
+    Ok(Tidied::Unlocked(error))
+}
+
+/// Repairs a folder where a run was cut off there. Nothing is done about one that another process holds, which works on it, nor where no
+/// process can hold it.
+fn tidy_found<R: LockFiles + Eprint + AllocGlobal + Clone + Drop>(
+    rt: &R,
+    path: &str,
+    name: &str,
+) -> Result<Tidied, Failure>
+    ensures { IfErr result (λ e. IsFolderFault name.now e.fault) }
+{
+    let found = traces_of(rt, path)?;
+    if !found.any {
+        return Ok(Tidied::AsItWas);
+    }
+    match try_hold(rt, path) {
+        Ok(Hold::Held(_held)) => tidy_held(rt, path, name),
+        Ok(Hold::Busy) => Ok(Tidied::AsItWas),
+        Ok(Hold::Unlocked(error)) => leave(rt, path, name, found, error),
+        Err(error) if found.journal => Err(undone(rt, path, name, error.into())),
+        Err(_) => Ok(Tidied::AsItWas),
     }
 }
 
@@ -149,6 +188,14 @@ pub fn note_removed<E: Write>(err: &mut E, folder: &str, repaired: Repair) {
     }
 }
 
+/// Says why what a run left behind stays, as well as that can be written.
+fn note_unlocked<E: Write>(err: &mut E, folder: &str, error: &io::Error) {
+    let _ = writeln!(
+        err,
+        "{folder}: files that a run left behind stay: the folder can't be locked: {error}"
+    );
+}
+
 /// Tells on standard error that a run of a folder that was cut off is finished.
 #[derive(Drop)]
 pub struct RepairTeller<'a, R> {
@@ -165,11 +212,11 @@ impl<'a, R: Eprint> Teller for RepairTeller<'a, R> {
     }
 }
 
-/// Repairs a folder that is to be read, where a run was cut off there and no other process holds it, and says so on standard error.
+/// Repairs a folder that is to be read, where a run was cut off there and no other process holds it, and says so on standard error, or why not.
 ///
 /// # Errors
 /// `Device` with the name that is given for the folder in faults, where a journal stands that can't be done with, as where the game has
-/// the world open; and want of memory.
+/// the world open, or where the folder can't be locked; and want of memory.
 pub fn tidy<R: LockFiles + Eprint + AllocGlobal + Clone + Drop, E: Write>(
     rt: &R,
     folder: &str,
@@ -178,8 +225,10 @@ pub fn tidy<R: LockFiles + Eprint + AllocGlobal + Clone + Drop, E: Write>(
 ) -> Result<(), Failure>
     ensures { IfErr result (λ e. IsFolderFault name.now e.fault) }
 {
-    if let Some(repaired) = repair_found(rt, folder, name)? {
-        note_removed(err, folder, repaired);
+    match tidy_found(rt, folder, name)? {
+        Tidied::AsItWas => {}
+        Tidied::Repaired(repaired) => note_removed(err, folder, repaired),
+        Tidied::Unlocked(error) => note_unlocked(err, folder, &error),
     }
     Ok(())
 }

@@ -8,7 +8,7 @@ use av_reports::manner::Manner;
 use av_reports::output::FAULT;
 use av_reports::reasons::report_failure;
 use av_requests::Request;
-use av_sink::{OutputFolder, Repair};
+use av_sink::{FailedFile, OutputFolder, Repair};
 use std::alloc::Global;
 use std::io::Write;
 
@@ -28,6 +28,17 @@ pub fn report_folder<S: OutputFolder, E: Write>(
     report_failure(alloc, err, &failure, manner.explains)
 }
 
+/// Says what failed behind a run that is done, where something did, as well as that can be written.
+fn note_unsynced<E: Write>(folder: &str, failed: Option<FailedFile>, err: &mut E) {
+    if let Some(failed) = failed {
+        let error = failed.error;
+        let _ = writeln!(
+            err,
+            "{folder}: the run is done; after a power cut the next command may finish it once more: {error}"
+        );
+    }
+}
+
 /// Notes that all is told of a run, and answers its status, unless that can't be noted. Of a run that failed it notes nothing: where its
 /// files have their names and that could not be told, the next command tells it, and no tick is run twice.
 pub fn close<S: OutputFolder, E: Write>(
@@ -44,7 +55,10 @@ pub fn close<S: OutputFolder, E: Write>(
         return status;
     }
     match sink.close() {
-        Ok(()) => 0,
+        Ok(()) => {
+            note_unsynced(folder, sink.last_failed(), err);
+            0
+        }
         Err(_) => report_folder(alloc, folder, sink, manner, err),
     }
 }

@@ -90,7 +90,7 @@ fn run_in_folder<
         Ok(held) => held,
         Err(failure) => return report_failure(rt.alloc(), err, &failure, manner.explains),
     };
-    match sink.open(request.output) {
+    match sink.open(request.output, request.in_use) {
         Ok(()) => run_opened(rt, request, sink, manner, out, err),
         Err(_) => report_fault(err, &Fault::OutOfMemory),
     }

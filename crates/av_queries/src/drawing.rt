@@ -116,7 +116,7 @@ fn save<S: OutputFolder>(alloc: Global, path: &str, bytes: &[u8], sink: &mut S) 
     ensures err { IfErr result (IsNotSaved path.now (S.account sink.old) (S.account sink.new)) }
 {
     let (folder, name) = split_path(alloc, path)?;
-    sink.open(folder.as_str())?;
+    sink.open(folder.as_str(), true)?;
     match sink.write_file(name, bytes) {
         Ok(()) => Ok(()),
         Err(_) => Err(Fault::Device(String::from_str(alloc, path)?)),

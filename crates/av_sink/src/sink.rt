@@ -54,10 +54,11 @@ pub struct FailedFile {
 
 /// A sink whose files go to a folder, which is opened once, by its name. They take their names there all or none.
 pub trait OutputFolder: Sink {
-    /// Opens the folder of that name, for all files that are taken from now on.
+    /// Opens the folder of that name, for all files that are taken from now on. Unless it may be in use, as where the game has its world open,
+    /// that is looked for again before files take their names.
     ///
     /// Errors: only want of memory.
-    fn open(&mut self, folder: &str) -> Result<(), AllocError>
+    fn open(&mut self, folder: &str, in_use: bool) -> Result<(), AllocError>
         requires unopened { (Self.account self.old).folder ≡ None }
         ensures ok { OnOk result (Self.account self.new
             ≡ in_folder folder.now (Self.account self.old)) }
@@ -75,7 +76,7 @@ pub trait OutputFolder: Sink {
         ensures ok { OnOk result (Self.account self.new ≡ with_commit (Self.account self.old)) }
         ensures err { OnErr result (Self.account self.new ≡ Self.account self.old) };
 
-    /// Notes that all is told of files that took their names.
+    /// Notes that all is told of files that took their names. What failed behind it, `last_failed` tells.
     fn close(&mut self) -> Result<(), SinkFailed>
         ensures ok { OnOk result (Self.account self.new ≡ with_end (Self.account self.old)) }
         ensures err { OnErr result (Self.account self.new ≡ Self.account self.old) };

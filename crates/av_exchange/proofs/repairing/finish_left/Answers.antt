@@ -16,8 +16,8 @@ pub returns-in_err-finish-clause-err : goal.returns-in_err-finish-clause-err
 returns-in_err-finish-clause-err g c =
     let names = map string_bytes c.in-Some-2.journal.names.items in
     let told = rw c.in-Some-2.is at c.in_ok-journal.ensures in
-    let moved : map name_of c.as_slice-2.result.now ≡ names =
-    ap (map name_of) c.as_slice-2.ensures.value ∙ (c.in_ok-moves.ensures ∙ ap (map string_bytes) c.as_slice.ensures.value) in
+    let moved : map name_of c.as_slice-3.result.now ≡ names =
+    ap (map name_of) c.as_slice-3.ensures.value ∙ (c.in_ok-moves.ensures ∙ ap (map string_bytes) c.as_slice.ensures.value) in
     on_err_from c.from_residual-in_err-finish.result
     (stopped (Some names) [] (told_journal _ _ c.in-Some.text _ names (map string_bytes c.in-Some-2.journal.marks.items) c.in-Some.is c.as_str.ensures.value told.0 told.1 c.in_ok-text.ensures) tt
     (subst (λ (ns : List (List ℕ)). HasStopped (repairing (Some ns) []) (g.F.Folder.history c.args.folder.now) (g.F.Folder.history c.finish.new.folder)) moved c.in_err-finish.ensures.err))
@@ -26,13 +26,13 @@ pub returns-clause-ok : goal.returns-clause-ok
 returns-clause-ok g c =
     let names = map string_bytes c.in-Some-2.journal.names.items in
     let told = rw c.in-Some-2.is at c.in_ok-journal.ensures in
-    let moved : map name_of c.as_slice-2.result.now ≡ names =
-    ap (map name_of) c.as_slice-2.ensures.value ∙ (c.in_ok-moves.ensures ∙ ap (map string_bytes) c.as_slice.ensures.value) in
+    let moved : map name_of c.as_slice-3.result.now ≡ names =
+    ap (map name_of) c.as_slice-3.ensures.value ∙ (c.in_ok-moves.ensures ∙ ap (map string_bytes) c.as_slice.ensures.value) in
     record {
       journal = Some names;
       journaled = told_journal _ _ c.in-Some.text _ names (map string_bytes c.in-Some-2.journal.marks.items) c.in-Some.is c.as_str.ensures.value told.0 told.1 c.in_ok-text.ensures;
       steps = c.in_ok-finish.ensures.ok ∙ ap (λ (ns : List (List ℕ)). with_steps (g.F.Folder.history c.args.folder.now) (all_of (repairing (Some ns) []))) moved;
-      count = ap Some (c.len.ensures ∙ (sym c.as_slice-2.ensures.len ∙ (sym (length-map c.as_slice-2.result.now name_of) ∙ ap length moved)));
+      count = ap Some (c.len.ensures ∙ (sym c.as_slice-3.ensures.len ∙ (sym (length-map c.as_slice-3.result.now name_of) ∙ ap length moved)));
     }
 
 pub returns-in_default-clause-unwritten : goal.returns-in_default-clause-unwritten

@@ -6,7 +6,8 @@ pub returns-then-status-ne0 : goal.returns-then-status-ne0
 returns-then-status-ne0 g c = failed c.args.status c.if-status-ne0.true refl
 
 pub returns-in-Ok : goal.returns-in-Ok
-returns-in-Ok g c = subst (λ (n : ℕ). IsLeft (g.S.Sink.account c.args.sink.now) (g.S.Sink.account c.close.new.self) n 0) (sym c.if-status-ne0.false) (ended c.in-Ok.ensures.ok)
+returns-in-Ok g c = subst (λ (n : ℕ). IsLeft (g.S.Sink.account c.args.sink.now) (g.S.Sink.account c.last_failed.new.self) n 0) (sym c.if-status-ne0.false)
+    (ended (c.last_failed.ensures ∙ c.in-Ok.ensures.ok))
 
 pub returns-in-Err : goal.returns-in-Err
 returns-in-Err g c =
