@@ -1,8 +1,8 @@
 //! The words of the command line, read by `clap`.
-ghost use Rattle.std.specs.Prelude.{◌≡◌, IfErr, IfNone, IfOk, IfSome, List, Option, Some, codes, false, map};
+ghost use Rattle.std.specs.Prelude.{◌≡◌, IfErr, IfNone, IfOk, IfSome, IsErr, List, Option, Some, codes, false, map};
 ghost use Rattle.std.specs.Borrow.{Bor};
 ghost use Rattle.clap.specs.declared.builder.command.Command.TheViews.{out-Command};
-ghost use Rattle.clap.specs.Words.{app_of, found_of, kind_of, rows_of, subcommand_rows_of, Row};
+ghost use Rattle.clap.specs.Words.{app_of, found_of, kind_of, rows_of, rule_of, subcommand_rows_of, with_rule, Row};
 ghost use Rattle.av_words.specs.declared.command_line.commands.Words.{Words};
 ghost use Rattle.av_words.specs.CommandLine.{HasRunValues, HasTexts, HasValues, IsReadFrom, IsWordsRefusal, LacksBlock, LacksCheck, LacksMap, LacksRun, LacksStates};
 ghost use Rattle.av_words.specs.CommandLine.{anvilwater, bare_app, block_app, check_app, map_app, name_of, run_app, states_app, with_counts, with_files, with_flags};
@@ -14,7 +14,7 @@ use crate::arguments::{
 use crate::values::{count_if_given, count_of, is_given, number, text_of, texts_of};
 use av_types::Pos;
 use clap::error::ErrorKind;
-use clap::{ArgMatches, Command, Error};
+use clap::{Arg, ArgMatches, Command, Error};
 use std::alloc::{AllocError, Global};
 
 pub mod commands;
@@ -23,6 +23,17 @@ use commands::{RunWords, Words};
 
 /// What `--version` answers behind the program's name.
 pub const VERSION: &str = "0.1.0";
+
+/// A command with one argument more, of which no more is said than is asked here: so the proofs of commands with many stay short.
+fn with_arg<'a>(app: Command<'a>, arg: Arg<'a>) -> Result<Command<'a>, Error>
+    requires global { arg.global ≡ false }
+    requires local { (out-Command app).has_globals ≡ false }
+    ensures app { IfOk result (λ c. app_of c ≡ with_rule (app_of app.entry) (rule_of arg.entry)) }
+    ensures local { IfOk result (λ c. (out-Command c).has_globals ≡ false) }
+    ensures memory { IfErr result (λ e. kind_of e ≡ ErrorKind.OutOfMemory) }
+{
+    Ok(app.arg(arg)?)
+}
 
 /// `block [--table FILE] [--explain] FILE X Y Z`.
 fn block_command<'a>(alloc: Global) -> Result<Command<'a>, Error>
@@ -33,14 +44,16 @@ fn block_command<'a>(alloc: Global) -> Result<Command<'a>, Error>
     let about = "Prints the block state at a position of a region file, or unloaded";
     let usage =
         "anvilwater block [--table FILE] [--explain] [--] FILE X Y Z, negative numbers behind --";
-    let block = command(alloc, "block", about, usage)
-        .arg(file(alloc, "FILE", "The region file, r.X.Z.mca"))?
-        .arg(coordinate(alloc, "X", "The block's position to the east"))?
-        .arg(coordinate(alloc, "Y", "Its height"))?
-        .arg(coordinate(alloc, "Z", "Its position to the south"))?
-        .arg(height_table(alloc))?
-        .arg(explain_flag(alloc))?;
-    Ok(block)
+    let region = "The region file, r.X.Z.mca";
+    let east = "The block's position to the east";
+    let south = "Its position to the south";
+    let block = command(alloc, "block", about, usage);
+    let block = with_arg(block, file(alloc, "FILE", region))?;
+    let block = with_arg(block, coordinate(alloc, "X", east))?;
+    let block = with_arg(block, coordinate(alloc, "Y", "Its height"))?;
+    let block = with_arg(block, coordinate(alloc, "Z", south))?;
+    let block = with_arg(block, height_table(alloc))?;
+    with_arg(block, explain_flag(alloc))
 }
 
 /// `check --in DIR [--table FILE] [--progress] [--explain]`.
@@ -51,18 +64,12 @@ fn check_command<'a>(alloc: Global) -> Result<Command<'a>, Error>
 {
     let about = "Lists what is wrong with the region files of a folder";
     let usage = "anvilwater check --in DIR [--table FILE] [--progress] [--explain]";
-    let check = command(alloc, "check", about, usage)
-        .arg(named(
-            alloc,
-            "in",
-            "DIR",
-            true,
-            "The folder whose files r.X.Z.mca are read",
-        ))?
-        .arg(height_table(alloc))?
-        .arg(progress_flag(alloc))?
-        .arg(explain_flag(alloc))?;
-    Ok(check)
+    let read = "The folder whose files r.X.Z.mca are read";
+    let check = command(alloc, "check", about, usage);
+    let check = with_arg(check, named(alloc, "in", "DIR", true, read))?;
+    let check = with_arg(check, height_table(alloc))?;
+    let check = with_arg(check, progress_flag(alloc))?;
+    with_arg(check, explain_flag(alloc))
 }
 
 /// Adds the folders and texts of `run`.
@@ -76,12 +83,10 @@ fn with_files<'a>(alloc: Global, run: Command<'a>) -> Result<Command<'a>, Error>
     let written = "The folder that they are written to; it may be the same";
     let table = "The block table, and - for standard input; without it that of the program";
     let edits = "The edits, and - for standard input; without it there are none";
-    let run = run
-        .arg(named(alloc, "in", "DIR", true, read))?
-        .arg(named(alloc, "out", "DIR", true, written))?
-        .arg(named(alloc, "table", "FILE", false, table))?
-        .arg(named(alloc, "edits", "FILE", false, edits))?;
-    Ok(run)
+    let run = with_arg(run, named(alloc, "in", "DIR", true, read))?;
+    let run = with_arg(run, named(alloc, "out", "DIR", true, written))?;
+    let run = with_arg(run, named(alloc, "table", "FILE", false, table))?;
+    with_arg(run, named(alloc, "edits", "FILE", false, edits))
 }
 
 /// Adds the counts of `run`, and the files that it leaves out.
@@ -95,11 +100,9 @@ fn with_counts<'a>(alloc: Global, run: Command<'a>) -> Result<Command<'a>, Error
     let workers =
         "How many workers run them, 1 to 8; without it one for each processor, and 8 at most";
     let skip = "A file of the folder, r.X.Z.mca, that counts as not there and stays as it is";
-    let run = run
-        .arg(counted(alloc, "ticks", true, ticks))?
-        .arg(counted(alloc, "workers", false, workers))?
-        .arg(repeated(alloc, "skip", "NAME", skip))?;
-    Ok(run)
+    let run = with_arg(run, counted(alloc, "ticks", true, ticks))?;
+    let run = with_arg(run, counted(alloc, "workers", false, workers))?;
+    with_arg(run, repeated(alloc, "skip", "NAME", skip))
 }
 
 /// Adds the flags of `run` that no other command has.
@@ -113,12 +116,10 @@ fn with_flags<'a>(alloc: Global, run: Command<'a>) -> Result<Command<'a>, Error>
     let dry_run = "Says which files and how many of their chunks would change, and writes nothing";
     let again = "Runs also where an earlier run that was cut off is finished first";
     let in_use = "Runs although the game has the world open";
-    let run = run
-        .arg(flag(alloc, "strict", strict))?
-        .arg(flag(alloc, "dry-run", dry_run))?
-        .arg(flag(alloc, "again", again))?
-        .arg(flag(alloc, "in-use", in_use))?;
-    Ok(run)
+    let run = with_arg(run, flag(alloc, "strict", strict))?;
+    let run = with_arg(run, flag(alloc, "dry-run", dry_run))?;
+    let run = with_arg(run, flag(alloc, "again", again))?;
+    with_arg(run, flag(alloc, "in-use", in_use))
 }
 
 /// `run --in DIR --out DIR [--table FILE] [--edits FILE] --ticks N [--workers N] [--skip NAME].. [--strict] [--dry-run]
@@ -133,10 +134,9 @@ fn run_command<'a>(alloc: Global) -> Result<Command<'a>, Error>
         "anvilwater run --in DIR --out DIR [--table FILE] [--edits FILE] --ticks N [--workers N] [--skip NAME].. [--strict] [--dry-run] [--again] [--in-use] [--progress] [--explain]";
     let run = with_files(alloc, command(alloc, "run", about, usage))?;
     let run = with_counts(alloc, run)?;
-    let run = with_flags(alloc, run)?
-        .arg(progress_flag(alloc))?
-        .arg(explain_flag(alloc))?;
-    Ok(run)
+    let run = with_flags(alloc, run)?;
+    let run = with_arg(run, progress_flag(alloc))?;
+    with_arg(run, explain_flag(alloc))
 }
 
 /// `map --in DIR --out FILE [--table FILE] [--colours FILE] [--light] [--explain]`.
@@ -149,22 +149,16 @@ fn map_command<'a>(alloc: Global) -> Result<Command<'a>, Error>
     let usage =
         "anvilwater map --in DIR --out FILE [--table FILE] [--colours FILE] [--light] [--explain]";
     let read = "The folder whose files r.X.Z.mca are read";
+    let written = "The picture that is written, a PNG file";
     let colours = "The colours of blocks by name; without it each name has one of its letters";
     let light = "Draws the block light on the highest blocks in place of their colours";
-    let map = command(alloc, "map", about, usage)
-        .arg(named(alloc, "in", "DIR", true, read))?
-        .arg(named(
-            alloc,
-            "out",
-            "FILE",
-            true,
-            "The picture that is written, a PNG file",
-        ))?
-        .arg(height_table(alloc))?
-        .arg(named(alloc, "colours", "FILE", false, colours))?
-        .arg(flag(alloc, "light", light))?
-        .arg(explain_flag(alloc))?;
-    Ok(map)
+    let map = command(alloc, "map", about, usage);
+    let map = with_arg(map, named(alloc, "in", "DIR", true, read))?;
+    let map = with_arg(map, named(alloc, "out", "FILE", true, written))?;
+    let map = with_arg(map, height_table(alloc))?;
+    let map = with_arg(map, named(alloc, "colours", "FILE", false, colours))?;
+    let map = with_arg(map, flag(alloc, "light", light))?;
+    with_arg(map, explain_flag(alloc))
 }
 
 /// `states --in DIR [--table FILE] [--explain]`.
@@ -178,11 +172,10 @@ fn states_command<'a>(alloc: Global) -> Result<Command<'a>, Error>
     let usage = "anvilwater states --in DIR [--table FILE] [--explain]";
     let read = "The folder whose files r.X.Z.mca are read";
     let table = "A block table, whose height the world has, and whose row for each state is listed";
-    let states = command(alloc, "states", about, usage)
-        .arg(named(alloc, "in", "DIR", true, read))?
-        .arg(named(alloc, "table", "FILE", false, table))?
-        .arg(explain_flag(alloc))?;
-    Ok(states)
+    let states = command(alloc, "states", about, usage);
+    let states = with_arg(states, named(alloc, "in", "DIR", true, read))?;
+    let states = with_arg(states, named(alloc, "table", "FILE", false, table))?;
+    with_arg(states, explain_flag(alloc))
 }
 
 /// The program without its commands.
@@ -201,17 +194,12 @@ fn program<'a>(alloc: Global) -> Result<Command<'a>, Error>
     ensures app { IfOk result (λ c. app_of c ≡ anvilwater) }
     ensures memory { IfErr result (λ e. kind_of e ≡ ErrorKind.OutOfMemory) }
 {
-    let block = block_command(alloc)?;
-    let check = check_command(alloc)?;
-    let run = run_command(alloc)?;
-    let map = map_command(alloc)?;
-    let states = states_command(alloc)?;
-    let program = bare_program(alloc)
-        .subcommand(block)?
-        .subcommand(check)?
-        .subcommand(run)?
-        .subcommand(map)?
-        .subcommand(states)?;
+    let program = bare_program(alloc);
+    let program = program.subcommand(block_command(alloc)?)?;
+    let program = program.subcommand(check_command(alloc)?)?;
+    let program = program.subcommand(run_command(alloc)?)?;
+    let program = program.subcommand(map_command(alloc)?)?;
+    let program = program.subcommand(states_command(alloc)?)?;
     Ok(program)
 }
 
@@ -364,6 +352,13 @@ fn command_of<'a>(alloc: Global, matches: &ArgMatches<'a>) -> Result<Option<Word
     }
 }
 
+/// Refuses words that give no command all its values.
+fn no_command<'a>(alloc: Global) -> Result<Words<'a>, Error>
+    ensures { IsErr result }
+{
+    Err(program(alloc)?.error(ErrorKind::InvalidSubcommand, "no command was given")?)
+}
+
 /// Reads the words that follow the program's name. The answer is the command that `clap` reads of them, with its
 /// values. Negative numbers stand behind `--`.
 ///
@@ -376,6 +371,6 @@ pub fn words<'a>(alloc: Global, given: &'a [&'a str]) -> Result<Words<'a>, Error
     let matches = program(alloc)?.try_get_matches_from(given)?;
     match command_of(alloc, &matches)? {
         Some(command) => Ok(command),
-        None => Err(program(alloc)?.error(ErrorKind::InvalidSubcommand, "no command was given")?),
+        None => no_command(alloc),
     }
 }

@@ -1,9 +1,8 @@
 use Rattle.std.proofs.Common.{◌≡◌, ◌∙◌, ap, inl, inr, sym, subst, map, List, Bor, Result, Ok, Err, IfErr}
-use Rattle.std.specs.Prelude.{IsErrAnd}
+use Rattle.std.proofs.lemmas.Result.{IfOk-from_err}
 use Rattle.av_types.proofs.Exits.{err_from}
 use Rattle.clap.specs.declared.error.Error.{Error}
-use Rattle.clap.specs.declared.error.kind.ErrorKind.TheVariants.{OutOfMemory}
-use Rattle.clap.specs.Words.{App, HasKind, Text, fault_of, is_simple, is_simple_and_free, kind_of, subcommand_of, takes}
+use Rattle.clap.specs.Words.{App, HasKind, Text, fault_of, is_simple, is_simple_and_free, subcommand_of, takes}
 use Rattle.av_words.specs.CommandLine.{IsReadFrom, IsWordsRefusal}
 use Rattle.av_words.specs.declared.command_line.commands.Words.{Words}
 use Rattle.av_words.proofs.command_line.words.Goals as goal
@@ -11,14 +10,9 @@ use Rattle.av_words.proofs.command_line.words.Goals as goal
 texts : List (Bor Text) → List Text
 texts words = map (λ s. s.now) words
 
--- want of memory is a cause by itself
-of_memory : {T : Type 0} (r : Result T Error) (words : List Text) → IsErrAnd r (λ x. kind_of x ≡ OutOfMemory) → IfErr r (IsWordsRefusal words)
-of_memory (Ok v) words is = absurd is
-of_memory (Err x) words is = record { cause = λ taken. inl is; kind = inl (inl is) }
-
-pub returns-in_err-error-in-None-clause-refused : goal.returns-in_err-error-in-None-clause-refused
-unfolding texts
-returns-in_err-error-in-None-clause-refused c = of_memory c.from_residual-in_err-error-in-None.result (texts c.args.given.now) c.from_residual-in_err-error-in-None.ensures.1
+refused_by_all : {T : Type 0} (r : Result T Error) (words : List Text) → ((e : Error) → IsWordsRefusal words e) → IfErr r (IsWordsRefusal words)
+refused_by_all (Ok v) words all = tt
+refused_by_all (Err e) words all = all e
 
 pub returns-in_err-matches-clause-refused : goal.returns-in_err-matches-clause-refused
 unfolding texts
@@ -31,6 +25,9 @@ returns-in_err-matches-clause-refused c =
     } in
     err_from c.from_residual-in_err-matches.result c.in_err-matches.field-0.0 (IsWordsRefusal words) c.from_residual-in_err-matches.ensures.1 refusal
 
+pub returns-clause-read : goal.returns-clause-read
+returns-clause-read c = IfOk-from_err c.no_command.result _ c.no_command.ensures
+
 pub returns-clause-refused : goal.returns-clause-refused
 unfolding texts
 returns-clause-refused c =
@@ -39,10 +36,10 @@ returns-clause-refused c =
     let found = (c.in_ok-matches.ensures.matches (ap is_simple app_is)).1 ∙ ap (λ (a : App). subcommand_of a words) app_is in
     let none = rw c.in-None.is at c.in_ok-command.ensures.none in
     let lacks : (command : Words) → IsReadFrom words command → ⊥ = λ command read. none command read.rows (found ∙ read.named) read.values in
-    record {
+    refused_by_all c.no_command.result words (λ e. record {
       cause = λ taken. inr lacks;
       kind = inr lacks;
-    }
+    })
 
 pub returns-in-Some-clause-read : goal.returns-in-Some-clause-read
 unfolding texts
