@@ -31,13 +31,15 @@ impl Draw {
     }
 }
 
-/// An edit of ticks 1 to 4, near the ground, to air, stone or a source.
+/// An edit of ticks 1 to 4, near the ground, to air, stone or a source. It is in one of eight places far apart, each over the corners of
+/// four chunks: so a tick has many entries in each, and is turned in groups.
 fn push_edit(edits: &mut String, draw: &mut Draw) -> Result<(), AllocError> {
     let alloc = *edits.allocator();
     let tick = draw.below(4) + 1;
-    let x = draw.below(512);
+    let place = draw.below(8);
+    let x = 64 * place + 8 + draw.below(16);
     let y = draw.below(6) + 62;
-    let z = draw.below(128);
+    let z = 16 * (place % 7) + 8 + draw.below(16);
     let state = match draw.below(4) {
         0 => "air",
         1 => "stone",
@@ -47,7 +49,7 @@ fn push_edit(edits: &mut String, draw: &mut Draw) -> Result<(), AllocError> {
     edits.push_str(line.as_str())
 }
 
-/// Two edits for each of the chunks, about.
+/// 64 edits in each of the places, about.
 fn drawn_edits(alloc: Global, draw: &mut Draw) -> Result<String, AllocError> {
     let mut edits = String::new(alloc);
     for _ in 0..512 {
@@ -139,7 +141,7 @@ fn expect_world(
     Ok(())
 }
 
-/// Sixteen worlds, of which each tick from the sixth on has many entries in many parts.
+/// Sixteen worlds, of which each tick from the sixth on has many entries in several parts.
 #[test]
 fn drawn_worlds(rt: HostRuntime) -> Result<(), Fail> {
     let alloc = rt.alloc();
