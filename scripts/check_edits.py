@@ -105,7 +105,7 @@ pub(crate) const fn last(
     one
 }
 '''
-FOUND = [("deep::odd::NarrowFromWide::from", 1, 3), ("deep::odd::NarrowFromWide::is_none", 7, 12), ("deep::odd::law", 23, 23), ("deep::odd::last", 27, 29)]
+FOUND = [("NarrowFromWide::from", 1, 3), ("NarrowFromWide::is_none", 7, 12), ("deep::odd::law", 23, 23), ("deep::odd::last", 27, 29)]
 
 
 def tree_in(folder):

@@ -121,7 +121,7 @@ def lay(folder, edits):
 
 def lines_of(crate, name, printed):
     """What a check says of a function, or nothing."""
-    return re.findall(r"^fn %s::%s: (.*)$" % (re.escape(crate), re.escape(name)), printed, re.MULTILINE)
+    return re.findall(r"^fn %s::(?:\S+::)?%s: (.*)$" % (re.escape(crate), re.escape(name)), printed, re.MULTILINE)
 
 
 def was_read(crate, printed):
@@ -136,8 +136,8 @@ def goal_of(crate, name, printed):
     if open_goal and said.startswith("no proof"):
         return open_goal.group(1)
     if said.startswith("not proved"):
-        path = re.escape("proofs/" + name.replace("::", "/") + "/")
-        for line in re.findall(r"^(?:\./)?%s\S+: error: (.*)$" % path, printed, re.MULTILINE):
+        path = re.escape(name.replace("::", "/"))
+        for line in re.findall(r"^(?:\./)?proofs/(?:\S+/)?%s/\S+: error: (.*)$" % path, printed, re.MULTILINE):
             if not GONE.search(line):
                 goal = re.match(r"`[^`]+`", line)
                 return goal.group() if goal else line[:80]
@@ -153,7 +153,7 @@ def is_at_own(folder, edit, said):
     """Whether what the kit said first of an edit of the crate in a folder, which it tried alone, is of one of its own functions."""
     found = re.search(r"\bproofs/(\S+?)/\w+\.antt:", said)
     if found:
-        return found.group(1).replace("/", "::") in edit.own
+        return any(("/" + found.group(1)).endswith("/" + name.replace("::", "/")) for name in edit.own)
     found = re.search(r"\b(src/\S+?\.rt):(\d+):\d+", said)
     if not found:
         return False

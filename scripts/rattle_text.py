@@ -11,7 +11,7 @@ IMPL = re.compile(r"^( *)(?:unsafe )?impl\b")
 
 @dataclasses.dataclass(frozen=True)
 class Function:
-    """A function's name as a check prints it, without that of the crate, the line with that name, and the lines of its body, from the one with the
+    """A function's name as a check prints it, or the end of it: of a method without the module of its type, which may be another one; the line with that name, and the lines of its body, from the one with the
     brace that opens it up to the one with the brace that closes it. Lines are counted from 0."""
 
     name: str
@@ -112,8 +112,8 @@ def functions(path, text):
         head = FUNCTION.match(line)
         body = head and body_of(lines, at, head.group(1))
         if body:
-            owner = [block] if block and head.group(1) else []
-            found.append(Function("::".join(module + owner + [head.group(2)]), at, *body))
+            owner = [block] if block and head.group(1) else module
+            found.append(Function("::".join(owner + [head.group(2)]), at, *body))
             behind = body[1]
     return found
 
