@@ -157,7 +157,9 @@ def main():
     asked = wrong = 0
     with tempfile.TemporaryDirectory(prefix="anvilwater-") as folder:
         found = [(one.name, one.begin, one.end) for one in rattle_text.functions(pathlib.Path("src/deep/odd.rt"), LAYOUTS)]
-        for name, expected, found in [("functions", FOUND, found), *cases(tree_in(pathlib.Path(folder)))]:
+        bare = rattle_text.without_bodies(pathlib.Path("src/deep/odd.rt"), LAYOUTS)
+        bodies = ("bodies", (False, False, True), ("Narrow\n" in bare, "held" in bare, "    one\n" in bare))
+        for name, expected, found in [("functions", FOUND, found), bodies, *cases(tree_in(pathlib.Path(folder)))]:
             asked += 1
             if expected != found:
                 wrong += 1

@@ -119,8 +119,10 @@ def functions(path, text):
 
 
 def without_bodies(path, text):
-    """The text of a file without what stands in its functions' bodies: all that a crate above it can see, and more."""
+    """The text of a file without what stands in its functions' bodies: all that a crate above it can see, and more. The body of a `const fn` stays, since
+    a constant may have its value."""
     lines = text.split("\n")
     for function in reversed(functions(path, text)):
-        del lines[function.begin + 1:function.end]
+        if "const fn " not in lines[function.head]:
+            del lines[function.begin + 1:function.end]
     return "\n".join(lines)
